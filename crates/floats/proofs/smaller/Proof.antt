@@ -1,0 +1,23 @@
+use mathlib.Core.Path.{_≡_, sym, _∙_}
+use mathlib.Core.Bool.{true, false}
+use lib.Ieee.{lt}
+use Rattle.floats.proofs.Choose.{no-number, pick-left, pick-right, pick-by, smaller-is}
+use Rattle.floats.proofs.smaller.Statement.{statement}
+use Rattle.floats.proofs.smaller.Tie as tie
+use Rattle.floats.proofs.smaller.Reads as reads
+use Rattle.floats.proofs.smaller.Lts as lts
+
+returns : tie.Need-returns
+returns c = let a = c .before .args in sym no-number ∙ pick-left (lt (a .x) (a .y)) (a .x) (a .y) (c .if1 .taken) ∙ sym (smaller-is (a .x) (a .y))
+
+returns-2 : tie.Need-returns-2
+returns-2 c = let a = c .before .before .args in sym no-number ∙ pick-right (lt (a .x) (a .y)) (a .x) (a .y) (c .if2 .taken) ∙ sym (smaller-is (a .x) (a .y))
+
+returns-3 : tie.Need-returns-3
+returns-3 c = let a = c .before .before .before .args in pick-by (lt (a .x) (a .y)) true (a .x) (a .y) (c .before .before .if1 .left) (c .before .if2 .left) (c .if3 .taken) ∙ sym (smaller-is (a .x) (a .y))
+
+returns-4 : tie.Need-returns-4
+returns-4 c = let a = c .before .before .before .args in pick-by (lt (a .x) (a .y)) false (a .x) (a .y) (c .before .before .if1 .left) (c .before .if2 .left) (c .if3 .left) ∙ sym (smaller-is (a .x) (a .y))
+
+pub smaller-spec : {M : Type 1} → statement M
+smaller-spec = tie.close (tie.spec returns returns-2 returns-3 returns-4)

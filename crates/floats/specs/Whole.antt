@@ -1,0 +1,23 @@
+-- Floor and ceiling, as IEEE 754's roundToIntegralTowardNegative and roundToIntegralTowardPositive. Definitions only.
+use Prim.Native.Nat.{ℕ, _+_, _*_, _/_, _%_}
+use mathlib.Core.Bool.{Bool, true, false, cond}
+use lib.Dec.{eqb}
+use lib.Ieee.{Float, nan, inf, fin, up, down, unlike, binary32, round}
+
+-- The whole number next to a / c: the whole part, or where `away` is true and a / c is not whole, one more
+unfoldable pub step : Bool → ℕ → ℕ → ℕ
+step away a c = cond away (cond (eqb (a % c) 0) (a / c) (a / c + 1)) (a / c)
+
+-- x to a whole number: up where `u` is true, and down where not. The magnitude grows where x is positive and goes up, or is negative and goes down.
+-- The result has x's sign, also where it is 0. (`round` at a whole number of an f32's size changes nothing.)
+unfoldable pub toward : Bool → Float → Float
+unfolding step
+toward u nan = nan
+toward u (inf s) = inf s
+toward u (fin s m e) = round binary32 s (step (unlike s u) (m * up e) (down e)) 1
+
+abbrev pub floorOf : Float → Float
+floorOf x = toward false x
+
+abbrev pub ceilingOf : Float → Float
+ceilingOf x = toward true x

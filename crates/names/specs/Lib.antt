@@ -1,0 +1,5 @@
+-- What every crate shares: the float of a bit pattern, the customer's numbers, what a refusal is, and a scene's lists.
+pub mod Bits
+pub mod Numbers
+pub mod Refusals
+pub mod Scene

@@ -1,0 +1,29 @@
+-- A scene as the lent lists hold it. Assumes nothing.
+use mathlib.Core.Path.{_≡_}
+use mathlib.Core.List.{List}
+use Prim.Native.Nat.{ℕ, _*_, _<_, _≤_}
+use lib.ListN.{length, getD}
+use lib.Ieee.{Float}
+use Rattle.names.specs.Numbers.{triangleLimit, materialLimit}
+
+-- T triangles and M materials
+pub record Scene : Type 0 where
+  -- nine numbers a triangle: p0 xyz, p1 xyz, p2 xyz
+  pub points : List Float
+  -- one a triangle: its material's place
+  pub uses : List ℕ
+  -- one a material: 0 opaque, 1 translucent
+  pub kinds : List ℕ
+  -- seven a material: base colour RGB, emissive RGB, transmission
+  pub numbers : List Float
+
+abbrev pub sceneOf : List Float → List ℕ → List ℕ → List Float → Scene
+sceneOf ps us ks ns = record { points = ps; uses = us; kinds = ks; numbers = ns }
+
+-- the lists of a scene fit each other and the limits: what stands once rows 3, 4 and 6 have passed
+pub record Sound (s : Scene) : Type 0 where
+  pub points : length (s .points) ≡ length (s .uses) * 9
+  pub numbers : length (s .numbers) ≡ length (s .kinds) * 7
+  pub triangles : length (s .uses) ≤ triangleLimit
+  pub materials : length (s .kinds) ≤ materialLimit
+  pub within : (i : ℕ) → i < length (s .uses) → getD (s .uses) i 0 < length (s .kinds)

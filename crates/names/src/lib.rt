@@ -1,0 +1,1 @@
+// Definitions only: specs/ has what every crate shares.

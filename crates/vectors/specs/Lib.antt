@@ -1,0 +1,2 @@
+-- Vectors of three floats.
+pub mod Vectors
