@@ -1,0 +1,49 @@
+// What the crates above compute of a grid that is within the limits.
+ghost use mathlib.Core.Path.{_≡_};
+ghost use Prim.Native.Nat.{_<_, _≤_};
+ghost use Rattle.grid.specs.Grid.{voxels, floatOf, edgesOf, centreFrom, AxesWithin};
+use super::Axes;
+use super::Corners;
+use vectors::Vec3;
+
+// The number of voxels.
+pub fn voxel_count(axes: Axes) -> usize
+    requires { ⌜ AxesWithin axes ⌝ }
+    ensures { λ r. ⌜ r ≡ voxels axes ⌝ }
+{
+    axes.depth * axes.height * axes.width
+}
+
+// A small whole number as a float.
+pub fn float(n: usize) -> f32
+    requires { ⌜ n < 65536 ⌝ }
+    ensures { λ r. ⌜ r ≡ floatOf n ⌝ }
+{
+    n as u16 as f32
+}
+
+// A voxel's edges.
+pub fn edges(corners: Corners, axes: Axes) -> Vec3
+    requires { ⌜ AxesWithin axes ⌝ }
+    ensures { λ r. ⌜ r ≡ edgesOf corners axes ⌝ }
+{
+    Vec3 {
+        x: (corners.max.x - corners.min.x) / float(axes.width),
+        y: (corners.max.y - corners.min.y) / float(axes.height),
+        z: (corners.max.z - corners.min.z) / float(axes.depth),
+    }
+}
+
+// The centre of voxel (x, y, z), from the grid's lower corner and its edges.
+pub fn centre(low: Vec3, edges: Vec3, x: usize, y: usize, z: usize) -> Vec3
+    requires { ⌜ (x < 65536) × (y < 65536) × (z < 65536) ⌝ }
+    ensures { λ r. ⌜ r ≡ centreFrom low edges x y z ⌝ }
+{
+    let start = vectors::add(low, vectors::scale(edges, 0.5));
+    let steps = Vec3 {
+        x: float(x),
+        y: float(y),
+        z: float(z),
+    };
+    vectors::add(start, vectors::mul(steps, edges))
+}
