@@ -1,0 +1,2 @@
+-- Where a ray meets one triangle.
+pub mod Meet
