@@ -5,6 +5,8 @@ ghost use Rattle.triangle.specs.Meet.{absentOf, solvedOf, judgedOf, meet
 use vectors::Ray;
 use vectors::Triangle;
 
+pub mod inner; // inner.rt: a triangle out of a lent list
+
 // "A triangle whose cross has squared length at most 1e-12 is absent everywhere."
 const THIN: f32 = 1.0e-12;
 

@@ -1,0 +1,73 @@
+-- What the test means: an absent triangle is met nowhere, and a hit's numbers pass every bound.
+use mathlib.Core.Path.{_≡_, refl, sym, ap, _∙_}
+use mathlib.Core.Bool.{Bool, true, false, cond, false≢true}
+use lib.Ieee as Ieee
+use lib.Ieee.{Float, binary32}
+use Rattle.names.specs.Bits.{zero32, one32}
+use Rattle.floats.specs.Choice.{magnitudeOf}
+use Rattle.vectors.specs.declared.Ray.{Ray}
+use Rattle.vectors.specs.declared.Triangle.{Triangle}
+use Rattle.triangle.specs.declared.Meet.{Meet}
+use Rattle.triangle.specs.declared.Meet.the-variants.{Miss, Hit}
+use Rattle.triangle.specs.declared.Solved.{Solved}
+use Rattle.triangle.specs.Meet.{flatLimit, largest32, absentOf, solvedOf, judgedOf, meetOf}
+
+pub absent-missed : (ray : Ray) (triangle : Triangle) → absentOf triangle ≡ true → meetOf ray triangle ≡ Miss
+unfolding meetOf
+absent-missed ray triangle h = rw h
+
+-- the distance, u and v of a hit
+pub record Met (ray : Ray) (triangle : Triangle) (t u v : Float) : Type 0 where
+  pub present : absentOf triangle ≡ false
+  pub steep : Ieee.le (magnitudeOf (solvedOf ray triangle .det)) flatLimit ≡ false
+  pub distance : t ≡ solvedOf ray triangle .t
+  pub first : u ≡ solvedOf ray triangle .u
+  pub second : v ≡ solvedOf ray triangle .v
+  pub not-below : Ieee.lt t (ray .shortest) ≡ false
+  pub not-above : Ieee.lt (ray .longest) t ≡ false
+  pub finite : Ieee.le (magnitudeOf t) largest32 ≡ true
+  pub u-from : Ieee.le zero32 u ≡ true
+  pub u-to : Ieee.le u one32 ≡ true
+  pub v-from : Ieee.lt v zero32 ≡ false
+  pub sum-to : Ieee.lt one32 (Ieee.add binary32 u v) ≡ false
+
+-- a choice that did not give the miss took the other way
+over : (b : Bool) (m : Meet) {t u v : Float} → cond b Miss m ≡ Hit t u v → (b ≡ false) × (m ≡ Hit t u v)
+over true m e = absurd (false≢true cc)
+over false m e = (refl, e)
+
+into : (b : Bool) (m : Meet) {t u v : Float} → cond b m Miss ≡ Hit t u v → (b ≡ true) × (m ≡ Hit t u v)
+into true m e = (refl, e)
+into false m e = absurd (false≢true cc)
+
+pub hit-met : (ray : Ray) (triangle : Triangle) (t u v : Float) → meetOf ray triangle ≡ Hit t u v → Met ray triangle t u v
+unfolding meetOf judgedOf
+hit-met ray triangle t u v e =
+    let s = solvedOf ray triangle in
+    let a = over _ _ e in
+    let b = over _ _ (a .1) in
+    let c = into _ _ (b .1) in
+    let d = into _ _ (c .1) in
+    let f = over _ _ (d .1) in
+    let g = over _ _ (f .1) in
+    let h = over _ _ (g .1) in
+    let i = over _ _ (h .1) in
+    let j = into _ _ (i .1) in
+    let k : Hit (s .t) (s .u) (s .v) ≡ Hit t u v = j .1 in
+    let et : t ≡ s .t = cc in
+    let eu : u ≡ s .u = cc in
+    let ev : v ≡ s .v = cc in
+    record {
+      present = a .0;
+      steep = b .0;
+      distance = et;
+      first = eu;
+      second = ev;
+      not-below = rw et (h .0);
+      not-above = rw et (i .0);
+      finite = rw et (j .0);
+      u-from = rw eu (c .0);
+      u-to = rw eu (d .0);
+      v-from = rw ev (f .0);
+      sum-to = rw (eu, ev) (g .0);
+    }
