@@ -1,0 +1,119 @@
+-- The table keeps module 2's rule at every entry: one test, computed over all 576 of them, and a lemma that gives the rule at each.
+-- And what callers cite of it: the table's length, and a bound of every component.
+use mathlib.Core.Path.{_≡_, refl, subst}
+use mathlib.Core.Bool.{Bool, true, false}
+use Prim.Native.Nat.{ℕ, zero, suc, _+_, _*_, _-_, _^_, _/_, _%_, _<_, _≤_}
+use native.Mathlib.Decide.{decLt}
+use native.Mathlib.Nat.{add-zero, mul-le-mul, lt-of-le-of-lt}
+use native.Mathlib.Omega.{arith}
+use lib.Dec.{T, leb, leb→le, lit<}
+use lib.ListN.{length, getD}
+use lib.Ieee.{Float, nan, binary32, ofBits, ofFields, odd}
+use lib.Count.{trailingZeros}
+use Rattle.directions.specs.Table.{bits, directions}
+use Rattle.directions.specs.Rule.{Near, Ruled, unitsOf, isFinite, isNegative, squaredLength, twoAnd, stepOf}
+use Rattle.directions.specs.Triples.{both, both-left, both-right, every3, at, getD-map}
+
+pub bits-length : length bits ≡ 1728
+unfolding bits
+bits-length = refl
+
+pub directions-length : length directions ≡ 1728
+unfolding directions bits
+directions-length = refl
+
+-- number n of the table is the float of its pattern
+pub number-at : (n : ℕ) → n < 1728 → getD directions n nan ≡ ofBits binary32 (getD bits n 0)
+unfolding directions
+number-at n h = getD-map (ofBits binary32) bits n 0 nan (omega (arith, bits-length))
+
+-- ---- the rule as a test
+
+abbrev near : ℕ → ℕ → ℕ → Bool
+near d a b = both (leb b (a + d)) (leb a (b + d))
+
+abbrev finite : Float → Float → Float → Bool
+finite x y z = both (isFinite x) (both (isFinite y) (isFinite z))
+
+abbrev ruled : ℕ → Float → Float → Float → Bool
+ruled k x y z =
+    both (finite x y z) (both (near (2 ^ 278) (squaredLength x y z) (2 ^ 298)) (near (2 ^ 129) (twoAnd z) ((96 - k) * 2 ^ 144)))
+
+-- at triple n of the table: entry n % 64 of set n / 64
+abbrev right : ℕ → ℕ → ℕ → ℕ → Bool
+right n x y z = ruled (stepOf (n / 64) (n % 64)) (ofBits binary32 x) (ofBits binary32 y) (ofBits binary32 z)
+
+-- the one test over the whole table, computed
+passed : T (every3 right 0 bits)
+unfolding bits ofBits ofFields odd trailingZeros unitsOf isFinite isNegative squaredLength twoAnd
+passed = tt
+
+holds : (b : Bool) → T b → b ≡ true
+holds true t = refl
+holds false t = absurd t
+
+near-of : (d a b : ℕ) → T (near d a b) → Near d a b
+near-of d a b t =
+    record { low = leb→le _ _ (both-left (leb b (a + d)) (leb a (b + d)) t); high = leb→le _ _ (both-right (leb b (a + d)) (leb a (b + d)) t) }
+
+ruled-of : (k : ℕ) (x y z : Float) → T (ruled k x y z) → Ruled k x y z
+ruled-of k x y z t =
+    let A = near (2 ^ 278) (squaredLength x y z) (2 ^ 298) in
+    let B = near (2 ^ 129) (twoAnd z) ((96 - k) * 2 ^ 144) in
+    let f = both-left (finite x y z) (both A B) t in
+    let g = both-right (isFinite x) (both (isFinite y) (isFinite z)) f in
+    let u = both-right (finite x y z) (both A B) t in
+    record { finite-x = holds _ (both-left (isFinite x) (both (isFinite y) (isFinite z)) f); finite-y = holds _ (both-left (isFinite y) (isFinite z) g); finite-z = holds _ (both-right (isFinite y) (isFinite z) g); length = near-of (2 ^ 278) (squaredLength x y z) (2 ^ 298) (both-left A B u); height = near-of (2 ^ 129) (twoAnd z) ((96 - k) * 2 ^ 144) (both-right A B u) }
+
+-- ---- what the table is
+
+-- direction i of set s keeps the rule
+pub rule : (s i : ℕ) → s < 9 → i < 64
+    → Ruled (stepOf s i) (getD directions ((64 * s + i) * 3) nan) (getD directions ((64 * s + i) * 3 + 1) nan) (getD directions ((64 * s + i) * 3 + 2) nan)
+rule s i hs hi =
+    let n : ℕ = 64 * s + i in
+    let e : n / 64 ≡ s = omega arith in
+    let f : n % 64 ≡ i = omega arith in
+    let h : n * 3 + 2 < length bits = omega (arith, bits-length) in
+    rw (number-at (n * 3) (omega arith), number-at (n * 3 + 1) (omega arith), number-at (n * 3 + 2) (omega arith))
+    (ruled-of (stepOf s i) _ _ _
+    (subst (λ (m : ℕ). T (ruled (stepOf m i) (ofBits binary32 (getD bits (n * 3) 0)) (ofBits binary32 (getD bits (n * 3 + 1) 0)) (ofBits binary32 (getD bits (n * 3 + 2) 0)))) e
+    (subst (λ (m : ℕ). T (ruled (stepOf (n / 64) m) (ofBits binary32 (getD bits (n * 3) 0)) (ofBits binary32 (getD bits (n * 3 + 1) 0)) (ofBits binary32 (getD bits (n * 3 + 2) 0)))) f
+    (at right bits passed n h))))
+
+-- a number whose square is below another's is below it
+root-below : (a b : ℕ) → a * a < b * b → a < b
+root-below a b h = go (decLt a b)
+  where
+    go : Dec (a < b) → a < b
+    go (yes p) = p
+    go (no q) = absurd (omega (arith, mul-le-mul {n₁ = b} {m₁ = b} {n₂ = a} {m₂ = a} (omega arith) (omega arith)))
+
+-- each number of a ruled triple is finite and below 1 + 2^-21 in magnitude: its square is at most the squared length
+pub record Small (x : Float) : Type 0 where
+  pub finite : isFinite x ≡ true
+  pub below : unitsOf x < 2 ^ 149 + 2 ^ 128
+
+parts : (a b c t : ℕ) → a + b + c ≤ t → (a ≤ t) × (b ≤ t) × (c ≤ t)
+parts a b c t h = (omega arith, omega arith, omega arith)
+
+small : (a : ℕ) → a * a ≤ 2 ^ 298 + 2 ^ 278 → a < 2 ^ 149 + 2 ^ 128
+small a h = root-below a (2 ^ 149 + 2 ^ 128) (lt-of-le-of-lt h (lit< tt))
+
+pub ruled-small : (k : ℕ) (x y z : Float) → Ruled k x y z → Small x × Small y × Small z
+unfolding squaredLength
+ruled-small k x y z r =
+    let p = parts (unitsOf x * unitsOf x) (unitsOf y * unitsOf y) (unitsOf z * unitsOf z) (2 ^ 298 + 2 ^ 278) (r .length .high) in
+    (record { finite = r .finite-x; below = small (unitsOf x) (p .0) }, record { finite = r .finite-y; below = small (unitsOf y) (p .1) }, record { finite = r .finite-z; below = small (unitsOf z) (p .2) })
+
+-- so every number of the table is
+pub number-small : (s i c : ℕ) → s < 9 → i < 64 → c < 3 → Small (getD directions ((64 * s + i) * 3 + c) nan)
+number-small s i c hs hi hc = go c hc (ruled-small (stepOf s i) _ _ _ (rule s i hs hi))
+  where
+    go : (d : ℕ) → d < 3
+        → Small (getD directions ((64 * s + i) * 3) nan) × Small (getD directions ((64 * s + i) * 3 + 1) nan) × Small (getD directions ((64 * s + i) * 3 + 2) nan)
+        → Small (getD directions ((64 * s + i) * 3 + d) nan)
+    go zero h r = rw add-zero (r .0)
+    go (suc zero) h r = r .1
+    go (suc (suc zero)) h r = r .2
+    go (suc (suc (suc d))) h r = absurd (omega arith)
