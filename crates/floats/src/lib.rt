@@ -6,7 +6,8 @@ ghost use Rattle.floats.specs.Whole.{step, toward, floorOf, ceilingOf};
 ghost use lib.Dec.{eqb, ltb};
 ghost use mathlib.Core.Bool.{cond};
 ghost use Prim.Native.Nat.{_^_, _-_};
-ghost use Rattle.floats.specs.Root.{RootOf, Near, Rounds, Rooted, SmallRooted};
+ghost use Rattle.floats.specs.Root.{rootOf};
+ghost use Rattle.floats.specs.RootParts.{Near, Rounds, Rooted, SmallRooted};
 
 pub fn magnitude(x: f32) -> f32
     ensures { λ r. ⌜ r ≡ magnitudeOf x ⌝ }
@@ -259,7 +260,7 @@ fn root_small(t: u64) -> u32
 }
 
 pub fn root(x: f32) -> f32
-    ensures { λ r. ⌜ RootOf x r ⌝ }
+    ensures { λ r. ⌜ r ≡ rootOf x ⌝ }
 {
     if x != x {
         return 0.0 / 0.0;

@@ -1,6 +1,9 @@
 -- Vectors of three f32, by IEEE 754 at binary32: each operation rounded once, in document 01's order. Assumes nothing.
 use lib.Ieee as Ieee
 use lib.Ieee.{Float, binary32}
+use Rattle.names.specs.Bits.{zero32, one32}
+use Rattle.floats.specs.Choice.{largerOf, smallerOf}
+use Rattle.floats.specs.Root.{rootOf}
 use Rattle.vectors.specs.declared.Vec3.{Vec3}
 
 abbrev pub vec : Float → Float → Float → Vec3
@@ -40,3 +43,29 @@ crossed a b c d = Ieee.sub binary32 (Ieee.mul binary32 a b) (Ieee.mul binary32 c
 unfoldable pub crossV : Vec3 → Vec3 → Vec3
 crossV a b =
     vec (crossed (a .y) (b .z) (a .z) (b .y)) (crossed (a .z) (b .x) (a .x) (b .z)) (crossed (a .x) (b .y) (a .y) (b .x))
+
+-- the root of the dot
+unfoldable pub lengthV : Vec3 → Float
+lengthV a = rootOf (dotV a a)
+
+-- "Normalising divides each component by the root of the dot."
+unfoldable pub normalV : Vec3 → Vec3
+normalV a = divV a (lengthV a)
+
+-- the larger, and the smaller, by component: of two equals the second
+unfoldable pub largerV : Vec3 → Vec3 → Vec3
+largerV a b = vec (largerOf (a .x) (b .x)) (largerOf (a .y) (b .y)) (largerOf (a .z) (b .z))
+
+unfoldable pub smallerV : Vec3 → Vec3 → Vec3
+smallerV a b = vec (smallerOf (a .x) (b .x)) (smallerOf (a .y) (b .y)) (smallerOf (a .z) (b .z))
+
+-- raised to 0 and then lowered to 1, which makes −0 +0
+unfoldable pub clampOf : Float → Float
+clampOf x = smallerOf (largerOf x zero32) one32
+
+unfoldable pub clampV : Vec3 → Vec3
+clampV a = vec (clampOf (a .x)) (clampOf (a .y)) (clampOf (a .z))
+
+-- "a·(1−t)+b·t for the blend"
+unfoldable pub lerpV : Vec3 → Vec3 → Float → Vec3
+lerpV a b t = addV (scaleV a (Ieee.sub binary32 one32 t)) (scaleV b t)
