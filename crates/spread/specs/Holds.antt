@@ -1,0 +1,299 @@
+-- Demand 3 holds of every fair bake. A call is refused, finds the bake finished, or walks; each sentence goes by these three cases.
+use mathlib.Core.Path.{_≡_, refl, sym, ap, ap₂, _∙_}
+use mathlib.Core.Bool.{Bool, true, false, cond}
+use mathlib.Core.Logic.{_⊎_, inl, inr, ⊎-elim}
+use mathlib.Core.List.{List, [], _∷_}
+use Prim.Native.Nat.{ℕ, zero, suc, _+_, _-_, _*_, _/_, _≤_, _<_}
+use native.Mathlib.Omega.{arith}
+use native.Mathlib.Nat.{zero-add, suc-mul, zero-mul, le-div-iff-mul-le, lt-div-mul-add, mul-le-mul-right, eq-or-lt-of-le}
+use lib.Dec.{eqb}
+use lib.ListN.{length}
+use borrow.Author.Tests.{eq-eqb, ne-eqb, eqb-true}
+use Rattle.spread.specs.Spread.{Stage, stage, Bake, Called, Walked, voxelOf, started, walk, someActive, blurred, ended, baked, accepted, call, unblurred, unbroken, actives, costs, standing, stands, run, sum, EachAtLeast, NoneRefused}
+use Rattle.spread.specs.Walks.{walks, walk-from, walk-to, walk-goes, walk-costs, walk-rays, walk-passed, actives-split, costs-least, costs-most}
+use Rattle.spread.specs.Contents.{length-standing, walk-stands, stands-filled, stands-unblurred, voxel-of-laid}
+use Rattle.spread.specs.Demand.{Fair, Lasts, roundedUp, allActive, finished, Demand}
+
+module _ {A : Type 0} (b : Bake A) (fair : Fair b) where
+  -- the walk of a call
+  abbrev walkOf : ℕ → Stage A → Walked A
+  walkOf a s = walk b (b .count - s .progress) (s .progress) a (started b (s .progress) (s .volume))
+
+  -- what a call comes to: it is refused, or finds the bake finished, or walks
+  data Calls (a : ℕ) (s : Stage A) : Called A → Type 0 where
+    refused : {r : ℕ} → b .refusal s a ≡ r → (r ≡ 0 → ⊥) → Calls a s (record { refusal = r; rays = 0; stage = s })
+    idle : b .refusal s a ≡ 0 → s .progress ≡ b .count → Calls a s (record { refusal = 0; rays = 0; stage = s })
+    walks-on : b .refusal s a ≡ 0 → s .progress < b .count → b .most ≤ a → Calls a s (baked b a s)
+
+  calls : (a : ℕ) (s : Stage A) → Calls a s (call b a s)
+  unfolding call
+  calls a s = go (b .refusal s a) refl
+    where
+      go : (r : ℕ) → b .refusal s a ≡ r → Calls a s (cond (eqb r 0) (accepted b a s) (record { refusal = r; rays = 0; stage = s }))
+      go (suc r) e = rw (ne-eqb (suc r) 0 (λ z. omega arith)) (refused e (λ z. omega arith))
+      go zero e =
+          ⊎-elim
+          (λ h. rw (eq-eqb (s .progress) (b .count) h) (idle e h))
+          (λ h. rw (ne-eqb (s .progress) (b .count) (λ z. omega arith)) (walks-on e h (fair .within s a e .1)))
+          (eq-or-lt-of-le (fair .within s a e .0))
+
+  -- where the walk ends is the progress that the call answers
+  ended-progress : (p : ℕ) (v x : List A) → ended b p v x .progress ≡ p
+  ended-progress p v x = go (eqb p (b .count)) refl (someActive b)
+    where
+      go : (t : Bool) → eqb p (b .count) ≡ t → (u : Bool)
+          → cond t (cond u (stage (b .count) (b .mean v) v) (stage (b .count) v x)) (stage p v x) .progress ≡ p
+      go true e true = sym (eqb-true p (b .count) e)
+      go true e false = sym (eqb-true p (b .count) e)
+      go false e u = refl
+
+  -- ---- sentence by sentence
+
+  within-allowance : (a : ℕ) (s : Stage A) → call b a s .rays ≤ a
+  within-allowance a s = go (call b a s) (calls a s)
+    where
+      go : (c : Called A) → Calls a s c → c .rays ≤ a
+      go c (refused e n) = omega arith
+      go c (idle e h) = omega arith
+      go c (walks-on e h f) = walk-rays b (fair .most) (walks b (b .count - s .progress) (s .progress) a (started b (s .progress) (s .volume)))
+
+  most-some : 0 < b .most
+  most-some = omega (arith, fair .least 0, fair .most 0)
+
+  finishes-enough : (a : ℕ) (s : Stage A) → call b a s .refusal ≡ 0
+      → (call b a s .stage .progress ≡ b .count) ⊎ (a / b .most ≤ finished b a s)
+  finishes-enough a s = go (call b a s) (calls a s)
+    where
+      go : (c : Called A) → Calls a s c → c .refusal ≡ 0
+          → (c .stage .progress ≡ b .count) ⊎ (a / b .most ≤ actives b (c .stage .progress - s .progress) (s .progress))
+      go c (refused e n) z = absurd (n z)
+      go c (idle e h) z = inl h
+      go c (walks-on e h f) z =
+          let w = walkOf a s in
+          let q = walks b (b .count - s .progress) (s .progress) a (started b (s .progress) (s .volume)) in
+          let from : s .progress ≤ w .progress = walk-from b q in
+          let to : w .progress ≤ s .progress + (b .count - s .progress) = walk-to b q in
+          let parts : b .count - s .progress ≡ (w .progress - s .progress) + (b .count - w .progress) = omega arith in
+          let there : s .progress + (w .progress - s .progress) ≡ w .progress = omega arith in
+          let split : actives b (b .count - s .progress) (s .progress)
+          ≡ actives b (w .progress - s .progress) (s .progress) + actives b (b .count - w .progress) (w .progress)
+          = ap (λ (k : ℕ). actives b k (s .progress)) parts
+          ∙ actives-split b (w .progress - s .progress) (b .count - w .progress) (s .progress)
+          ∙ rw there refl in
+          rw (ended-progress (w .progress) (w .volume) (s .scratch))
+          (⊎-elim inl (λ g. inr (omega (arith, g .1))) (walk-passed b (fair .most) q (b .count) (omega arith) most-some))
+
+  call-costs : (a : ℕ) (s : Stage A)
+      → call b a s .rays + costs b (b .count - call b a s .stage .progress) (call b a s .stage .progress) ≡ costs b (b .count - s .progress) (s .progress)
+  call-costs a s = go (call b a s) (calls a s)
+    where
+      go : (c : Called A) → Calls a s c
+          → c .rays + costs b (b .count - c .stage .progress) (c .stage .progress) ≡ costs b (b .count - s .progress) (s .progress)
+      go c (refused e n) = zero-add (costs b (b .count - s .progress) (s .progress))
+      go c (idle e h) = zero-add (costs b (b .count - s .progress) (s .progress))
+      go c (walks-on e h f) =
+          let w = walkOf a s in
+          rw (ended-progress (w .progress) (w .volume) (s .scratch))
+          (walk-costs b (walks b (b .count - s .progress) (s .progress) a (started b (s .progress) (s .volume))) (b .count) (omega arith))
+
+  run-costs : (l : List ℕ) (s : Stage A)
+      → sum (run b l s .rays) + costs b (b .count - run b l s .stage .progress) (run b l s .stage .progress) ≡ costs b (b .count - s .progress) (s .progress)
+  unfolding run sum
+  run-costs [] s = zero-add (costs b (b .count - s .progress) (s .progress))
+  run-costs (a ∷ l) s = omega (arith, call-costs a s, run-costs l (call b a s .stage))
+
+  sums-up : (l : List ℕ) (s : Stage A) → s .progress ≡ 0 → run b l s .stage .progress ≡ b .count → sum (run b l s .rays) ≡ costs b (b .count) 0
+  unfolding costs
+  sums-up l s h e =
+      let z : costs b (b .count - run b l s .stage .progress) (run b l s .stage .progress) ≡ 0
+      = nothing (b .count - run b l s .stage .progress) (run b l s .stage .progress) (omega arith) in
+      let f : costs b (b .count - s .progress) (s .progress) ≡ costs b (b .count) 0
+      = let g : b .count - s .progress ≡ b .count = omega arith in rw (g, h) refl in
+      omega (arith, run-costs l s)
+    where
+      nothing : (k i : ℕ) → k ≡ 0 → costs b k i ≡ 0
+      nothing zero i e = refl
+      nothing (suc k) i e = absurd (omega arith)
+
+  goes-on : (a : ℕ) (s : Stage A) → call b a s .refusal ≡ 0 → s .progress < b .count → s .progress < call b a s .stage .progress
+  goes-on a s = go (call b a s) (calls a s)
+    where
+      go : (c : Called A) → Calls a s c → c .refusal ≡ 0 → s .progress < b .count → s .progress < c .stage .progress
+      go c (refused e n) z h = absurd (n z)
+      go c (idle e g) z h = absurd (omega arith)
+      go c (walks-on e g f) z h =
+          let w = walkOf a s in
+          let k = b .count - (s .progress + 1) in
+          let m : b .count - s .progress ≡ suc k = omega arith in
+          rw (ended-progress (w .progress) (w .volume) (s .scratch), m)
+          (walk-goes b (walks b (suc k) (s .progress) a (started b (s .progress) (s .volume))) f)
+
+  rests-done : (a : ℕ) (s : Stage A) → s .progress ≡ b .count → (call b a s .rays ≡ 0) × (call b a s .stage ≡ s)
+  rests-done a s h = go (call b a s) (calls a s)
+    where
+      go : (c : Called A) → Calls a s c → (c .rays ≡ 0) × (c .stage ≡ s)
+      go c (refused e n) = (refl, refl)
+      go c (idle e g) = (refl, refl)
+      go c (walks-on e g f) = absurd (omega arith)
+
+  -- ---- what stands as a run goes: the unbroken bake, or short of the end what the progress says
+
+  record Short (x : List A) (s : Stage A) : Type 0 where
+    before : s .progress < b .count
+    volume : started b (s .progress) (s .volume) ≡ stands b (s .progress)
+    scratch : s .scratch ≡ x
+
+  -- where the bake stands after a run that began at progress 0 with the scratch x
+  abbrev Along : List A → Stage A → Type 0
+  Along x s = Short x s ⊎ (s ≡ unbroken b x)
+
+  unbroken-progress : (x : List A) → unbroken b x .progress ≡ b .count
+  unfolding unbroken
+  unbroken-progress x = go (someActive b)
+    where
+      go : (u : Bool) → cond u (stage (b .count) (b .mean (unblurred b)) (unblurred b)) (stage (b .count) (unblurred b) x) .progress ≡ b .count
+      go true = refl
+      go false = refl
+
+  standing-start : (p : ℕ) (v : List A) → v ≡ stands b p → started b p v ≡ stands b p
+  standing-start zero v e = stands-filled b (fair .sized)
+  standing-start (suc p) v e = rw (ne-eqb (suc p) 0 (λ z. omega arith)) e
+
+  along-call : (a : ℕ) (x : List A) (s : Stage A) → Along x s → Along x (call b a s .stage)
+  unfolding unbroken
+  along-call a x s (inr e) = inr (rests-done a s (ap (λ (z : Stage A). z .progress) e ∙ unbroken-progress x) .1 ∙ e)
+  along-call a x s (inl h) = go (call b a s) (calls a s)
+    where
+      go : (c : Called A) → Calls a s c → Along x (c .stage)
+      go c (refused e n) = inl h
+      go c (idle e g) = absurd (omega (arith, h .before))
+      go c (walks-on e g f) =
+          let w = walkOf a s in
+          let q = walks b (b .count - s .progress) (s .progress) a (started b (s .progress) (s .volume)) in
+          let v : w .volume ≡ stands b (w .progress) = walk-stands b (fair .sized) q (omega arith) (h .volume) in
+          ⊎-elim
+          (λ z.
+          inr
+          (rw (eq-eqb (w .progress) (b .count) z)
+          (ap₂ (blurred b) (v ∙ ap (stands b) z ∙ stands-unblurred b (fair .sized)) (h .scratch))))
+          (λ l.
+          inl
+          (rw (ne-eqb (w .progress) (b .count) (λ z. omega arith))
+          (record {
+            before = l;
+            volume = standing-start (w .progress) (w .volume) v;
+            scratch = h .scratch;
+          })))
+          (eq-or-lt-of-le (omega (arith, walk-to b q)))
+
+  along-run : (l : List ℕ) (x : List A) (s : Stage A) → Along x s → Along x (run b l s .stage)
+  unfolding run
+  along-run [] x s h = h
+  along-run (a ∷ l) x s h = along-run l x (call b a s .stage) (along-call a x s h)
+
+  begins : (s : Stage A) → s .progress ≡ 0 → Along (s .scratch) s
+  begins s e = inl (record { before = omega (arith, fair .some); volume = rw e (stands-filled b (fair .sized)); scratch = refl })
+
+  whole-run : (l : List ℕ) (s : Stage A) → s .progress ≡ 0 → run b l s .stage .progress ≡ b .count → run b l s .stage ≡ unbroken b (s .scratch)
+  whole-run l s e f = ⊎-elim (λ h. absurd (omega (arith, h .before))) (λ h. h) (along-run l (s .scratch) s (begins s e))
+
+  before-end : (l : List ℕ) (s : Stage A) → s .progress ≡ 0 → 0 < run b l s .stage .progress → run b l s .stage .progress < b .count
+      → ((i : ℕ) → i < b .count → voxelOf (b .size) i (run b l s .stage .volume) ≡ standing b (run b l s .stage .progress) i)
+      × (run b l s .stage .volume ≡ stands b (run b l s .stage .progress)) × (run b l s .stage .scratch ≡ s .scratch)
+  before-end l s e p f =
+      ⊎-elim
+      (λ h.
+      let t = run b l s .stage in
+      let v : t .volume ≡ stands b (t .progress) = rw (ne-eqb (t .progress) 0 (λ z. omega arith)) at (h .volume) in (
+        (λ i k. rw v (voxel-of-laid (b .size) (standing b (t .progress)) (length-standing b (fair .sized) (t .progress)) i (b .count) k)),
+        v,
+        h .scratch,
+      ))
+      (λ h. absurd (omega (arith, ap (λ (z : Stage A). z .progress) h, unbroken-progress (s .scratch))))
+      (along-run l (s .scratch) s (begins s e))
+
+  -- ---- how many calls
+
+  run-done : (l : List ℕ) (s : Stage A) → s .progress ≡ b .count → run b l s .stage ≡ s
+  unfolding run
+  run-done [] s e = refl
+  run-done (a ∷ l) s e =
+      let h : call b a s .stage ≡ s = rests-done a s e .1 in
+      run-done l (call b a s .stage) (ap (λ (z : Stage A). z .progress) h ∙ e) ∙ h
+
+  abbrev left : Stage A → ℕ
+  left s = actives b (b .count - s .progress) (s .progress)
+
+  call-left : (a : ℕ) (s : Stage A) → call b a s .refusal ≡ 0
+      → (call b a s .stage .progress ≡ b .count) ⊎ ((0 < left (call b a s .stage)) × (left (call b a s .stage) + a / b .most ≤ left s))
+  call-left a s = go (call b a s) (calls a s)
+    where
+      go : (c : Called A) → Calls a s c → c .refusal ≡ 0
+          → (c .stage .progress ≡ b .count) ⊎ ((0 < left (c .stage)) × (left (c .stage) + a / b .most ≤ left s))
+      go c (refused e n) z = absurd (n z)
+      go c (idle e h) z = inl h
+      go c (walks-on e h f) z =
+          let w = walkOf a s in
+          rw (ended-progress (w .progress) (w .volume) (s .scratch))
+          (walk-passed b (fair .most) (walks b (b .count - s .progress) (s .progress) a (started b (s .progress) (s .volume))) (b .count) (omega arith)
+          most-some)
+
+  enough : (k a : ℕ) → k * b .most ≤ a → k ≤ a / b .most
+  enough k a h = le-div-iff-mul-le most-some .1 h
+
+  ends : (k a : ℕ) (l : List ℕ) (s : Stage A) → EachAtLeast (k * b .most) (a ∷ l) → left s ≤ length (a ∷ l) * k
+      → NoneRefused (run b (a ∷ l) s .refusals) → run b (a ∷ l) s .stage .progress ≡ b .count
+  unfolding run
+  ends k a [] s h f r = ⊎-elim (λ e. e) (λ g. absurd (omega (arith, enough k a (h .0), rw (suc-mul, zero-mul) at f))) (call-left a s (r .0))
+  ends k a (c ∷ l) s h f r =
+      ⊎-elim
+      (λ e. ap (λ (z : Stage A). z .progress) (run-done (c ∷ l) (call b a s .stage) e) ∙ e)
+      (λ g. ends k c l (call b a s .stage) (h .1) (omega (arith, enough k a (h .0), rw suc-mul at f)) (r .1))
+      (call-left a s (r .0))
+
+  at-most : (k : ℕ) (l : List ℕ) (s : Stage A) → 1 ≤ k → EachAtLeast (k * b .most) l → 0 < length l → roundedUp (allActive b) k ≤ length l
+      → s .progress ≡ 0 → NoneRefused (run b l s .refusals) → run b l s .stage .progress ≡ b .count
+  at-most k [] s p h n f e r = absurd (omega arith)
+  at-most k (a ∷ l) s p h n f e r =
+      let g : b .count - s .progress ≡ b .count = omega arith in
+      let z : left s ≡ allActive b = rw (g, e) refl in
+      ends k a l s h
+      (omega (arith, lt-div-mul-add {a = allActive b + (k - 1)} {b = k} p, mul-le-mul-right k f))
+      r
+
+  one-call : (a : ℕ) (s : Stage A) → allActive b ≡ 0 → s .progress ≡ 0 → call b a s .refusal ≡ 0 → call b a s .stage .progress ≡ b .count
+  one-call a s n e r =
+      let g : b .count - s .progress ≡ b .count = omega arith in
+      let z : left s ≡ allActive b = rw (g, e) refl in
+      ⊎-elim (λ h. h) (λ h. absurd (omega arith)) (call-left a s r)
+
+  pub demand : Demand b
+  demand =
+      record {
+        whole = whole-run;
+        before = before-end;
+        within = within-allowance;
+        finishes = finishes-enough;
+        sums = sums-up;
+        each = (costs-least b (fair .most) (fair .least) (b .count) 0, costs-most b (fair .most) (fair .least) (b .count) 0);
+        calls = at-most;
+        one = one-call;
+        goes = goes-on;
+        rests = rests-done;
+      }
+
+  -- "no call refused" holds of any run whose first call is accepted, where what a call leaves is what the next accepts
+  pub none-refused : Lasts b → (l : List ℕ) (s : Stage A) → EachAtLeast (b .most) l → ((a : ℕ) → b .most ≤ a → b .refusal s a ≡ 0)
+      → NoneRefused (run b l s .refusals)
+  unfolding run
+  none-refused lasts [] s h e = tt
+  none-refused lasts (a ∷ l) s h e =
+      (answers-none (e a (h .0)), none-refused lasts l (call b a s .stage) (h .1) (λ c g. lasts s a c (e a (h .0)) g))
+    where
+      answers-none : b .refusal s a ≡ 0 → call b a s .refusal ≡ 0
+      answers-none z = go (call b a s) (calls a s)
+        where
+          go : (c : Called A) → Calls a s c → c .refusal ≡ 0
+          go c (refused f n) = absurd (n (sym f ∙ z))
+          go c (idle f g) = refl
+          go c (walks-on f g k) = refl

@@ -1,0 +1,175 @@
+-- How a walk goes, voxel by voxel, as a relation of four cases; and what follows of any walk by these cases.
+use mathlib.Core.Path.{_≡_, refl, sym, ap, _∙_}
+use mathlib.Core.Bool.{Bool, true, false, cond, false≢true}
+use mathlib.Core.Logic.{_⊎_, inl, inr, ⊎-elim}
+use mathlib.Core.List.{List}
+use Prim.Native.Nat.{ℕ, zero, suc, _+_, _-_, _*_, _/_, _≤_, _<_}
+use native.Mathlib.Omega.{arith}
+use native.Mathlib.Nat.{zero-add, add-zero, add-assoc, sub-add-eq, div-eq-of-lt, le-div-iff-mul-le, suc-mul}
+use lib.Dec.{leb}
+use borrow.Author.Tests.{leb-true, leb-false, le-leb, lt-leb}
+use Rattle.names.specs.Numbers.{primaryRays}
+use Rattle.lists.specs.Any.{any}
+use Rattle.lists.specs.Fold.{ahead}
+use Rattle.spread.specs.Spread.{Bake, Walked, walked, more, replaced, walk, actives, costs}
+
+module _ {A : Type 0} (b : Bake A) where
+  pub data Walks : ℕ → ℕ → ℕ → List A → Walked A → Type 0 where
+    none : {i l : ℕ} {v : List A} → Walks 0 i l v (walked i 0 v)
+    skip : {k i l : ℕ} {v : List A} {w : Walked A} → b .active i ≡ false → Walks k (i + 1) l v w → Walks (suc k) i l v w
+    stop : {k i l : ℕ} {v : List A} → b .active i ≡ true → l < b .most → Walks (suc k) i l v (walked i 0 v)
+    taken : {k i l : ℕ} {v : List A} {w : Walked A} → b .active i ≡ true → b .most ≤ l
+        → Walks k (i + 1) (l - b .cost i) (replaced (b .size) i (b .gathered i) v) w → Walks (suc k) i l v (more (b .cost i) w)
+
+  pub walks : (k i l : ℕ) (v : List A) → Walks k i l v (walk b k i l v)
+  unfolding walk
+  walks zero i l v = none
+  walks (suc k) i l v =
+      go (b .active i) refl (leb (b .most) l) refl (walks k (i + 1) l v)
+      (walks k (i + 1) (l - b .cost i) (replaced (b .size) i (b .gathered i) v))
+    where
+      go : (x : Bool) → b .active i ≡ x → (y : Bool) → leb (b .most) l ≡ y → Walks k (i + 1) l v (walk b k (i + 1) l v)
+          → Walks k (i + 1) (l - b .cost i) (replaced (b .size) i (b .gathered i) v)
+          (walk b k (i + 1) (l - b .cost i) (replaced (b .size) i (b .gathered i) v))
+          → Walks (suc k) i l v (walk b (suc k) i l v)
+      go false e y f s t = rw e (skip e s)
+      go true e true f s t = rw (e, f) (taken e (leb-true (b .most) l f) t)
+      go true e false f s t = rw (e, f) (stop e (leb-false (b .most) l f))
+
+  -- a walk goes forward, and to the end at most
+  pub walk-from : {k i l : ℕ} {v : List A} {w : Walked A} → Walks k i l v w → i ≤ w .progress
+  walk-from none = omega arith
+  walk-from (skip e s) = omega (arith, walk-from s)
+  walk-from (stop e f) = omega arith
+  walk-from (taken e f s) = omega (arith, walk-from s)
+
+  pub walk-to : {k i l : ℕ} {v : List A} {w : Walked A} → Walks k i l v w → w .progress ≤ i + k
+  walk-to none = omega arith
+  walk-to (skip e s) = omega (arith, walk-to s)
+  walk-to (stop e f) = omega arith
+  walk-to (taken e f s) = omega (arith, walk-to s)
+
+  -- with as many rays as a voxel may cost it gets past its first voxel
+  pub walk-goes : {k i l : ℕ} {v : List A} {w : Walked A} → Walks (suc k) i l v w → b .most ≤ l → i < w .progress
+  walk-goes (skip e s) h = omega (arith, walk-from s)
+  walk-goes (stop e f) h = omega arith
+  walk-goes (taken e f s) h = omega (arith, walk-from s)
+
+  -- its rays are the costs of the active voxels that it passed: those of all ahead, less those of all that are left
+  pub walk-costs : {k i l : ℕ} {v : List A} {w : Walked A} → Walks k i l v w → (n : ℕ) → n ≡ i + k
+      → w .rays + costs b (n - w .progress) (w .progress) ≡ costs b k i
+  unfolding costs
+  walk-costs (none {i}) n h = let z : n - i ≡ 0 = omega arith in rw z refl
+  walk-costs (skip e s) n h = rw e (walk-costs s n (omega arith))
+  walk-costs (stop {k} {i} e f) n h =
+      let z : n - i ≡ suc k = omega arith in rw (z, e) (zero-add (b .cost i + costs b k (i + 1)))
+  walk-costs (taken {w = w} e f s) n h = rw e (omega (arith, walk-costs s n (omega arith)))
+
+  -- the active voxels of a stretch of j, and of the k after it
+  pub actives-split : (j k i : ℕ) → actives b (j + k) i ≡ actives b j i + actives b k (i + j)
+  unfolding actives
+  actives-split zero k i = rw (zero-add k, add-zero i) (sym (zero-add (actives b k i)))
+  actives-split (suc j) k i =
+      let e : suc j + k ≡ suc (j + k) = omega arith in
+      let f : i + suc j ≡ i + 1 + j = omega arith in
+      rw (e, f) (go (b .active i) (actives-split j k (i + 1)))
+    where
+      go : (x : Bool) → actives b (j + k) (i + 1) ≡ actives b j (i + 1) + actives b k (i + 1 + j)
+          → cond x (suc (actives b (j + k) (i + 1))) (actives b (j + k) (i + 1))
+          ≡ cond x (suc (actives b j (i + 1))) (actives b j (i + 1)) + actives b k (i + 1 + j)
+      go true h = omega arith
+      go false h = h
+
+  module _ (high : (i : ℕ) → b .cost i ≤ b .most) where
+    -- it fires no more than it may
+    pub walk-rays : {k i l : ℕ} {v : List A} {w : Walked A} → Walks k i l v w → w .rays ≤ l
+    walk-rays none = omega arith
+    walk-rays (skip e s) = walk-rays s
+    walk-rays (stop e f) = omega arith
+    walk-rays (taken {i = i} e f s) = omega (arith, walk-rays s, high i)
+
+    one-more : (l c : ℕ) → 0 < b .most → c ≤ b .most → b .most ≤ l → l / b .most ≤ suc ((l - c) / b .most)
+    one-more l c p h f =
+        go (l / b .most) refl
+      where
+        go : (q : ℕ) → l / b .most ≡ q → q ≤ suc ((l - c) / b .most)
+        go zero e = omega arith
+        go (suc q) e =
+            let g : suc q * b .most ≤ l = le-div-iff-mul-le p .0 (omega (arith, e)) in
+            let k : q ≤ (l - c) / b .most = le-div-iff-mul-le p .1 (omega (arith, rw suc-mul at g)) in
+            omega arith
+
+    -- it goes to the end, or stops at an active voxel past as many of them as l holds whole times what a voxel may cost
+    pub walk-passed : {k i l : ℕ} {v : List A} {w : Walked A} → Walks k i l v w → (n : ℕ) → n ≡ i + k → 0 < b .most
+        → (w .progress ≡ n) ⊎ ((0 < actives b (n - w .progress) (w .progress)) × (actives b (n - w .progress) (w .progress) + l / b .most ≤ actives b k i))
+    unfolding actives
+    walk-passed none n h p = inl (omega arith)
+    walk-passed (skip e s) n h p = rw e (walk-passed s n (omega arith) p)
+    walk-passed (stop {k} {i} {l} e f) n h p =
+        let z : n - i ≡ suc k = omega arith in
+        let d : l / b .most ≡ 0 = div-eq-of-lt f in
+        inr (rw (z, e, d) (omega arith, omega arith))
+    walk-passed (taken {k} {i} {l} e f s) n h p =
+        ⊎-elim (λ z. inl z) (λ g. inr (rw e (g .0, omega (arith, g .1, one-more l (b .cost i) p (high i) f)))) (walk-passed s n (omega arith) p)
+
+    module _ (low : (i : ℕ) → primaryRays ≤ b .cost i) where
+      -- 64 at least for each active voxel, and what a voxel may cost at most
+      pub costs-least : (k i : ℕ) → actives b k i * primaryRays ≤ costs b k i
+      unfolding actives costs
+      costs-least zero i = omega arith
+      costs-least (suc k) i = go (b .active i) refl (costs-least k (i + 1))
+        where
+          go : (x : Bool) → b .active i ≡ x → actives b k (i + 1) * primaryRays ≤ costs b k (i + 1)
+              → actives b (suc k) i * primaryRays ≤ costs b (suc k) i
+          go true e h = rw e (omega (arith, low i))
+          go false e h = rw e h
+
+      pub costs-most : (k i : ℕ) → costs b k i ≤ actives b k i * b .most
+      unfolding actives costs
+      costs-most zero i = omega arith
+      costs-most (suc k) i = go (b .active i) refl (costs-most k (i + 1))
+        where
+          go : (x : Bool) → b .active i ≡ x → costs b k (i + 1) ≤ actives b k (i + 1) * b .most
+              → costs b (suc k) i ≤ actives b (suc k) i * b .most
+          go true e h = rw (e, suc-mul) (omega (arith, high i))
+          go false e h = rw e h
+
+  -- some voxel is active exactly when there are active ones
+  pub actives-some : (k i : ℕ) → any (b .active) k i ≡ true → 0 < actives b k i
+  unfolding actives any
+  actives-some zero i e = absurd (false≢true e)
+  actives-some (suc k) i e = go (b .active i) refl (λ h. actives-some k (i + 1) h) e
+    where
+      go : (x : Bool) → b .active i ≡ x → (any (b .active) k (i + 1) ≡ true → 0 < actives b k (i + 1))
+          → any (b .active) (suc k) i ≡ true → 0 < actives b (suc k) i
+      go true f r g = rw f (omega arith)
+      go false f r g = rw f (r (rw f at g))
+
+  pub actives-none : (k i : ℕ) → any (b .active) k i ≡ false → actives b k i ≡ 0
+  unfolding actives any
+  actives-none zero i e = refl
+  actives-none (suc k) i e = go (b .active i) refl (λ h. actives-none k (i + 1) h) e
+    where
+      go : (x : Bool) → b .active i ≡ x → (any (b .active) k (i + 1) ≡ false → actives b k (i + 1) ≡ 0)
+          → any (b .active) (suc k) i ≡ false → actives b (suc k) i ≡ 0
+      go true f r g = absurd (false≢true (sym (rw f at g)))
+      go false f r g = rw f (r (rw f at g))
+
+-- ---- the walk, a voxel at a time: w is a walk that has fired r rays of a and stands at voxel i of n with the volume v
+module _ {A : Type 0} (b : Bake A) {w : Walked A} (i r a n : ℕ) (v : List A) (e : w ≡ more r (walk b (n - i) i (a - r) v)) where
+  pub so-far-stop : i < n → b .active i ≡ true → a - r < b .most → w ≡ walked i r v
+  unfolding walk
+  so-far-stop h t f = e ∙ rw (ahead i n h, t, lt-leb (b .most) (a - r) f, add-zero r) refl
+
+  pub so-far-end : n ≤ i → w ≡ walked i r v
+  unfolding walk
+  so-far-end h = let z : n - i ≡ 0 = omega arith in e ∙ rw (z, add-zero r) refl
+
+  pub so-far-skip : i < n → b .active i ≡ false → w ≡ more r (walk b (n - (i + 1)) (i + 1) (a - r) v)
+  unfolding walk
+  so-far-skip h t = e ∙ rw (ahead i n h, t) refl
+
+  pub so-far-take : i < n → b .active i ≡ true → b .most ≤ a - r
+      → w ≡ more (r + b .cost i) (walk b (n - (i + 1)) (i + 1) (a - (r + b .cost i)) (replaced (b .size) i (b .gathered i) v))
+  unfolding walk
+  so-far-take h t f = e ∙ rw (ahead i n h, t, le-leb (b .most) (a - r) f, sub-add-eq a r (b .cost i), add-assoc) refl

@@ -1,0 +1,1 @@
+// Definitions only: specs/ has what a bake that is spread over calls comes to, over any bake.
