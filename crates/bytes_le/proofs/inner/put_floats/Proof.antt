@@ -1,0 +1,75 @@
+-- After i turns the first i numbers of xs stand from `at` on: a run of stores, four more each turn.
+use borrow.Author.Needs.{needs}
+use native.Mathlib.Omega.{arith}
+use Prim.Native.Nat.{ℕ, _+_, _-_, _*_, _<_, _≤_}
+use mathlib.Core.Path.{_≡_, refl, sym, ap, _∙_}
+use mathlib.Core.List.{List}
+use lib.ListN.{length, take, getD}
+use lib.Seq.{sets, length-sets, take-all}
+use lib.Ieee.{Float, nan, binary32, toBits}
+use Rattle.bytes_le.specs.Bytes.{bytes4, encode}
+use Rattle.bytes_le.specs.BytesLaws.{encode-one-more}
+use Rattle.bytes_le.proofs.inner.put_floats.Statement.{statement}
+use Rattle.bytes_le.proofs.inner.put_floats.Tie as tie
+
+again : (l s s′ : List ℕ) (at : ℕ) (x : List Float) (i : ℕ) → i < length x → s ≡ sets l at (encode (take i x))
+    → s′ ≡ sets s (at + i * 4) (bytes4 (toBits binary32 (getD x i nan))) → s′ ≡ sets l at (encode (take (i + 1) x))
+again l s s′ at x i h e f = f ∙ rw e (encode-one-more l at x i nan h)
+
+abbrev Inv-loop : tie.InvT-loop
+Inv-loop s₀ at xs i₀ s i = (s ≡ sets s₀ at (encode (take i xs))) × (length s ≡ length s₀) × (i ≤ length xs)
+
+abbrev μ-loop : tie.MeasureT-loop
+μ-loop s₀ at xs i₀ s i = length xs - i
+
+loop-holds : tie.Need-loop-holds Inv-loop μ-loop
+unfolding encode
+loop-holds c = (refl, refl, search needs)
+
+mul-put-f32 : tie.Need-mul-put-f32 Inv-loop μ-loop
+mul-put-f32 c = search needs
+
+add-put-f32 : tie.Need-add-put-f32 Inv-loop μ-loop
+add-put-f32 c = search needs
+
+mul-put-f32-2 : tie.Need-mul-put-f32-2 Inv-loop μ-loop
+mul-put-f32-2 c = search needs
+
+shared-slice-read-put-f32 : tie.Need-shared-slice-read-put-f32 Inv-loop μ-loop
+shared-slice-read-put-f32 c = search needs
+
+put-f32-requires : tie.Need-put-f32-requires Inv-loop μ-loop
+put-f32-requires c κs = search needs
+
+add-i : tie.Need-add-i Inv-loop μ-loop
+add-i c = search needs
+
+loop-less : tie.Need-loop-less Inv-loop μ-loop
+loop-less c = search needs
+
+loop-again : tie.Need-loop-again Inv-loop μ-loop
+loop-again c = (again _ _ _ _ _ (c .before .before .before .before .before .before .loop .i) (c .before .before .before .before .before .loop-test .taken) (c .before .before .before .before .before .before .loop .inv .0) (c .before .before .put-f32 .ensures), ap length (c .before .before .put-f32 .ensures) ∙ simp length-sets (c .before .before .before .before .before .before .loop .inv .1), omega arith)
+
+same-length : tie.Need-same-length Inv-loop μ-loop
+same-length c = search needs
+
+returns : tie.Need-returns Inv-loop μ-loop
+returns c = c .before .loop .inv .0 ∙ rw (take-all _ _ (c .loop-test .left)) refl
+
+pub put-floats-spec : {M : Type 1} → statement M
+put-floats-spec =
+    tie.close
+    (tie.spec
+    Inv-loop
+    μ-loop
+    loop-holds
+    mul-put-f32
+    add-put-f32
+    mul-put-f32-2
+    shared-slice-read-put-f32
+    put-f32-requires
+    add-i
+    loop-less
+    loop-again
+    same-length
+    returns)
