@@ -101,7 +101,7 @@ pub nan-magnitude : (x : Float) → ne x x ≡ true → nan ≡ magnitudeOf x
 unfolding magnitudeOf
 nan-magnitude x h = sym (ap magnitudeOf (is-nan x h))
 
--- ---- on patterns: the one NaN pattern that `toBits` writes, and every other pattern as it is
+-- ---- on patterns: the one that `toBits` writes of a NaN, and which ones are a NaN's
 nan-of : (x : Float) → isNan x ≡ true → x ≡ nan
 unfolding isNan
 nan-of nan h = refl
@@ -112,14 +112,9 @@ pub nan-written : toBits binary32 nan ≡ 2143289344
 unfolding toBits
 nan-written = refl
 
-pub bits-nan : (b : ℕ) → 2139095040 < b % 2 ^ 31 → 2143289344 ≡ toBits binary32 (magnitudeOf (ofBits binary32 b))
-bits-nan b h =
-    let a = b % 2 ^ 31 in
-    let n : isNan (ofBits binary32 a) ≡ true = sym (nanBits-is binary32 a) ∙ nanBits-above binary32 a ∙ is-true (ltb 2139095040 (a % 2 ^ 31)) (lt→ltb 2139095040 (a % 2 ^ 31) (omega arith)) in
-    sym (ap (toBits binary32) (sym (magnitude-bits b) ∙ nan-of (ofBits binary32 a) n) ∙ nan-written)
+-- past the infinity's pattern, sign apart
+pub nan-pattern : (b : ℕ) → 2139095040 < b % 2 ^ 31 → ofBits binary32 b ≡ nan
+nan-pattern b h = nan-of (ofBits binary32 b) (sym (nanBits-is binary32 b) ∙ nanBits-above binary32 b ∙ is-true (ltb 2139095040 (b % 2 ^ 31)) (lt→ltb 2139095040 (b % 2 ^ 31) h))
 
-pub bits-kept : (b : ℕ) → b % 2 ^ 31 ≤ 2139095040 → b % 2 ^ 31 ≡ toBits binary32 (magnitudeOf (ofBits binary32 b))
-bits-kept b h =
-    let a = b % 2 ^ 31 in
-    let n : T (not (isNan (ofBits binary32 a))) = subst (λ (z : Bool). T (not z)) (nanBits-is binary32 a) (subst (λ (z : Bool). T (not z)) (sym (nanBits-above binary32 a)) (le→nltb 2139095040 (a % 2 ^ 31) (omega arith))) in
-    sym (ap (toBits binary32) (sym (magnitude-bits b)) ∙ toBits-ofBits binary32 a (omega arith) n)
+pub number-pattern : (b : ℕ) → b % 2 ^ 31 ≤ 2139095040 → T (not (nanBits binary32 b))
+number-pattern b h = subst (λ (z : Bool). T (not z)) (sym (nanBits-above binary32 b)) (le→nltb 2139095040 (b % 2 ^ 31) h)

@@ -4,8 +4,6 @@ use lib.Ieee.{lt}
 use Rattle.floats.proofs.Choose.{no-number, pick-left, pick-right, pick-by, larger-is}
 use Rattle.floats.proofs.larger.Statement.{statement}
 use Rattle.floats.proofs.larger.Tie as tie
-use Rattle.floats.proofs.larger.Reads as reads
-use Rattle.floats.proofs.larger.Lts as lts
 
 returns : tie.Need-returns
 returns c = let a = c .before .args in sym no-number ∙ pick-left (lt (a .y) (a .x)) (a .x) (a .y) (c .if1 .taken) ∙ sym (larger-is (a .x) (a .y))

@@ -4,8 +4,6 @@ use lib.Ieee.{binary32, fits}
 use Rattle.floats.proofs.Choose.{no-number, no-nan, nan-magnitude, magnitude-of, magnitude-pattern}
 use Rattle.floats.proofs.magnitude.Statement.{statement}
 use Rattle.floats.proofs.magnitude.Tie as tie
-use Rattle.floats.proofs.magnitude.Reads as reads
-use Rattle.floats.proofs.magnitude.Lts as lts
 
 held : (c : tie.Start) → T (fits binary32 (c .args .x))
 held c = subst T (sym (c .good .0 .1)) tt

@@ -4,8 +4,6 @@ use lib.Ieee.{lt}
 use Rattle.floats.proofs.Choose.{no-number, pick-left, pick-right, pick-by, smaller-is}
 use Rattle.floats.proofs.smaller.Statement.{statement}
 use Rattle.floats.proofs.smaller.Tie as tie
-use Rattle.floats.proofs.smaller.Reads as reads
-use Rattle.floats.proofs.smaller.Lts as lts
 
 returns : tie.Need-returns
 returns c = let a = c .before .args in sym no-number ∙ pick-left (lt (a .x) (a .y)) (a .x) (a .y) (c .if1 .taken) ∙ sym (smaller-is (a .x) (a .y))
