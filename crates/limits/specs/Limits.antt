@@ -1,0 +1,180 @@
+-- The numbers accepted. For each row of document 01's table one test of the arguments that it concerns: true where the row's number
+-- is given. A bound is tested as −b ≤ x ≤ b, which no NaN and no infinity passes, so that it says finite too. A call's chain is a
+-- list of such rows in its own order; a row that speaks of voxels or edges stands after row 1. Assumes nothing.
+use mathlib.Core.Bool.{Bool, true, false, cond, not, _&&_, _||_}
+use mathlib.Core.List.{List, [], _∷_}
+use Prim.Native.Nat.{ℕ, _+_, _*_, _/_, _%_}
+use lib.Dec.{ltb, leb, eqb}
+use lib.ListN.{length}
+use lib.Ieee as Ieee
+use lib.Ieee.{Float, isNan}
+use Rattle.names.specs.Bits.{zero32, one32}
+use Rattle.names.specs.Numbers.{axisLimit, triangleLimit, materialLimit, voxelCost, pointLimit, edgeLimit, colourLimit, directionLimit, thinLimit, lightLimit, coefficientLimit}
+use Rattle.vectors.specs.declared.Vec3.{Vec3}
+use Rattle.vectors.specs.declared.Ray.{Ray}
+use Rattle.vectors.specs.declared.Triangle.{Triangle}
+use Rattle.vectors.specs.Vectors.{dotV}
+use Rattle.grid.specs.declared.Axes.{Axes}
+use Rattle.grid.specs.declared.Corners.{Corners}
+use Rattle.grid.specs.Grid.{edgesOf}
+use Rattle.limits.specs.Some.{some}
+use Rattle.limits.specs.declared.Light.{Light}
+use Rattle.limits.specs.declared.Ambient.{Ambient}
+
+-- ---- one number, and three
+
+-- finite, and of magnitude at most b
+unfoldable pub within : Float → Float → Bool
+within b x = Ieee.le (Ieee.neg b) x && Ieee.le x b
+
+abbrev pub outside : Float → Float → Bool
+outside b x = not (within b x)
+
+-- from 0 to b; −0 is 0
+unfoldable pub upTo : Float → Float → Bool
+upTo b x = Ieee.le zero32 x && Ieee.le x b
+
+-- a component lies outside ±b
+unfoldable pub outsideV : Float → Vec3 → Bool
+outsideV b v = outside b (v .x) || outside b (v .y) || outside b (v .z)
+
+-- ---- 1: an axis outside 1..32
+
+abbrev pub badAxis : ℕ → Bool
+badAxis n = ltb n 1 || ltb axisLimit n
+
+unfoldable pub badAxes : Axes → Bool
+badAxes a = badAxis (a .width) || badAxis (a .height) || badAxis (a .depth)
+
+-- ---- 2: bad corners or voxel edge
+
+abbrev pub badEdge : Float → Bool
+badEdge e = not (Ieee.le edgeLimit e)
+
+unfoldable pub badCorners : Corners → Bool
+badCorners c = outsideV pointLimit (c .min) || outsideV pointLimit (c .max)
+
+unfoldable pub badEdges : Corners → Axes → Bool
+badEdges c a = badEdge (edgesOf c a .x) || badEdge (edgesOf c a .y) || badEdge (edgesOf c a .z)
+
+abbrev pub badGrid : Corners → Axes → Bool
+badGrid c a = badCorners c || badEdges c a
+
+-- ---- 3: a lent list of the wrong length
+
+-- not exactly n
+abbrev pub wrongLength : ℕ → ℕ → Bool
+wrongLength len n = not (eqb len n)
+
+-- not exactly k for each of n, by quotient and remainder: n is not bounded before row 4, and a product could wrap
+unfoldable pub wrongShare : ℕ → ℕ → ℕ → Bool
+wrongShare k len n = not (eqb (len / k) n && eqb (len % k) 0)
+
+-- hit scratch: shorter than the triangle count
+abbrev pub tooShort : ℕ → ℕ → Bool
+tooShort len n = ltb len n
+
+-- nine numbers a triangle, seven a material; the uses give the number of triangles, the kinds that of materials
+unfoldable pub wrongScene : List Float → List ℕ → List ℕ → List Float → Bool
+wrongScene points uses kinds numbers = wrongShare 9 (length points) (length uses) || wrongShare 7 (length numbers) (length kinds)
+
+-- ---- 4: too many triangles or materials
+
+abbrev pub tooManyTriangles : ℕ → Bool
+tooManyTriangles t = ltb triangleLimit t
+
+abbrev pub tooManyMaterials : ℕ → Bool
+tooManyMaterials m = ltb materialLimit m
+
+unfoldable pub tooMany : ℕ → ℕ → Bool
+tooMany t m = tooManyTriangles t || tooManyMaterials m
+
+-- ---- 5: bad triangle point
+
+unfoldable pub badPoints : List Float → Bool
+badPoints l = some (outside pointLimit) l
+
+-- of one triangle, by value
+unfoldable pub badTriangle : Triangle → Bool
+badTriangle t = outsideV pointLimit (t .p0) || outsideV pointLimit (t .p1) || outsideV pointLimit (t .p2)
+
+-- ---- 6: bad material
+
+-- "kind other than 0 opaque or 1 translucent"
+abbrev pub lastKind : ℕ
+lastKind = 1
+
+unfoldable pub badKinds : List ℕ → Bool
+badKinds kinds = some (ltb lastKind) kinds
+
+-- the number at place i of a material's seven, counted through the list: six of the base and the emissive colour, then the transmission
+abbrev pub badNumber : ℕ → Float → Bool
+badNumber i x = cond (eqb (i % 7) 6) (not (upTo one32 x)) (outside colourLimit x)
+
+-- some number of a list whose first is at place i
+unfoldable pub badFrom : ℕ → List Float → Bool
+badFrom i [] = false
+badFrom i (x ∷ l) = badNumber i x || badFrom (i + 1) l
+
+abbrev pub badNumbers : List Float → Bool
+badNumbers numbers = badFrom 0 numbers
+
+-- "index past the list"
+unfoldable pub badUses : List ℕ → ℕ → Bool
+badUses uses m = some (leb m) uses
+
+unfoldable pub badMaterials : List ℕ → List ℕ → List Float → Bool
+badMaterials uses kinds numbers = badKinds kinds || badNumbers numbers || badUses uses (length kinds)
+
+-- ---- 7: bad light, ambient or sky number
+
+-- components up to 4,096, computed squared length above 1e-12
+unfoldable pub badDirection : Vec3 → Bool
+badDirection d = outsideV pointLimit d || not (Ieee.lt thinLimit (dotV d d))
+
+abbrev pub badColour : Vec3 → Bool
+badColour c = outsideV colourLimit c
+
+unfoldable pub badLight : Light → Bool
+badLight l = badDirection (l .direction) || badColour (l .colour)
+
+unfoldable pub badAmbient : Ambient → Bool
+badAmbient a = badColour (a .c0) || badColour (a .c1) || badColour (a .c2) || badColour (a .c3)
+
+unfoldable pub badSky : List Float → Bool
+badSky l = some (outside colourLimit) l
+
+-- ---- 8: bad ray
+
+unfoldable pub badRay : Ray → Bool
+badRay r =
+    outsideV colourLimit (r .origin) || outsideV directionLimit (r .direction) || not (upTo colourLimit (r .shortest)) || isNan (r .longest)
+
+-- ---- 9: progress above the voxel count
+
+abbrev pub pastCount : ℕ → ℕ → Bool
+pastCount progress n = ltb n progress
+
+-- ---- 10: allowance below 384
+
+abbrev pub belowCost : ℕ → Bool
+belowCost allowance = ltb allowance voxelCost
+
+-- ---- 11: bad position, or voxel index past the grid
+
+abbrev pub badPosition : Vec3 → Bool
+badPosition p = outsideV pointLimit p
+
+abbrev pub pastGrid : ℕ → ℕ → Bool
+pastGrid index n = leb n index
+
+-- ---- 13: mask entry not 0 or 1; light or coefficient not finite or beyond ±2^64
+
+unfoldable pub badMask : List ℕ → Bool
+badMask l = some (ltb 1) l
+
+unfoldable pub badLights : List Float → Bool
+badLights l = some (outside lightLimit) l
+
+unfoldable pub badCoefficients : List Float → Bool
+badCoefficients l = some (outside coefficientLimit) l

@@ -1,0 +1,279 @@
+// One test for each row: true where the row's number is given. Each test stands alone, so that a call's chain can take them in any order.
+ghost use mathlib.Core.Path.{_≡_};
+ghost use Prim.Native.Nat.{_<_, _≤_};
+ghost use mathlib.Core.Bool.{not};
+ghost use lib.ListN.{length};
+ghost use Rattle.grid.specs.Grid.{AxesWithin};
+ghost use Rattle.limits.specs.Some.{some};
+ghost use Rattle.limits.specs.Limits.{within, outside, upTo, outsideV, badAxes, badCorners, badEdges, badGrid, wrongShare, wrongScene, tooMany, badPoints, badTriangle, badKinds, badNumber, badNumbers, badUses, badMaterials, badDirection, badColour, badLight, badAmbient, badSky, badRay, badPosition, badMask, badLights, badCoefficients};
+ghost use lib.Dec.{ltb, leb};
+use super::Ambient;
+use super::Light;
+use grid::Axes;
+use grid::Corners;
+use vectors::Ray;
+use vectors::Triangle;
+use vectors::Vec3;
+
+// "Each axis 1..32 voxels."
+const AXIS_LIMIT: usize = 32;
+// "Triangles 0..4,096, materials 0..256."
+const TRIANGLE_LIMIT: usize = 4096;
+
+const MATERIAL_LIMIT: usize = 256;
+// "Corners and triangle points finite, magnitude at most 4,096"
+const POINT_LIMIT: f32 = 4096.0;
+// "each computed voxel edge at least 1/1024"
+const EDGE_LIMIT: f32 = 0.0009765625;
+// "Colours, ambient and sky numbers finite, at most 65,536 in magnitude"
+const COLOUR_LIMIT: f32 = 65536.0;
+// "direction components within ±2"
+const DIRECTION_LIMIT: f32 = 2.0;
+// "computed squared length above 1e-12"
+const THIN_LIMIT: f32 = 1.0e-12;
+// "light or coefficient not finite or beyond ±2^64"
+const LIGHT_LIMIT: f32 = 18446744073709551616.0;
+
+const COEFFICIENT_LIMIT: f32 = 18446744073709551616.0;
+// "kind other than 0 opaque or 1 translucent"
+const LAST_KIND: u8 = 1;
+
+// ---- one number, and three
+
+// Whether x is not finite, or beyond ±b.
+pub fn out_of(b: f32, x: f32) -> bool
+    ensures { λ r. ⌜ r ≡ outside b x ⌝ }
+{
+    !((-b <= x) & (x <= b))
+}
+
+// Whether x is below 0, above b or not a number.
+fn not_up_to(b: f32, x: f32) -> bool
+    ensures { λ r. ⌜ r ≡ not (upTo b x) ⌝ }
+{
+    !((0.0 <= x) & (x <= b))
+}
+
+// Whether a component is not finite, or beyond ±b.
+pub fn vector_out_of(b: f32, v: Vec3) -> bool
+    ensures { λ r. ⌜ r ≡ outsideV b v ⌝ }
+{
+    out_of(b, v.x) | out_of(b, v.y) | out_of(b, v.z)
+}
+
+// ---- 1
+
+pub fn bad_axes(axes: Axes) -> bool
+    ensures { λ r. ⌜ r ≡ badAxes axes ⌝ }
+{
+    let w = (axes.width < 1) | (AXIS_LIMIT < axes.width);
+    let h = (axes.height < 1) | (AXIS_LIMIT < axes.height);
+    let d = (axes.depth < 1) | (AXIS_LIMIT < axes.depth);
+    w | h | d
+}
+
+// ---- 2
+
+pub fn bad_grid(corners: Corners, axes: Axes) -> bool
+    requires { ⌜ AxesWithin axes ⌝ }
+    ensures { λ r. ⌜ r ≡ badGrid corners axes ⌝ }
+{
+    let low = vector_out_of(POINT_LIMIT, corners.min);
+    let high = vector_out_of(POINT_LIMIT, corners.max);
+    let e = grid::inner::edges(corners, axes);
+    let thin = !(EDGE_LIMIT <= e.x) | !(EDGE_LIMIT <= e.y) | !(EDGE_LIMIT <= e.z);
+    (low | high) | thin
+}
+
+// ---- 3
+
+// Whether len is anything but k for each of n, by quotient and remainder: no product can wrap.
+pub fn wrong_share(k: usize, len: usize, n: usize) -> bool
+    requires { ⌜ 0 < k ⌝ }
+    ensures { λ r. ⌜ r ≡ wrongShare k len n ⌝ }
+{
+    !((len / k == n) & (len % k == 0))
+}
+
+// Whether the lists of a scene do not fit each other.
+pub fn wrong_scene(points: &[f32], uses: &[u32], kinds: &[u8], numbers: &[f32]) -> bool
+    ensures { λ r. ⌜ r ≡ wrongScene (now (points .entry)) (now (uses .entry)) (now (kinds .entry)) (now (numbers .entry)) ⌝ }
+{
+    wrong_share(9, points.len(), uses.len()) | wrong_share(7, numbers.len(), kinds.len())
+}
+
+// ---- 4
+
+pub fn too_many(triangles: usize, materials: usize) -> bool
+    ensures { λ r. ⌜ r ≡ tooMany triangles materials ⌝ }
+{
+    (TRIANGLE_LIMIT < triangles) | (MATERIAL_LIMIT < materials)
+}
+
+// ---- 5
+
+pub fn bad_points(points: &[f32]) -> bool
+    ensures { λ r. ⌜ r ≡ badPoints (now (points .entry)) ⌝ }
+{
+    any_out_of(points, POINT_LIMIT)
+}
+
+pub fn bad_triangle(t: Triangle) -> bool
+    ensures { λ r. ⌜ r ≡ badTriangle t ⌝ }
+{
+    vector_out_of(POINT_LIMIT, t.p0)
+        | vector_out_of(POINT_LIMIT, t.p1)
+        | vector_out_of(POINT_LIMIT, t.p2)
+}
+
+// ---- 6
+
+pub fn bad_materials(uses: &[u32], kinds: &[u8], numbers: &[f32]) -> bool
+    ensures { λ r. ⌜ r ≡ badMaterials (now (uses .entry)) (now (kinds .entry)) (now (numbers .entry)) ⌝ }
+{
+    any_above(kinds, LAST_KIND) | bad_numbers(numbers) | any_from(uses, kinds.len())
+}
+
+fn bad_number(place: usize, x: f32) -> bool
+    ensures { λ r. ⌜ r ≡ badNumber place x ⌝ }
+{
+    if place % 7 == 6 {
+        return not_up_to(1.0, x);
+    }
+    out_of(COLOUR_LIMIT, x)
+}
+
+fn bad_numbers(numbers: &[f32]) -> bool
+    ensures { λ r. ⌜ r ≡ badNumbers (now (numbers .entry)) ⌝ }
+{
+    let mut i = 0;
+    while i < numbers.len() {
+        if bad_number(i, numbers[i]) {
+            return true;
+        }
+        i += 1;
+    }
+    false
+}
+
+// ---- 7
+
+// "components up to 4,096, computed squared length above 1e-12"
+pub fn bad_direction(d: Vec3) -> bool
+    ensures { λ r. ⌜ r ≡ badDirection d ⌝ }
+{
+    vector_out_of(POINT_LIMIT, d) | !(THIN_LIMIT < vectors::dot(d, d))
+}
+
+pub fn bad_colour(c: Vec3) -> bool
+    ensures { λ r. ⌜ r ≡ badColour c ⌝ }
+{
+    vector_out_of(COLOUR_LIMIT, c)
+}
+
+pub fn bad_light(l: Light) -> bool
+    ensures { λ r. ⌜ r ≡ badLight l ⌝ }
+{
+    bad_direction(l.direction) | bad_colour(l.colour)
+}
+
+pub fn bad_ambient(a: Ambient) -> bool
+    ensures { λ r. ⌜ r ≡ badAmbient a ⌝ }
+{
+    bad_colour(a.c0) | bad_colour(a.c1) | bad_colour(a.c2) | bad_colour(a.c3)
+}
+
+pub fn bad_sky(sky: &[f32]) -> bool
+    ensures { λ r. ⌜ r ≡ badSky (now (sky .entry)) ⌝ }
+{
+    any_out_of(sky, COLOUR_LIMIT)
+}
+
+// ---- 8
+
+pub fn bad_ray(ray: Ray) -> bool
+    ensures { λ r. ⌜ r ≡ badRay ray ⌝ }
+{
+    let ends = not_up_to(COLOUR_LIMIT, ray.shortest);
+    let origin = vector_out_of(COLOUR_LIMIT, ray.origin);
+    let direction = vector_out_of(DIRECTION_LIMIT, ray.direction);
+    origin | direction | ends | (ray.longest != ray.longest)
+}
+
+// ---- 11
+
+pub fn bad_position(p: Vec3) -> bool
+    ensures { λ r. ⌜ r ≡ badPosition p ⌝ }
+{
+    vector_out_of(POINT_LIMIT, p)
+}
+
+// ---- 13
+
+pub fn bad_mask(mask: &[u8]) -> bool
+    ensures { λ r. ⌜ r ≡ badMask (now (mask .entry)) ⌝ }
+{
+    any_above(mask, 1)
+}
+
+pub fn bad_lights(light: &[f32]) -> bool
+    ensures { λ r. ⌜ r ≡ badLights (now (light .entry)) ⌝ }
+{
+    any_out_of(light, LIGHT_LIMIT)
+}
+
+pub fn bad_coefficients(volume: &[f32]) -> bool
+    ensures { λ r. ⌜ r ≡ badCoefficients (now (volume .entry)) ⌝ }
+{
+    any_out_of(volume, COEFFICIENT_LIMIT)
+}
+
+// ---- scans
+
+// Whether some number of a list is not finite, or beyond ±b.
+pub fn any_out_of(l: &[f32], b: f32) -> bool
+    ensures { λ r. ⌜ r ≡ some (outside b) (now (l .entry)) ⌝ }
+{
+    let mut i = 0;
+    while i < l.len() {
+        if out_of(b, l[i]) {
+            return true;
+        }
+        i += 1;
+    }
+    false
+}
+
+// Whether some entry of a list is above the most that it may be.
+pub fn any_above(l: &[u8], most: u8) -> bool
+    ensures { λ r. ⌜ r ≡ some (ltb most) (now (l .entry)) ⌝ }
+{
+    let mut i = 0;
+    while i < l.len() {
+        if most < l[i] {
+            return true;
+        }
+        i += 1;
+    }
+    false
+}
+
+// Whether some place of a list is n or past it.
+fn any_from(l: &[u32], n: usize) -> bool
+    ensures { λ r. ⌜ r ≡ some (leb n) (now (l .entry)) ⌝ }
+{
+    let mut i = 0;
+    while i < l.len() {
+        if n <= wide(l[i]) {
+            return true;
+        }
+        i += 1;
+    }
+    false
+}
+
+fn wide(x: u32) -> usize
+    ensures { λ r. ⌜ r ≡ x ⌝ }
+{
+    x as usize
+}

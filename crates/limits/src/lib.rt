@@ -1,0 +1,20 @@
+// The numbers accepted: what a light and an ambient are, and one test for each row of the table of refusals.
+use vectors::Vec3;
+
+pub mod inner;
+
+// The light of a scene: where it comes from, and its colour.
+#[repr(C)]
+pub struct Light {
+    pub direction: Vec3,
+    pub colour: Vec3,
+}
+
+// Ambient: four coefficients, each a colour.
+#[repr(C)]
+pub struct Ambient {
+    pub c0: Vec3,
+    pub c1: Vec3,
+    pub c2: Vec3,
+    pub c3: Vec3,
+}
