@@ -1,0 +1,5 @@
+-- The two scans over a scene's triangles.
+pub mod Nearest
+pub mod Hits
+pub mod HitLaws
+pub mod Transmittance

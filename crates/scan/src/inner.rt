@@ -1,0 +1,212 @@
+// The scans. Each takes the scene's four lists, which fit each other (`Sound`): the tests of the public calls have shown it.
+ghost use mathlib.Core.Path.{_≡_};
+ghost use Prim.Native.Nat.{ℕ, _+_, _*_, _≤_, _<_};
+ghost use lib.ListN.{length, getD, take};
+ghost use lib.Ieee.{nan};
+ghost use Rattle.names.specs.Bits.{one32};
+ghost use Rattle.names.specs.Scene.{Sound, sceneOf};
+ghost use Rattle.triangle.specs.Meet.{meetOf};
+ghost use Rattle.triangle.specs.Places.{triangleAt};
+ghost use Rattle.scan.specs.Nearest.{beats, nearerOf, nearestOf};
+ghost use Rattle.scan.specs.Hits.{struck, before, rankOf, insertAt, insertOf, paired, hitsOf, placesOf};
+ghost use Rattle.scan.specs.Transmittance.{Fitting, passOf, transmittanceOf};
+use super::Nearest;
+use triangle::Meet;
+use vectors::Ray;
+
+// "a product at most 0.0001 gives 0"
+const FAINT: f32 = 0.0001;
+
+// ---- the nearest hit
+
+// The nearest hit of the ray among all triangles; among equal distances the one of the highest place. The materials are not read: a later
+// request has them decide whether a triangle is met.
+pub fn nearest(points: &[f32], uses: &[u32], kinds: &[u8], numbers: &[f32], ray: Ray) -> Nearest
+    requires { ⌜ Sound (sceneOf (now points) (now uses) (now kinds) (now numbers)) ⌝ }
+    ensures { λ r. ⌜ r ≡ nearestOf (sceneOf (now (points .entry)) (now (uses .entry)) (now (kinds .entry)) (now (numbers .entry))) ray ⌝ }
+{
+    let n = uses.len();
+    let mut best = Nearest::Nothing;
+    let mut i = 0;
+    while i < n {
+        let m = meet_at(points, i, ray);
+        best = nearer(best, i, m);
+        i += 1;
+    }
+    best
+}
+
+// The better of what is held and a meeting at place i.
+fn nearer(best: Nearest, i: usize, m: Meet) -> Nearest
+    ensures { λ r. ⌜ r ≡ nearerOf best i m ⌝ }
+{
+    match m {
+        Meet::Miss => best,
+        Meet::Hit(t, u, v) => match best {
+            Nearest::Nothing => Nearest::At(i, t, u, v),
+            Nearest::At(j, s, _, _) => {
+                if better(t, i, s, j) {
+                    return Nearest::At(i, t, u, v);
+                }
+                best
+            }
+        },
+    }
+}
+
+// Whether a hit at distance t and place i is kept over one at distance s and place j.
+fn better(t: f32, i: usize, s: f32, j: usize) -> bool
+    ensures { λ r. ⌜ r ≡ beats t i s j ⌝ }
+{
+    if t < s {
+        return true;
+    }
+    if t == s {
+        return j < i;
+    }
+    false
+}
+
+// The one step that both scans take of each triangle.
+fn meet_at(points: &[f32], i: usize, ray: Ray) -> Meet
+    requires { ⌜ i * 9 + 8 < length (now points) ⌝ }
+    ensures { λ r. ⌜ r ≡ meetOf ray (triangleAt (now (points .entry)) i) ⌝ }
+{
+    triangle::test(ray, triangle::inner::at(points, i))
+}
+
+// ---- how much light passes
+
+// How much light passes along the ray: the hits by distance, then by place, and the product of their transmissions. The two scratch lists hold
+// the hits on the way.
+pub fn transmittance(
+    points: &[f32],
+    uses: &[u32],
+    kinds: &[u8],
+    numbers: &[f32],
+    ray: Ray,
+    distances: &mut [f32],
+    places: &mut [usize],
+) -> f32
+    requires { ⌜ Sound (sceneOf (now points) (now uses) (now kinds) (now numbers)) ⌝ }
+    requires { ⌜ (length (now uses) ≤ length (now distances)) × (length (now uses) ≤ length (now places)) ⌝ }
+    ensures { λ r. ⌜ r ≡ transmittanceOf (sceneOf (now (points .entry)) (now (uses .entry)) (now (kinds .entry)) (now (numbers .entry))) ray ⌝ }
+{
+    let n = uses.len();
+    let m = collect(points, n, ray, distances, places);
+    product(uses, kinds, numbers, &places[..m])
+}
+
+// Lays the hits among the first n triangles into the scratch lists, in order, and says how many there are.
+fn collect(points: &[f32], n: usize, ray: Ray, distances: &mut [f32], places: &mut [usize]) -> usize
+    requires { ⌜ (n * 9 ≤ length (now points)) × (n ≤ length (now distances)) × (n ≤ length (now places)) ⌝ }
+    ensures { λ r. ⌜ (r ≤ n) × (take r (now (places .exit)) ≡ placesOf (hitsOf (now (points .entry)) ray n)) ⌝ }
+{
+    let mut m = 0;
+    let mut i = 0;
+    while i < n {
+        let next = i + 1;
+        let a = meet_at(points, i, ray);
+        match a {
+            Meet::Miss => {}
+            Meet::Hit(t, _, _) => {
+                add_hit(distances, places, m, t, i);
+                m += 1;
+            }
+        }
+        i = next;
+    }
+    m
+}
+
+// Puts a hit into its place among the first m.
+fn add_hit(distances: &mut [f32], places: &mut [usize], m: usize, t: f32, i: usize)
+    requires { ⌜ (m < length (now distances)) × (m < length (now places)) ⌝ }
+    ensures { λ _. ⌜ paired (take (m + 1) (now (distances .exit))) (take (m + 1) (now (places .exit))) ≡ insertOf (struck t i) (paired (take m (now (distances .entry))) (take m (now (places .entry)))) ⌝ }
+{
+    let j = rank(&distances[..m], &places[..m], t, i);
+    put_distance(distances, j, m, t);
+    put_place(places, j, m, i);
+}
+
+// Where a hit at distance t and place i goes: after each that it does not come before.
+fn rank(distances: &[f32], places: &[usize], t: f32, i: usize) -> usize
+    requires { ⌜ length (now distances) ≡ length (now places) ⌝ }
+    ensures { λ r. ⌜ r ≡ rankOf (struck t i) (paired (now (distances .entry)) (now (places .entry))) ⌝ }
+{
+    let mut j = 0;
+    while j < distances.len() {
+        if comes_before(t, i, distances[j], places[j]) {
+            return j;
+        }
+        j += 1;
+    }
+    j
+}
+
+// By distance, then by place.
+fn comes_before(t: f32, i: usize, s: f32, j: usize) -> bool
+    ensures { λ r. ⌜ r ≡ before (struck t i) (struck s j) ⌝ }
+{
+    if t < s {
+        return true;
+    }
+    if t == s {
+        return i < j;
+    }
+    false
+}
+
+// Puts x at place j among the first m, and carries what stood there up.
+fn put_distance(s: &mut [f32], j: usize, m: usize, x: f32)
+    requires { ⌜ (j ≤ m) × (m < length (now s)) ⌝ }
+    ensures { λ _. ⌜ take (m + 1) (now (s .exit)) ≡ insertAt j x (take m (now (s .entry))) ⌝ }
+{
+    let mut c = x;
+    let mut k = j;
+    while k < m {
+        let y = s[k];
+        s[k] = c;
+        c = y;
+        k += 1;
+    }
+    s[m] = c;
+}
+
+fn put_place(s: &mut [usize], j: usize, m: usize, x: usize)
+    requires { ⌜ (j ≤ m) × (m < length (now s)) ⌝ }
+    ensures { λ _. ⌜ take (m + 1) (now (s .exit)) ≡ insertAt j x (take m (now (s .entry))) ⌝ }
+{
+    let mut c = x;
+    let mut k = j;
+    while k < m {
+        let y = s[k];
+        s[k] = c;
+        c = y;
+        k += 1;
+    }
+    s[m] = c;
+}
+
+// The product of the transmissions at these places, in order: the scan's one use of the materials.
+fn product(uses: &[u32], kinds: &[u8], numbers: &[f32], places: &[usize]) -> f32
+    requires { ⌜ Fitting (now uses) (now kinds) (now numbers) ⌝ }
+    requires { ⌜ ((j : ℕ) → j < length (now places) → getD (now places) j 0 < length (now uses)) ⌝ }
+    ensures { λ r. ⌜ r ≡ passOf (now (uses .entry)) (now (kinds .entry)) (now (numbers .entry)) one32 (now (places .entry)) ⌝ }
+{
+    let mut w = 1.0;
+    let mut j = 0;
+    while j < places.len() {
+        let p = places[j];
+        let k = uses[p] as usize;
+        if kinds[k] == 0 {
+            return 0.0;
+        }
+        w = w * numbers[k * 7 + 6];
+        if w <= FAINT {
+            return 0.0;
+        }
+        j += 1;
+    }
+    w
+}
