@@ -4,10 +4,11 @@ use Prim.Native.Nat.{ℕ, _+_, _*_, _/_, _%_, _≤_}
 use lib.IntN.{pos}
 use lib.Ieee as Ieee
 use lib.Ieee.{Float, binary32, ofInt}
-use Rattle.names.specs.Bits.{half32}
+use Rattle.names.specs.Bits.{lit, half32}
 use Rattle.names.specs.Numbers.{axisLimit}
 use Rattle.vectors.specs.declared.Vec3.{Vec3}
-use Rattle.vectors.specs.Vectors.{vec, addV, subV, mulV, scaleV}
+use Rattle.floats.specs.Choice.{largerOf, smallerOf}
+use Rattle.vectors.specs.Vectors.{vec, addV, mulV, scaleV, lengthV}
 use Rattle.grid.specs.declared.Axes.{Axes}
 use Rattle.grid.specs.declared.Corners.{Corners}
 
@@ -58,3 +59,15 @@ centreFrom low edges x y z = addV (addV low (scaleV edges half32)) (mulV (vec (f
 
 abbrev pub centreOf : Corners → Axes → ℕ → ℕ → ℕ → Vec3
 centreOf c a x y z = centreFrom (c .min) (edgesOf c a) x y z
+
+-- a voxel's diagonal, from its edges
+abbrev pub diagonalOf : Vec3 → Float
+diagonalOf edges = lengthV edges
+
+-- 1e-6, below which the Rust takes no edge; within the limits it never acts
+abbrev pub leastEdge : Float
+leastEdge = lit 0x358637bd
+
+-- the smallest of a voxel's edges
+unfoldable pub smallestEdgeOf : Vec3 → Float
+smallestEdgeOf edges = largerOf (smallerOf (edges .x) (smallerOf (edges .y) (edges .z))) leastEdge

@@ -1,7 +1,7 @@
 // What the crates above compute of a grid that is within the limits.
 ghost use mathlib.Core.Path.{_≡_};
 ghost use Prim.Native.Nat.{_<_, _≤_};
-ghost use Rattle.grid.specs.Grid.{voxels, floatOf, edgesOf, centreFrom, AxesWithin};
+ghost use Rattle.grid.specs.Grid.{voxels, floatOf, edgesOf, centreFrom, smallestEdgeOf, AxesWithin};
 use super::Axes;
 use super::Corners;
 use vectors::Vec3;
@@ -46,4 +46,14 @@ pub fn centre(low: Vec3, edges: Vec3, x: usize, y: usize, z: usize) -> Vec3
         z: float(z),
     };
     vectors::add(start, vectors::mul(steps, edges))
+}
+
+// The smallest of a voxel's edges, at least 1e-6. (A voxel's diagonal is `vectors::length` of its edges.)
+pub fn smallest_edge(edges: Vec3) -> f32
+    ensures { λ r. ⌜ r ≡ smallestEdgeOf edges ⌝ }
+{
+    floats::larger(
+        floats::smaller(edges.x, floats::smaller(edges.y, edges.z)),
+        1.0e-6,
+    )
 }
