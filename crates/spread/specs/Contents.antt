@@ -1,7 +1,7 @@
 -- Voxels laid one after another: how long they are, one voxel's numbers read and replaced; and what the volume holds as a walk goes.
 use mathlib.Core.Path.{_≡_, refl, sym, ap, ap₂, _∙_}
 use mathlib.Core.Bool.{Bool, true, false, cond, _&&_}
-use mathlib.Core.List.{List, _++_, append-assoc}
+use mathlib.Core.List.{List, _++_, append-assoc, append-nil}
 use Prim.Native.Nat.{ℕ, zero, suc, _+_, _-_, _*_, _≤_, _<_}
 use native.Mathlib.Omega.{arith}
 use native.Mathlib.Nat.{add-zero, zero-add, suc-mul, zero-mul}
@@ -27,6 +27,13 @@ module _ {A : Type 0} where
       let e : suc j + k ≡ suc (j + k) = omega arith in
       let g : i + suc j ≡ i + 1 + j = omega arith in
       rw (e, g, append-assoc) (ap (λ (l : List A). f i ++ l) (laid-split f j k (i + 1)))
+
+  -- one voxel more
+  pub laid-next : (f : ℕ → List A) (i : ℕ) → laid f (i + 1) 0 ≡ laid f i 0 ++ f i
+  unfolding laid
+  laid-next f i =
+      let z : 0 + i ≡ i = omega arith in
+      laid-split f i 1 0 ∙ rw z (ap (λ (l : List A). laid f i 0 ++ l) (append-nil (f i)))
 
   module _ (size : ℕ) where
     pub length-laid : (f : ℕ → List A) → ((i : ℕ) → length (f i) ≡ size) → (k i : ℕ) → length (laid f k i) ≡ k * size

@@ -1,0 +1,2 @@
+-- Lists that are written a few numbers at a time.
+mod Stores

@@ -1,0 +1,3 @@
+-- The two ends of a bake.
+pub mod Ends
+pub mod EndsLaws
