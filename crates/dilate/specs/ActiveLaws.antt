@@ -1,20 +1,20 @@
 -- What active means, in both directions: an occupied voxel of the grid lies within 2 on every axis. And the mask has an entry, 0 or 1, for each voxel.
-use mathlib.Core.Path.{_≡_, refl, sym, ap, _∙_}
+use mathlib.Core.Path.{_≡_, refl}
 use mathlib.Core.Bool.{Bool, true, false, cond, _&&_, and-eq-true-iff}
 use mathlib.Core.Logic.{_⊎_, inl, inr}
 use mathlib.Core.List.{List}
 use Prim.Native.Nat.{ℕ, _+_, _≤_, _<_}
 use native.Mathlib.Omega.{arith}
 use native.Mathlib.Nat.{zero-add}
-use lib.Dec.{leb, eqb}
+use lib.Dec.{eqb}
 use lib.ListN.{getD, length}
 use borrow.Author.Tests.{eqb-true, eq-eqb, leb-true, le-leb}
-use Rattle.lists.specs.Fold.{tab, length-tab, getD-tab}
-use Rattle.lists.specs.Any.{any, any-in, any-out}
+use Rattle.lists.specs.Fold.{length-tab, getD-tab}
+use Rattle.lists.specs.Any.{any-in, any-out}
 use Rattle.grid.specs.declared.Axes.{Axes}
 use Rattle.grid.specs.Grid.{voxels, indexOf, xOf, yOf, zOf}
 use Rattle.marks.specs.Marks.{isActive}
-use Rattle.dilate.specs.Active.{reach, within, someVoxel, activeIn, activeEntry, activeOf}
+use Rattle.dilate.specs.Active.{within, activeIn, activeEntry, activeOf}
 
 -- An occupied voxel (i, j, k) of the grid that lies within 2 of (x, y, z) on every axis
 pub record NearOccupied (axes : Axes) (occupied : List ℕ) (x y z : ℕ) : Type 0 where

@@ -1,12 +1,12 @@
 -- The window finds an occupied voxel exactly where one lies within 2 on every axis, so the mask that it fills is the active mask.
-use mathlib.Core.Path.{_≡_, refl, sym, ap, ap₂, _∙_}
+use mathlib.Core.Path.{_≡_, refl, sym, ap, ap₂}
 use mathlib.Core.Bool.{Bool, true, false, cond}
 use mathlib.Core.List.{List, _∷_}
 use Prim.Native.Nat.{ℕ, zero, suc, _+_, _≤_, _<_}
 use native.Mathlib.Omega.{arith}
 use borrow.Author.Tests.{eqb-true, eq-eqb}
 use Rattle.lists.specs.Fold.{tab}
-use Rattle.lists.specs.Any.{any, any-in, any-out}
+use Rattle.lists.specs.Any.{any-in, any-out}
 use Rattle.grid.specs.declared.Axes.{Axes}
 use Rattle.grid.specs.Grid.{voxels, xOf, yOf, zOf}
 use Rattle.grid.specs.GridLaws.{x-within, y-within, z-within}

@@ -1,13 +1,12 @@
 -- What the count of a mask says: at most all voxels, and none exactly where no voxel is active.
-use mathlib.Core.Path.{_≡_, refl, sym, ap, _∙_}
+use mathlib.Core.Path.{_≡_, refl}
 use mathlib.Core.Bool.{Bool, true, false, cond, _||_}
 use mathlib.Core.List.{List}
 use Prim.Native.Nat.{ℕ, zero, suc, _+_, _≤_, _<_}
 use native.Mathlib.Omega.{arith}
-use native.Mathlib.Nat.{zero-add}
 use lib.ListN.{length}
 use Rattle.lists.specs.Fold.{fold}
-use Rattle.lists.specs.Any.{any, any-in, any-out}
+use Rattle.lists.specs.Any.{any, any-in}
 use Rattle.marks.specs.Marks.{isActive, tally, activeCount}
 
 pub bit-most : (b : Bool) → cond {A = ℕ} b 1 0 ≤ 1

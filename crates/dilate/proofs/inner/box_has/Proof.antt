@@ -1,12 +1,9 @@
 -- `dilate::inner::box_has` is the definition's search: as long as none is found, what is left of the planes decides. Assumes nothing.
-use Prim.Native.Nat.{ℕ, _+_, _-_, _*_, _≤_, _<_}
-use mathlib.Core.Path.{_≡_, refl, sym, ap, _∙_}
+use Prim.Native.Nat.{_-_, _*_, _≤_}
+use mathlib.Core.Path.{_≡_, refl, sym, _∙_}
 use native.Mathlib.Omega.{arith}
-use lib.ListN.{length}
-use borrow.Author.Tests.{eq-eqb, ne-eqb}
 use Rattle.lists.specs.Fold.{inside, scaled, factor}
 use Rattle.lists.specs.Any.{any, any-found, any-next, any-end}
-use native.Mathlib.Nat.{mul-le-mul-right}
 use Rattle.dilate.specs.Window.{hasPlane, boxHas}
 use Rattle.dilate.proofs.inner.box_has.Statement.{statement}
 use Rattle.dilate.proofs.inner.box_has.Tie as tie

@@ -1,6 +1,6 @@
 -- `dilate::inner::dilate` is the active mask: the mask that the windows fill is that mask. Assumes nothing.
 use borrow.Author.Needs.{needs}
-use mathlib.Core.Path.{_≡_, sym, _∙_}
+use mathlib.Core.Path.{_∙_}
 use Rattle.dilate.specs.WindowLaws.{window-mask}
 use Rattle.dilate.proofs.inner.dilate.Statement.{statement}
 use Rattle.dilate.proofs.inner.dilate.Tie as tie

@@ -2,8 +2,8 @@
 use borrow.Author.Needs.{needs}
 use native.Mathlib.Omega.{arith}
 use native.Mathlib.Nat.{mod-lt, div-lt-iff-lt-mul}
-use mathlib.Core.Path.{_≡_, refl, sym, ap, _∙_}
-use Prim.Native.Nat.{ℕ, _<_, _*_, _/_}
+use mathlib.Core.Path.{refl, sym, _∙_}
+use Prim.Native.Nat.{_/_}
 use Rattle.dilate.specs.Window.{windowEntry}
 use Rattle.dilate.proofs.inner.entry.Statement.{statement}
 use Rattle.dilate.proofs.inner.entry.Tie as tie

@@ -1,10 +1,8 @@
 -- `dilate::inner::row_has` is the definition's search: as long as none is found, what is left of the cells decides. Assumes nothing.
-use Prim.Native.Nat.{ℕ, _+_, _-_, _*_, _≤_, _<_}
-use mathlib.Core.Path.{_≡_, refl, sym, ap, _∙_}
+use Prim.Native.Nat.{_-_, _≤_}
+use mathlib.Core.Path.{_≡_, refl, sym, _∙_}
 use native.Mathlib.Omega.{arith}
-use lib.ListN.{length}
 use borrow.Author.Tests.{eq-eqb, ne-eqb}
-use Rattle.lists.specs.Fold.{inside, scaled, factor}
 use Rattle.lists.specs.Any.{any, any-found, any-next, any-end}
 use Rattle.dilate.specs.Window.{hasCell, rowHas}
 use Rattle.dilate.proofs.inner.row_has.Statement.{statement}

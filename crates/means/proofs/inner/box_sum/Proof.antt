@@ -1,9 +1,7 @@
 -- `means::inner::box_sum` gives the definition's fold: what is left of the planes, folded over the sum so far, is the whole. Assumes nothing.
-use Prim.Native.Nat.{ℕ, _+_, _-_, _*_, _≤_, _<_}
-use mathlib.Core.Path.{_≡_, refl, sym, ap, _∙_}
+use Prim.Native.Nat.{_-_, _*_, _≤_}
+use mathlib.Core.Path.{_≡_, refl, sym, _∙_}
 use native.Mathlib.Omega.{arith}
-use borrow.Author.Needs.{needs}
-use lib.ListN.{length}
 use native.Mathlib.Nat.{mul-le-mul-right}
 use Rattle.lists.specs.Fold.{fold, fold-step, fold-end, inside, scaled, factor}
 use Rattle.means.specs.Sums.{plusPlane, boxSum}

@@ -1,9 +1,8 @@
 -- `means::inner::copy` fills the list: what is written and what is left of the source is the source. Assumes nothing.
 use native.Mathlib.Omega.{arith}
-use native.Mathlib.Nat.{sub-zero}
 use mathlib.Core.Path.{_≡_, refl, sym, ap, _∙_}
 use mathlib.Core.List.{List, _++_, append-nil}
-use Prim.Native.Nat.{ℕ, _+_, _≤_, _<_, _-_, _*_}
+use Prim.Native.Nat.{_+_, _≤_, _<_, _-_}
 use lib.ListN.{length, take, drop, length-set, drop-of-length-le}
 use lib.Seq.{take-suc-set, take-all, drop-cons, append-snoc}
 use native.Mathlib.Numerals.{add-one}

@@ -1,8 +1,8 @@
 -- `means::inner::mean_at` is the definition: the coordinates of a place in the list lie in the grid. Assumes nothing.
 use borrow.Author.Needs.{needs}
 use native.Mathlib.Omega.{arith}
-use native.Mathlib.Nat.{mod-lt, div-lt-iff-lt-mul, le-of-eq}
-use Prim.Native.Nat.{ℕ, _<_, _*_, _/_}
+use native.Mathlib.Nat.{mod-lt, div-lt-iff-lt-mul}
+use Prim.Native.Nat.{_/_}
 use Rattle.means.specs.Box.{meanAt}
 use Rattle.means.proofs.inner.mean_at.Statement.{statement}
 use Rattle.means.proofs.inner.mean_at.Tie as tie

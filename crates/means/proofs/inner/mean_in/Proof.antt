@@ -2,8 +2,8 @@
 use borrow.Author.Needs.{needs}
 use native.Mathlib.Omega.{arith}
 use native.Mathlib.Nat.{mul-le-mul-right}
-use mathlib.Core.Path.{_≡_, refl, sym, ap, _∙_}
-use Prim.Native.Nat.{ℕ, _≤_}
+use mathlib.Core.Path.{sym}
+use Prim.Native.Nat.{_≤_}
 use Rattle.lists.specs.Fold.{scaled}
 use Rattle.means.specs.BoxLaws.{mean-by-rows}
 use Rattle.means.proofs.inner.mean_in.Statement.{statement}

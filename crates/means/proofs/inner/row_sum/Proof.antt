@@ -1,8 +1,7 @@
 -- `means::inner::row_sum` gives the definition's fold: what is left of the cells, folded over the sum so far, is the whole. Assumes nothing.
-use Prim.Native.Nat.{ℕ, _+_, _-_, _*_, _≤_, _<_}
-use mathlib.Core.Path.{_≡_, refl, sym, ap, _∙_}
+use Prim.Native.Nat.{_+_, _-_, _*_, _≤_, _<_}
+use mathlib.Core.Path.{_≡_, refl, sym, _∙_}
 use native.Mathlib.Omega.{arith}
-use borrow.Author.Needs.{needs}
 use lib.ListN.{length}
 use Rattle.lists.specs.Fold.{fold, fold-step, fold-end, within, factor}
 use Rattle.means.specs.Sums.{plusCell, rowSum}

@@ -1,9 +1,9 @@
 -- `means::inner::square` fills the list: what is written and what the definition gives for the rest is the whole. Assumes nothing.
 use native.Mathlib.Omega.{arith}
 use native.Mathlib.Nat.{sub-zero}
-use mathlib.Core.Path.{_≡_, refl, sym, ap, _∙_}
+use mathlib.Core.Path.{_≡_, refl, sym, _∙_}
 use mathlib.Core.List.{_++_}
-use Prim.Native.Nat.{ℕ, _≤_, _-_}
+use Prim.Native.Nat.{_≤_, _-_}
 use lib.ListN.{length, take, length-set}
 use Rattle.lists.specs.Fold.{tab, tab-step, tab-end}
 use Rattle.means.specs.Box.{squareAt, lightBlurOf}

@@ -1,0 +1,3 @@
+-- The public calls of the two blurs.
+pub mod Blurs
+pub mod BlursLaws

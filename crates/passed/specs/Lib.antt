@@ -1,0 +1,2 @@
+-- What an accepted call knows of its rows.
+pub mod Passed

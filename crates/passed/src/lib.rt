@@ -1,0 +1,1 @@
+// Definitions only: specs/ has what a call that refused nothing knows of its rows.
