@@ -1,0 +1,123 @@
+-- What the answers of the ray calls mean: each contract leaves one answer, an accepted scene's lists fit each other, and good calls are accepted.
+use mathlib.Core.Path.{_≡_, refl, sym, ap, ap₂, _∙_}
+use mathlib.Core.Bool.{Bool, true, false, cond, _||_}
+use mathlib.Core.List.{List, [], _∷_}
+use Prim.Native.Nat.{ℕ, _≤_}
+use native.Mathlib.Omega.{arith}
+use lib.Dec.{eqb}
+use lib.ListN.{length}
+use lib.Ieee.{Float}
+use borrow.Author.Tests.{ltb-false}
+use Rattle.names.specs.Bits.{zero32}
+use Rattle.names.specs.Refusals.{firstOf, unlessRefused}
+use Rattle.names.specs.Scene.{Scene, Sound}
+use Rattle.vectors.specs.declared.Ray.{Ray}
+use Rattle.vectors.specs.declared.Triangle.{Triangle}
+use Rattle.limits.specs.Limits.{tooShort}
+use Rattle.limits.specs.LimitsLaws.{three, sound}
+use Rattle.passed.specs.Passed.{passed}
+use Rattle.triangle.specs.Meet.{meetOf}
+use Rattle.triangle.specs.declared.Meet.{Meet}
+use Rattle.scan.specs.Nearest.{nearestOf}
+use Rattle.scan.specs.declared.Nearest.{Nearest}
+use Rattle.rays.specs.declared.Met.{Met}
+use Rattle.rays.specs.declared.Found.{Found}
+use Rattle.rays.specs.declared.Transmitted.{Transmitted}
+use Rattle.rays.specs.Rays.{Values, refusedValues, metValues, foundValues, meetRefusal, metCase, testValues, metOf, meetValues, MeetAnswered, wrongLists, sceneRows, nearestRefusal, foundCase, scanValues, foundOf, nearestValues, NearestAnswered, wrongScratch, transmittanceRefusal, TransmittanceAnswered}
+
+-- ---- one answer
+
+pub meet-answered-once : (ray : Ray) (triangle : Triangle) (r s : Met) → MeetAnswered ray triangle r → MeetAnswered ray triangle s → r ≡ s
+meet-answered-once ray triangle r s a b = a .answer ∙ sym (b .answer)
+
+pub nearest-answered-once : (scene : Scene) (ray : Ray) (r s : Found) → NearestAnswered scene ray r → NearestAnswered scene ray s → r ≡ s
+nearest-answered-once scene ray r s a b = a .answer ∙ sym (b .answer)
+
+-- the scratch lists are one on a refusal, and their lengths always
+pub record SameTransmitted (r s : Transmitted) (d e : List Float) (p q : List ℕ) : Type 0 where
+  pub answer : r ≡ s
+  pub distances : (r .refusal ≡ 0 → ⊥) → d ≡ e
+  pub places : (r .refusal ≡ 0 → ⊥) → p ≡ q
+  pub distances-long : length d ≡ length e
+  pub places-long : length p ≡ length q
+
+pub transmittance-answered-once : (scene : Scene) (ray : Ray) (ds : List Float) (ps : List ℕ) (r s : Transmitted) (d e : List Float) (p q : List ℕ)
+    → TransmittanceAnswered scene ray ds ps r d p → TransmittanceAnswered scene ray ds ps s e q → SameTransmitted r s d e p q
+transmittance-answered-once scene ray ds ps r s d e p q a b =
+    let f : r .refusal ≡ s .refusal = a .answer ∙ sym (b .answer) in
+    let g : r .transmittance ≡ s .transmittance = a .transmittance ∙ rw f (sym (b .transmittance)) in
+    record {
+      answer = same r s f g;
+      distances = λ n. a .distances-kept n ∙ sym (b .distances-kept (λ z. n (f ∙ z)));
+      places = λ n. a .places-kept n ∙ sym (b .places-kept (λ z. n (f ∙ z)));
+      distances-long = a .distances-long ∙ sym (b .distances-long);
+      places-long = a .places-long ∙ sym (b .places-long);
+    }
+  where
+    same : (x y : Transmitted) → x .refusal ≡ y .refusal → x .transmittance ≡ y .transmittance → x ≡ y
+    same x y h k = ap₂ (λ (n : ℕ) (f : Float). record { refusal = n; transmittance = f }) h k
+
+-- ---- the values of an answer are the paper's
+
+module _ {A : Type 0} (f : A → Values) where
+  over : (k : ℕ) (new old : A) → f (unlessRefused k new old) ≡ unlessRefused k (f new) (f old)
+  unfolding unlessRefused
+  over k new old = by (eqb k 0)
+    where
+      by : (b : Bool) → f (cond b new old) ≡ cond b (f new) (f old)
+      by true = refl
+      by false = refl
+
+met-case-values : (m : Meet) → metValues (metCase m) ≡ testValues m
+unfolding metValues metCase testValues
+met-case-values Meet.Miss = refl
+met-case-values (Meet.Hit t u v) = refl
+
+found-case-values : (n : Nearest) → foundValues (foundCase n) ≡ scanValues n
+unfolding foundValues foundCase scanValues
+found-case-values Nearest.Nothing = refl
+found-case-values (Nearest.At i t u v) = refl
+
+pub meet-answered : (ray : Ray) (triangle : Triangle) (r : Met) → r ≡ metOf ray triangle → MeetAnswered ray triangle r
+unfolding metOf meetValues metValues
+meet-answered ray triangle r e =
+    record {
+      answer = e;
+      values = ap metValues e ∙ over metValues _ _ _ ∙ rw (met-case-values (meetOf ray triangle)) refl;
+    }
+
+pub nearest-answered : (scene : Scene) (ray : Ray) (r : Found) → r ≡ foundOf scene ray → NearestAnswered scene ray r
+unfolding foundOf nearestValues foundValues
+nearest-answered scene ray r e =
+    record {
+      answer = e;
+      values = ap foundValues e ∙ over foundValues _ _ _ ∙ rw (found-case-values (nearestOf scene ray)) refl;
+    }
+
+-- ---- what an accepted call has
+
+scene-sound : (wrong : Bool) (scene : Scene) (ray : Ray) → (wrong ≡ false → wrongLists scene ≡ false) → firstOf (sceneRows wrong scene ray) ≡ 0
+    → (wrong ≡ false) × Sound scene
+scene-sound wrong scene ray w e =
+    let p = passed (sceneRows wrong scene ray) (omega arith, (omega arith, (omega arith, (omega arith, (omega arith, tt))))) e in
+    (p .0, sound _ _ _ _ (w (p .0)) (p .1 .0) (p .1 .1 .1 .0))
+
+pub nearest-sound : (scene : Scene) (ray : Ray) → nearestRefusal scene ray ≡ 0 → Sound scene
+unfolding nearestRefusal
+nearest-sound scene ray e = scene-sound (wrongLists scene) scene ray (λ w. w) e .1
+
+pub record Ready (scene : Scene) (distances places : ℕ) : Type 0 where
+  pub scene-fits : Sound scene
+  pub distances-fit : length (scene .uses) ≤ distances
+  pub places-fit : length (scene .uses) ≤ places
+
+pub transmittance-ready : (scene : Scene) (ray : Ray) (distances : List Float) (places : List ℕ) → transmittanceRefusal scene ray distances places ≡ 0
+    → Ready scene (length distances) (length places)
+unfolding transmittanceRefusal wrongScratch
+transmittance-ready scene ray distances places e =
+    let n = length (scene .uses) in
+    let all : (b : wrongScratch scene (length distances) (length places) ≡ false)
+    → (wrongLists scene ≡ false) × (tooShort (length distances) n ≡ false) × (tooShort (length places) n ≡ false)
+    = three (wrongLists scene) (tooShort (length distances) n) (tooShort (length places) n) .0 in
+    let s = scene-sound (wrongScratch scene (length distances) (length places)) scene ray (λ w. all w .0) e in
+    record { scene-fits = s .1; distances-fit = ltb-false _ _ (all (s .0) .1); places-fit = ltb-false _ _ (all (s .0) .2) }

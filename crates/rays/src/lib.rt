@@ -1,0 +1,154 @@
+// The public calls over rays: the test of one triangle, the nearest hit, and how much light passes. Each tests its input first; a refusal answers
+// its number and writes nothing.
+ghost use mathlib.Core.Path.{_≡_};
+ghost use mathlib.Core.Bool.{_||_};
+ghost use lib.ListN.{length};
+ghost use Rattle.names.specs.Refusals.{firstOf};
+ghost use Rattle.names.specs.Scene.{sceneOf};
+ghost use Rattle.rays.specs.Rays.{meetRefusal, sceneRows, metCase, foundCase, MeetAnswered, NearestAnswered, TransmittanceAnswered};
+use scan::Nearest;
+use triangle::Meet;
+use vectors::Ray;
+use vectors::Triangle;
+
+// What the test of one triangle answers: a refusal's number, a miss, or a hit's distance, u and v.
+pub enum Met {
+    Refused(u32),
+    Miss,
+    Hit(f32, f32, f32),
+}
+
+// What the search for the nearest hit answers: a refusal's number, nothing, or the hit's place, distance, u and v.
+pub enum Found {
+    Refused(u32),
+    Nothing,
+    Hit(usize, f32, f32, f32),
+}
+
+// How much light passes along a ray, from 1 down to 0; +0 on a refusal.
+#[repr(C)]
+pub struct Transmitted {
+    pub refusal: u32,
+    pub transmittance: f32,
+}
+
+// The test of one triangle. Refusals 5 and 8.
+pub fn meet(ray: Ray, triangle: Triangle) -> Met
+    ensures { λ r. ⌜ MeetAnswered ray triangle r ⌝ }
+{
+    let refusal = meet_refusal(ray, triangle);
+    if refusal == 0 {
+        return as_met(triangle::test(ray, triangle));
+    }
+    Met::Refused(refusal)
+}
+
+// The nearest hit among all triangles; among equal distances the one of the highest place. Refusals 3, 4, 5, 6 and 8.
+pub fn nearest(points: &[f32], uses: &[u32], kinds: &[u8], numbers: &[f32], ray: Ray) -> Found
+    ensures { λ r. ⌜ NearestAnswered (sceneOf (now (points .entry)) (now (uses .entry)) (now (kinds .entry)) (now (numbers .entry))) ray r ⌝ }
+{
+    let wrong = limits::inner::wrong_scene(points, uses, kinds, numbers);
+    let refusal = scene_refusal(wrong, points, uses, kinds, numbers, ray);
+    if refusal == 0 {
+        return as_found(scan::inner::nearest(points, uses, kinds, numbers, ray));
+    }
+    Found::Refused(refusal)
+}
+
+// How much light passes along the ray. The two scratch lists, each at least as long as there are triangles, hold the hits on the way; what stands
+// in them afterwards is left open. Refusals 3, 4, 5, 6 and 8.
+pub fn transmittance(
+    points: &[f32],
+    uses: &[u32],
+    kinds: &[u8],
+    numbers: &[f32],
+    ray: Ray,
+    distances: &mut [f32],
+    places: &mut [usize],
+) -> Transmitted
+    ensures { λ r. ⌜ TransmittanceAnswered (sceneOf (now (points .entry)) (now (uses .entry)) (now (kinds .entry)) (now (numbers .entry))) ray (now (distances .entry)) (now (places .entry)) r (now (distances .exit)) (now (places .exit)) ⌝ }
+{
+    let n = uses.len();
+    let scene = limits::inner::wrong_scene(points, uses, kinds, numbers);
+    let wrong = scene | (distances.len() < n) | (places.len() < n);
+    let refusal = scene_refusal(wrong, points, uses, kinds, numbers, ray);
+    if refusal == 0 {
+        let passed = scan::inner::transmittance(
+            points,
+            uses,
+            kinds,
+            numbers,
+            ray,
+            distances,
+            places,
+        );
+        return Transmitted {
+            refusal: 0,
+            transmittance: passed,
+        };
+    }
+    Transmitted {
+        refusal,
+        transmittance: 0.0,
+    }
+}
+
+// 5, 8
+fn meet_refusal(ray: Ray, triangle: Triangle) -> u32
+    ensures { λ r. ⌜ r ≡ meetRefusal ray triangle ⌝ }
+{
+    if limits::inner::bad_triangle(triangle) {
+        return 5;
+    }
+    if limits::inner::bad_ray(ray) {
+        return 8;
+    }
+    0
+}
+
+// 3, 4, 5, 6, 8, where `wrong` says that a length is.
+fn scene_refusal(
+    wrong: bool,
+    points: &[f32],
+    uses: &[u32],
+    kinds: &[u8],
+    numbers: &[f32],
+    ray: Ray,
+) -> u32
+    ensures { λ r. ⌜ r ≡ firstOf (sceneRows wrong (sceneOf (now (points .entry)) (now (uses .entry)) (now (kinds .entry)) (now (numbers .entry))) ray) ⌝ }
+{
+    if wrong {
+        return 3;
+    }
+    if limits::inner::too_many(uses.len(), kinds.len()) {
+        return 4;
+    }
+    if limits::inner::bad_points(points) {
+        return 5;
+    }
+    if limits::inner::bad_materials(uses, kinds, numbers) {
+        return 6;
+    }
+    if limits::inner::bad_ray(ray) {
+        return 8;
+    }
+    0
+}
+
+fn as_met(m: Meet) -> Met
+    ensures { λ r. ⌜ r ≡ metCase m ⌝ }
+{
+    match m {
+        Meet::Miss => Met::Miss,
+        Meet::Hit(t, u, v) => Met::Hit(t, u, v),
+    }
+}
+
+fn as_found(n: Nearest) -> Found
+    ensures { λ r. ⌜ r ≡ foundCase n ⌝ }
+{
+    match n {
+        Nearest::Nothing => Found::Nothing,
+        Nearest::At(i, t, u, v) => Found::Hit(i, t, u, v),
+    }
+}
