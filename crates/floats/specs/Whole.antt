@@ -1,8 +1,10 @@
--- Floor and ceiling, as IEEE 754's roundToIntegralTowardNegative and roundToIntegralTowardPositive. Definitions only.
+-- Floor and ceiling, as IEEE 754's roundToIntegralTowardNegative and roundToIntegralTowardPositive; and a number as an integer. Definitions only.
+use mathlib.Core.Path.{_≡_}
 use Prim.Native.Nat.{ℕ, _+_, _*_, _/_, _%_}
 use mathlib.Core.Bool.{Bool, true, false, cond}
 use lib.Dec.{eqb}
-use lib.Ieee.{Float, nan, inf, fin, up, down, unlike, binary32, round}
+use lib.Ieee.{Float, nan, inf, fin, up, down, unlike, binary32, round, lt}
+use Rattle.names.specs.Bits.{lit, zero32}
 
 -- The whole number next to a / c: the whole part, or where `away` is true and a / c is not whole, one more
 unfoldable pub step : Bool → ℕ → ℕ → ℕ
@@ -21,3 +23,17 @@ floorOf x = toward false x
 
 abbrev pub ceilingOf : Float → Float
 ceilingOf x = toward true x
+
+-- ---- a number as an integer
+
+-- the whole part of x's size, and 0 of NaN and of an infinity
+unfoldable pub wholeOf : Float → ℕ
+wholeOf nan = 0
+wholeOf (inf s) = 0
+wholeOf (fin s m e) = m * up e / down e
+
+-- x is a whole number, from 0 up (−0 too) and below 65,536
+pub record SmallWhole (x : Float) : Type 0 where
+  pub whole : floorOf x ≡ x
+  pub least : lt x zero32 ≡ false
+  pub most : lt x (lit 0x47800000) ≡ true

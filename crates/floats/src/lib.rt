@@ -7,6 +7,7 @@ ghost use Rattle.floats.specs.Patterns.{onBits, onBoth};
 ghost use Rattle.floats.specs.Root.{rootOf};
 ghost use Rattle.floats.specs.Whole.{floorOf, ceilingOf};
 
+pub mod inner; // inner.rt: what the crates above call
 mod guesses; // guesses.rt: the table behind a root's first guess
 mod roots; // roots.rt: a root's digits
 mod wholes; // wholes.rt: the digits of a whole number
