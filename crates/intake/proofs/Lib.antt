@@ -1,0 +1,2 @@
+-- What row 3 reads of the lists.
+mod Lists

@@ -1,0 +1,110 @@
+-- What a bake is handed, and when it is refused: rows 1 to 7, 9, 10 and 13 in that order. The active mask and the lights are tested always, the
+-- volume's coefficients exactly when progress lies strictly between 0 and the voxel count, the contents of scratch never. Assumes nothing.
+use mathlib.Core.Bool.{Bool, _&&_, _||_}
+use mathlib.Core.List.{List, [], _∷_}
+use Prim.Native.Nat.{ℕ, _*_}
+use lib.Dec.{ltb}
+use lib.ListN.{length}
+use lib.Ieee.{Float}
+use Rattle.names.specs.Refusals.{Row, row, firstOf}
+use Rattle.names.specs.Scene.{Scene}
+use Rattle.spread.specs.Spread.{Stage}
+use Rattle.grid.specs.declared.Axes.{Axes}
+use Rattle.grid.specs.declared.Corners.{Corners}
+use Rattle.grid.specs.Grid.{voxels}
+use Rattle.limits.specs.declared.Light.{Light}
+use Rattle.limits.specs.declared.Ambient.{Ambient}
+use Rattle.limits.specs.Limits.{badAxes, badGrid, wrongLength, tooShort, wrongScene, tooMany, badPoints, badMaterials, badLight, badAmbient, badSky, pastCount, belowCost, badMask, badLights, badCoefficients}
+
+-- what stays the same from call to call
+pub record BakeInput : Type 0 where
+  pub axes : Axes
+  pub corners : Corners
+  pub scene : Scene
+  pub light : Light
+  pub ambient : Ambient
+  -- a colour for each place of the table of directions
+  pub sky : List Float
+  -- one entry a voxel, and one light
+  pub active : List ℕ
+  pub lights : List Float
+  -- how long the two lists of hit scratch are
+  pub distances : ℕ
+  pub places : ℕ
+
+abbrev pub inputOf : Axes → Corners → Scene → Light → Ambient → List Float → List ℕ → List Float → ℕ → ℕ → BakeInput
+inputOf axes corners scene light ambient sky active lights distances places =
+    record {
+      axes = axes;
+      corners = corners;
+      scene = scene;
+      light = light;
+      ambient = ambient;
+      sky = sky;
+      active = active;
+      lights = lights;
+      distances = distances;
+      places = places;
+    }
+
+-- nine sets of 64 directions, three numbers each
+abbrev pub skyNumbers : ℕ
+skyNumbers = 1728
+
+-- the numbers of a voxel in volume and scratch: four coefficients, each a colour and a fourth place
+abbrev pub voxelNumbers : ℕ
+voxelNumbers = 16
+
+-- 3: a lent list of the wrong length, by the lengths: of n voxels and t triangles
+unfoldable pub wrongLengths : ℕ → ℕ → ℕ → ℕ → ℕ → ℕ → ℕ → ℕ → ℕ → Bool
+wrongLengths n t sky active lights volume scratch distances places =
+    (wrongLength sky skyNumbers || wrongLength active n || wrongLength lights n)
+    || (wrongLength volume (n * voxelNumbers) || wrongLength scratch (n * voxelNumbers))
+    || tooShort distances t
+    || tooShort places t
+
+-- 7: bad light, ambient or sky number
+unfoldable pub badLighting : Light → Ambient → List Float → Bool
+badLighting light ambient sky = badLight light || badAmbient ambient || badSky sky
+
+-- progress strictly between 0 and the count n
+abbrev pub underWay : ℕ → ℕ → Bool
+underWay progress n = ltb 0 progress && ltb progress n
+
+-- 13: mask entry not 0 or 1; light or coefficient not finite or beyond ±2^64
+unfoldable pub badVolume : List Float → ℕ → ℕ → Bool
+badVolume volume progress n = underWay progress n && badCoefficients volume
+
+unfoldable pub badContents : List ℕ → List Float → List Float → ℕ → ℕ → Bool
+badContents active lights volume progress n = badMask active || badLights lights || badVolume volume progress n
+
+module _ (b : BakeInput) where
+  abbrev pub voxelCount : ℕ
+  voxelCount = voxels (b .axes)
+
+  abbrev pub triangleCount : ℕ
+  triangleCount = length (b .scene .uses)
+
+  unfoldable pub wrongLists : Stage Float → Bool
+  wrongLists s =
+      wrongScene (b .scene .points) (b .scene .uses) (b .scene .kinds) (b .scene .numbers)
+      || wrongLengths voxelCount triangleCount (length (b .sky)) (length (b .active)) (length (b .lights)) (length (s .volume)) (length (s .scratch))
+      (b .distances) (b .places)
+
+  -- a call with this allowance, at this stage
+  unfoldable pub bakeRows : Stage Float → ℕ → List Row
+  bakeRows s allowance =
+      row 1 (badAxes (b .axes))
+      ∷ row 2 (badGrid (b .corners) (b .axes))
+      ∷ row 3 (wrongLists s)
+      ∷ row 4 (tooMany triangleCount (length (b .scene .kinds)))
+      ∷ row 5 (badPoints (b .scene .points))
+      ∷ row 6 (badMaterials (b .scene .uses) (b .scene .kinds) (b .scene .numbers))
+      ∷ row 7 (badLighting (b .light) (b .ambient) (b .sky))
+      ∷ row 9 (pastCount (s .progress) voxelCount)
+      ∷ row 10 (belowCost allowance)
+      ∷ row 13 (badContents (b .active) (b .lights) (s .volume) (s .progress) voxelCount)
+      ∷ []
+
+  unfoldable pub bakeRefusal : Stage Float → ℕ → ℕ
+  bakeRefusal s allowance = firstOf (bakeRows s allowance)

@@ -1,0 +1,148 @@
+-- What a refusal of the bake means, what stands once none is given, and when a later call at another stage is given none.
+use mathlib.Core.Path.{_≡_, refl, sym, ap, _∙_}
+use mathlib.Core.Bool.{Bool, true, false, cond, not, _&&_, _||_}
+use mathlib.Core.Logic.{_↔_}
+use mathlib.Core.List.{List, [], _∷_}
+use Prim.Native.Nat.{ℕ, _*_, _<_, _≤_}
+use native.Mathlib.Omega.{arith}
+use lib.Dec.{eqb}
+use lib.ListN.{length}
+use lib.Ieee.{Float}
+use borrow.Author.Tests.{ltb-false, le-ltb, eqb-true, not-false}
+use Rattle.names.specs.Numbers.{voxelCost}
+use Rattle.names.specs.Refusals.{Row, row, firstOf, FirstIs, NoneHolds, none, later, Numbered, first-given, first-found, none-given, none-found}
+use Rattle.names.specs.Scene.{Sound}
+use Rattle.spread.specs.Spread.{Stage}
+use Rattle.grid.specs.Grid.{AxesWithin}
+use Rattle.limits.specs.Limits.{badAxes, badGrid, wrongLength, tooShort, wrongScene, tooMany, badPoints, badMaterials, pastCount, belowCost, badMask, badLights}
+use Rattle.limits.specs.LimitsLaws.{either, three, axes-row, sound}
+use Rattle.intake.specs.Intake.{BakeInput, skyNumbers, voxelNumbers, voxelCount, triangleCount, wrongLengths, wrongLists, badLighting, badVolume, badContents, bakeRows, bakeRefusal}
+
+-- no row holds of a call at the stage s with the allowance a
+pub record Passed (b : BakeInput) (s : Stage Float) (a : ℕ) : Type 0 where
+  pub axes : badAxes (b .axes) ≡ false
+  pub grid : badGrid (b .corners) (b .axes) ≡ false
+  pub lists : wrongLists b s ≡ false
+  pub few : tooMany (triangleCount b) (length (b .scene .kinds)) ≡ false
+  pub points : badPoints (b .scene .points) ≡ false
+  pub materials : badMaterials (b .scene .uses) (b .scene .kinds) (b .scene .numbers) ≡ false
+  pub lighting : badLighting (b .light) (b .ambient) (b .sky) ≡ false
+  pub progress : pastCount (s .progress) (voxelCount b) ≡ false
+  pub allowance : belowCost a ≡ false
+  pub contents : badContents (b .active) (b .lights) (s .volume) (s .progress) (voxelCount b) ≡ false
+
+-- what the code may count on then
+pub record Fits (b : BakeInput) (s : Stage Float) (a : ℕ) : Type 0 where
+  pub axes : AxesWithin (b .axes)
+  pub scene : Sound (b .scene)
+  pub sky : length (b .sky) ≡ skyNumbers
+  pub active : length (b .active) ≡ voxelCount b
+  pub lights : length (b .lights) ≡ voxelCount b
+  pub volume : length (s .volume) ≡ voxelCount b * voxelNumbers
+  pub scratch : length (s .scratch) ≡ voxelCount b * voxelNumbers
+  pub distances : triangleCount b ≤ b .distances
+  pub places : triangleCount b ≤ b .places
+  pub progress : s .progress ≤ voxelCount b
+  pub allowance : voxelCost ≤ a
+
+module _ (b : BakeInput) (s : Stage Float) (a : ℕ) where
+  -- ---- a number k is answered exactly when row k holds and none before it does
+
+  pub refusal-given : (k : ℕ) → 0 < k → (bakeRefusal b s a ≡ k) ↔ FirstIs k (bakeRows b s a)
+  unfolding bakeRefusal
+  refusal-given k h = (first-found k (bakeRows b s a) h, first-given)
+
+  -- ---- and 0 exactly when none does
+
+  passes : {n : ℕ} {t : Bool} {rows : List Row} → NoneHolds (row n t ∷ rows) → (t ≡ false) × NoneHolds rows
+  passes (later h) = (refl, h)
+
+  numbered : Numbered (bakeRows b s a)
+  unfolding bakeRows
+  numbered = omega arith
+
+  pub none-refused : (bakeRefusal b s a ≡ 0) ↔ Passed b s a
+  unfolding bakeRefusal bakeRows
+  none-refused = (λ e. out (none-found (bakeRows b s a) numbered e), back)
+    where
+      back : Passed b s a → firstOf (bakeRows b s a) ≡ 0
+      back p =
+          rw (p .axes, p .grid, p .lists, p .few, p .points, p .materials, p .lighting, p .progress, p .allowance, p .contents)
+          (none-given (later (later (later (later (later (later (later (later (later (later none)))))))))))
+
+      out : NoneHolds (bakeRows b s a) → Passed b s a
+      out h =
+          let r₁ = passes h in
+          let r₂ = passes (r₁ .1) in
+          let r₃ = passes (r₂ .1) in
+          let r₄ = passes (r₃ .1) in
+          let r₅ = passes (r₄ .1) in
+          let r₆ = passes (r₅ .1) in
+          let r₇ = passes (r₆ .1) in
+          let r₉ = passes (r₇ .1) in
+          let r₁₀ = passes (r₉ .1) in
+          let r₁₃ = passes (r₁₀ .1) in
+          record {
+            axes = r₁ .0;
+            grid = r₂ .0;
+            lists = r₃ .0;
+            few = r₄ .0;
+            points = r₅ .0;
+            materials = r₆ .0;
+            lighting = r₇ .0;
+            progress = r₉ .0;
+            allowance = r₁₀ .0;
+            contents = r₁₃ .0;
+          }
+
+  -- ---- what stands then
+
+  exactly : (x y : ℕ) → wrongLength x y ≡ false → x ≡ y
+  exactly x y e = eqb-true x y (not-false _ e)
+
+  pub fits : Passed b s a → Fits b s a
+  unfolding wrongLists wrongLengths
+  fits p =
+      let l = either _ _ .0 (p .lists) in
+      let places = either _ _ .0 (l .1) in
+      let distances = either _ _ .0 (places .0) in
+      let lengths = either _ _ .0 (distances .0) in
+      let one = three _ _ _ .0 (lengths .0) in
+      let sixteen = either _ _ .0 (lengths .1) in
+      record {
+        axes = axes-row (b .axes) .0 (p .axes);
+        scene = sound (b .scene .points) (b .scene .uses) (b .scene .kinds) (b .scene .numbers) (l .0) (p .few) (p .materials);
+        sky = exactly _ _ (one .0);
+        active = exactly _ _ (one .1);
+        lights = exactly _ _ (one .2);
+        volume = exactly _ _ (sixteen .0);
+        scratch = exactly _ _ (sixteen .1);
+        distances = ltb-false _ _ (distances .1);
+        places = ltb-false _ _ (places .1);
+        progress = ltb-false _ _ (p .progress);
+        allowance = ltb-false _ _ (p .allowance);
+      }
+
+  -- ---- a later call
+
+  -- at a stage whose lists are as long, whose progress lies within the count and whose volume holds good coefficients
+  pub still-passed : (t : Stage Float) (c : ℕ) → Passed b s a → length (t .volume) ≡ length (s .volume) → length (t .scratch) ≡ length (s .scratch)
+      → t .progress ≤ voxelCount b
+      → voxelCost ≤ c
+      → badVolume (t .volume) (t .progress) (voxelCount b) ≡ false
+      → Passed b t c
+  unfolding wrongLists badContents
+  still-passed t c p v x q h g =
+      let k = three (badMask (b .active)) (badLights (b .lights)) _ .0 (p .contents) in
+      record {
+        axes = p .axes;
+        grid = p .grid;
+        lists = rw (v, x) (p .lists);
+        few = p .few;
+        points = p .points;
+        materials = p .materials;
+        lighting = p .lighting;
+        progress = le-ltb _ _ q;
+        allowance = le-ltb _ _ h;
+        contents = three (badMask (b .active)) (badLights (b .lights)) _ .1 (k .0, k .1, g);
+      }

@@ -1,0 +1,42 @@
+-- A good input: a grid of 3×1×1 voxels, all active, no triangles. It is accepted at an allowance of 384 rays, and refused 10 at 383.
+use mathlib.Core.Path.{_≡_, refl}
+use mathlib.Core.List.{List, [], _∷_}
+use Prim.Native.Nat.{ℕ}
+use lib.ListN.{replicate}
+use lib.Ieee as Ieee
+use lib.Ieee.{Float, ofBits, ofInt}
+use Rattle.names.specs.Bits.{lit, zero32, one32}
+use Rattle.names.specs.Refusals.{firstOf}
+use Rattle.names.specs.Scene.{sceneOf}
+use Rattle.spread.specs.Spread.{Stage, stage}
+use Rattle.vectors.specs.Vectors.{vec, dotV}
+use Rattle.grid.specs.Grid.{edgesOf}
+use Rattle.limits.specs.Some.{some}
+use Rattle.limits.specs.Limits.{within, upTo, outsideV, badAxes, badCorners, badEdges, wrongShare, wrongScene, tooMany, badPoints, badKinds, badFrom, badUses, badMaterials, badDirection, badLight, badAmbient, badSky, badMask, badLights, badCoefficients}
+use Rattle.intake.specs.Intake.{BakeInput, inputOf, wrongLengths, wrongLists, badLighting, badVolume, badContents, bakeRows, bakeRefusal}
+
+abbrev pub three : BakeInput
+three =
+    inputOf (record { width = 3; height = 1; depth = 1 })
+    (record { min = vec zero32 zero32 zero32; max = vec (lit 0x40400000) one32 one32 })
+    (sceneOf [] [] [] [])
+    (record { direction = vec zero32 zero32 one32; colour = vec one32 one32 one32 })
+    (record {
+      c0 = vec one32 one32 one32;
+      c1 = vec zero32 zero32 zero32;
+      c2 = vec zero32 zero32 zero32;
+      c3 = vec zero32 zero32 zero32;
+    })
+    (replicate 1728 one32)
+    (1 ∷ 1 ∷ 1 ∷ [])
+    (one32 ∷ one32 ∷ one32 ∷ [])
+    0
+    0
+
+-- before the first call; what the lists hold is not read
+abbrev pub begun : Stage Float
+begun = stage 0 (replicate 48 zero32) (replicate 48 zero32)
+
+pub three-accepted : (bakeRefusal three begun 384 ≡ 0) × (bakeRefusal three begun 383 ≡ 10)
+unfolding bakeRefusal bakeRows firstOf some within upTo outsideV badAxes badCorners badEdges wrongShare wrongScene tooMany badPoints badKinds badFrom badUses badMaterials badDirection badLight badAmbient badSky badMask badLights badCoefficients wrongLengths wrongLists badLighting badVolume badContents edgesOf dotV ofBits ofInt Ieee.add Ieee.sub Ieee.mul Ieee.div Ieee.neg Ieee.le Ieee.lt Ieee.eq
+three-accepted = (refl, refl)

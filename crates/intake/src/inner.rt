@@ -1,0 +1,144 @@
+// The rows that a bake tests, in their order.
+ghost use mathlib.Core.Path.{_≡_};
+ghost use Prim.Native.Nat.{_≤_};
+ghost use Rattle.names.specs.Numbers.{voxelLimit};
+ghost use Rattle.names.specs.Scene.{sceneOf};
+ghost use Rattle.spread.specs.Spread.{stage};
+ghost use Rattle.intake.specs.Intake.{inputOf, wrongLengths, badLighting, badVolume, badContents, bakeRefusal};
+use grid::Axes;
+use grid::Corners;
+use limits::Ambient;
+use limits::Light;
+
+// "10: allowance below 384"
+const VOXEL_COST: u64 = 384;
+// Nine sets of 64 directions, three numbers each.
+const SKY_NUMBERS: usize = 1728;
+
+// The number of the first row that holds, 0 where none does.
+pub fn judge(
+    axes: Axes,
+    corners: Corners,
+    points: &[f32],
+    uses: &[u32],
+    kinds: &[u8],
+    numbers: &[f32],
+    light: Light,
+    ambient: Ambient,
+    sky: &[f32],
+    active: &[u8],
+    lights: &[f32],
+    volume: &[f32],
+    scratch: &[f32],
+    distances: usize,
+    places: usize,
+    progress: usize,
+    allowance: u64,
+) -> u32
+    ensures { λ r. ⌜ r ≡ bakeRefusal
+        (inputOf axes corners (sceneOf (now (points .entry)) (now (uses .entry)) (now (kinds .entry)) (now (numbers .entry)))
+        light ambient (now (sky .entry)) (now (active .entry)) (now (lights .entry)) distances places)
+        (stage progress (now (volume .entry)) (now (scratch .entry))) allowance ⌝ }
+{
+    if limits::inner::bad_axes(axes) {
+        return 1;
+    }
+    if limits::inner::bad_grid(corners, axes) {
+        return 2;
+    }
+    let n = grid::inner::voxel_count(axes);
+    let scene = limits::inner::wrong_scene(points, uses, kinds, numbers);
+    let lengths = wrong_lengths(
+        n,
+        uses.len(),
+        sky.len(),
+        active.len(),
+        lights.len(),
+        volume.len(),
+        scratch.len(),
+        distances,
+        places,
+    );
+    if scene | lengths {
+        return 3;
+    }
+    if limits::inner::too_many(uses.len(), kinds.len()) {
+        return 4;
+    }
+    if limits::inner::bad_points(points) {
+        return 5;
+    }
+    if limits::inner::bad_materials(uses, kinds, numbers) {
+        return 6;
+    }
+    if bad_lighting(light, ambient, sky) {
+        return 7;
+    }
+    if n < progress {
+        return 9;
+    }
+    if allowance < VOXEL_COST {
+        return 10;
+    }
+    if bad_contents(active, lights, volume, progress, n) {
+        return 13;
+    }
+    0
+}
+
+// ---- 3, of n voxels and t triangles
+
+fn wrong_lengths(
+    n: usize,
+    t: usize,
+    sky: usize,
+    active: usize,
+    lights: usize,
+    volume: usize,
+    scratch: usize,
+    distances: usize,
+    places: usize,
+) -> bool
+    requires { ⌜ n ≤ voxelLimit ⌝ }
+    ensures { λ r. ⌜ r ≡ wrongLengths n t sky active lights volume scratch distances places ⌝ }
+{
+    let all = n * 16;
+    let one = (sky != SKY_NUMBERS) | (active != n) | (lights != n);
+    let sixteen = (volume != all) | (scratch != all);
+    one | sixteen | (distances < t) | (places < t)
+}
+
+// ---- 7
+
+fn bad_lighting(light: Light, ambient: Ambient, sky: &[f32]) -> bool
+    ensures { λ r. ⌜ r ≡ badLighting light ambient (now (sky .entry)) ⌝ }
+{
+    let a = limits::inner::bad_light(light);
+    let b = limits::inner::bad_ambient(ambient);
+    let c = limits::inner::bad_sky(sky);
+    a | b | c
+}
+
+// ---- 13
+
+// The active mask and the lights always; the volume's coefficients where the bake is under way.
+fn bad_contents(active: &[u8], lights: &[f32], volume: &[f32], progress: usize, n: usize) -> bool
+    ensures { λ r. ⌜ r ≡ badContents (now (active .entry)) (now (lights .entry)) (now (volume .entry)) progress n ⌝ }
+{
+    let a = limits::inner::bad_mask(active);
+    let b = limits::inner::bad_lights(lights);
+    let c = bad_volume(volume, progress, n);
+    a | b | c
+}
+
+fn bad_volume(volume: &[f32], progress: usize, n: usize) -> bool
+    ensures { λ r. ⌜ r ≡ badVolume (now (volume .entry)) progress n ⌝ }
+{
+    if progress == 0 {
+        return false;
+    }
+    if progress < n {
+        return limits::inner::bad_coefficients(volume);
+    }
+    false
+}

@@ -1,0 +1,2 @@
+// What a bake is handed, and which of it is refused.
+pub mod inner;
