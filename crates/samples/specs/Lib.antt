@@ -1,0 +1,4 @@
+-- The samples of a triangle, and the cell that each falls into.
+pub mod Samples
+pub mod CastLaws
+pub mod SamplesLaws

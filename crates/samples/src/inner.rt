@@ -1,0 +1,154 @@
+// How many samples a triangle has, where they lie, and into which voxel each falls.
+ghost use mathlib.Core.Path.{_≡_};
+ghost use Prim.Native.Nat.{_<_, _≤_, min};
+ghost use Rattle.grid.specs.Grid.{AxesWithin};
+ghost use Rattle.samples.specs.Samples.{smallestEdgeOf, targetOf, countOf, sampleCount, sideOf, shareOf, pointOf, cellOn, indexWithin, cellOf, sampleCell};
+use grid::Axes;
+use vectors::Triangle;
+use vectors::Vec3;
+
+// The smallest edge of a voxel is taken as no less.
+const LEAST_EDGE: f32 = 1.0e-6;
+// "clamped to 1..4096"
+const MOST_SAMPLES: usize = 4096;
+
+const MOST_SAMPLES_FLOAT: f32 = 4096.0;
+// 2^32: whatever is not below it lies past every axis
+const FAR: f32 = 4294967296.0;
+
+pub fn smallest_edge(edges: Vec3) -> f32
+    ensures { λ r. ⌜ r ≡ smallestEdgeOf edges ⌝ }
+{
+    let least = floats::smaller(edges.x, floats::smaller(edges.y, edges.z));
+    floats::larger(least, LEAST_EDGE)
+}
+
+// How many samples a triangle has over an edge of e.
+pub fn sample_count(t: Triangle, e: f32) -> usize
+    ensures { λ r. ⌜ r ≡ sampleCount t e ⌝ }
+{
+    count(target(t, e))
+}
+
+// Area over the edge squared, times 2, ceiling.
+fn target(t: Triangle, e: f32) -> f32
+    ensures { λ r. ⌜ r ≡ targetOf t e ⌝ }
+{
+    let cross = vectors::cross(vectors::sub(t.p1, t.p0), vectors::sub(t.p2, t.p0));
+    let area = 0.5 * vectors::length(cross);
+    floats::ceiling(area / (e * e) * 2.0)
+}
+
+// A number clamped to 1..4096, as a whole number.
+fn count(target: f32) -> usize
+    ensures { λ r. ⌜ r ≡ countOf target ⌝ }
+{
+    if 1.0 < target {
+        if target < MOST_SAMPLES_FLOAT {
+            return std::num::truncating_f32_to_u64(target) as usize;
+        }
+        return MOST_SAMPLES;
+    }
+    1
+}
+
+// The least n with n·n at least s.
+pub fn side(s: usize) -> usize
+    requires { ⌜ s ≤ 4096 ⌝ }
+    ensures { λ r. ⌜ r ≡ sideOf s ⌝ }
+{
+    let mut n = 0;
+    while n * n < s {
+        n += 1;
+    }
+    n
+}
+
+// The voxel into which sample (iu, iv) of n a side falls; the number of voxels where it is skipped or falls outside the grid.
+pub fn sample_cell(
+    axes: Axes,
+    low: Vec3,
+    edges: Vec3,
+    t: Triangle,
+    n: usize,
+    iu: usize,
+    iv: usize,
+) -> usize
+    requires { ⌜ AxesWithin axes × (n < 65536) × (iu < 65536) × (iv < 65536) ⌝ }
+    ensures { λ r. ⌜ r ≡ sampleCell axes low edges t n iu iv ⌝ }
+{
+    let u = share(iu, n);
+    let v = share(iv, n);
+    let w = 1.0 - u - v;
+    if w < 0.0 {
+        return grid::inner::voxel_count(axes);
+    }
+    cell(axes, low, edges, point(t, u, v, w))
+}
+
+fn share(i: usize, n: usize) -> f32
+    requires { ⌜ (i < 65536) × (n < 65536) ⌝ }
+    ensures { λ r. ⌜ r ≡ shareOf i n ⌝ }
+{
+    (grid::inner::float(i) + 0.5) / grid::inner::float(n)
+}
+
+fn point(t: Triangle, u: f32, v: f32, w: f32) -> Vec3
+    ensures { λ r. ⌜ r ≡ pointOf t u v w ⌝ }
+{
+    let a = vectors::scale(t.p0, w);
+    let b = vectors::scale(t.p1, u);
+    let c = vectors::scale(t.p2, v);
+    vectors::add(vectors::add(a, b), c)
+}
+
+// The voxel of a point; the number of voxels where it lies outside the grid.
+fn cell(axes: Axes, low: Vec3, edges: Vec3, p: Vec3) -> usize
+    requires { ⌜ AxesWithin axes ⌝ }
+    ensures { λ r. ⌜ r ≡ cellOf axes low edges p ⌝ }
+{
+    let x = cell_on((p.x - low.x) / edges.x, axes.width);
+    let y = cell_on((p.y - low.y) / edges.y, axes.height);
+    let z = cell_on((p.z - low.z) / edges.z, axes.depth);
+    index_within(axes, x, y, z)
+}
+
+fn index_within(axes: Axes, x: usize, y: usize, z: usize) -> usize
+    requires { ⌜ AxesWithin axes ⌝ }
+    ensures { λ r. ⌜ r ≡ indexWithin axes x y z ⌝ }
+{
+    let n = grid::inner::voxel_count(axes);
+    if axes.width <= x {
+        return n;
+    }
+    if axes.height <= y {
+        return n;
+    }
+    if axes.depth <= z {
+        return n;
+    }
+    (z * axes.height + y) * axes.width + x
+}
+
+// The floored cell on an axis of n, or n where that lies outside.
+fn cell_on(f: f32, n: usize) -> usize
+    requires { ⌜ n ≤ 4294967296 ⌝ }
+    ensures { λ r. ⌜ r ≡ cellOn f n ⌝ }
+{
+    if 0.0 <= f {
+        if f < FAR {
+            return least(std::num::truncating_f32_to_u64(f) as usize, n);
+        }
+        return n;
+    }
+    n
+}
+
+fn least(a: usize, b: usize) -> usize
+    ensures { λ r. ⌜ r ≡ min a b ⌝ }
+{
+    if a <= b {
+        return a;
+    }
+    b
+}
