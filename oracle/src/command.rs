@@ -1,0 +1,228 @@
+//! The commands. Everything that can be wrong with their words or files is said in one line and ends with status 2.
+use crate::gi;
+use crate::items::{self, Item, MODULES};
+use crate::scene::recorded_bits;
+use crate::watch;
+use crate::worlds::{world, FAMILIES};
+use std::fs;
+use std::io::{self, Write};
+use std::process::ExitCode;
+use std::time::Instant;
+
+const USAGE: &str = "usage: oracle COMMAND ..
+  directions                    the table as the Rust's own function gives it here, against the recorded one
+  families                      the corners that a seed reaches (seed modulo their number)
+  scene SEED                    the seeded scene, as text
+  answer FILE                   every answer for a scene of that text ('-': standard input)
+  rays FILE                     every ray that the sun pass and the bake fire, one a line
+  coverage COUNT                runs seeds 0..COUNT through every module; fails where a branch is never reached
+  stream MODULE FIRST COUNT     the records of seeds FIRST.. for a module's program, on standard output
+  bad MODULE FIRST COUNT        the same for bad inputs
+  record FOLDER                 writes each module's recorded answers to FOLDER/replay_MODULE/stdin
+  compare FOLDER                makes them again and compares
+  count FIRST COUNT             how many scenes, triangles and rays those seeds hold
+  time SEED                     bakes a seeded scene and says how fast
+  one MODULE SEED PLACE         a single record of a stream, by its place, with what it holds as text
+  shrink MODULE SEED PLACE CMD..  the smallest record that CMD still answers otherwise than the oracle
+MODULE is rays, masks, blurs, sun, bake, lookup or fired.";
+
+pub fn main() -> ExitCode {
+    let words: Vec<String> = std::env::args().skip(1).collect();
+    match run(&words) {
+        Ok(good) => {
+            if good {
+                ExitCode::SUCCESS
+            } else {
+                ExitCode::FAILURE
+            }
+        }
+        Err(text) => {
+            eprintln!("oracle: {text}");
+            ExitCode::from(2)
+        }
+    }
+}
+
+fn number(text: &str, what: &str) -> Result<u64, String> {
+    text.parse().map_err(|_| format!("{what} is to be a whole number, not '{text}'"))
+}
+
+fn module(text: &str) -> Result<&str, String> {
+    if MODULES.contains(&text) {
+        Ok(text)
+    } else {
+        Err(format!("no module '{text}': it is one of {}", MODULES.join(", ")))
+    }
+}
+
+fn say(text: &str) -> Result<(), String> {
+    put(text.as_bytes())
+}
+
+fn put(bytes: &[u8]) -> Result<(), String> {
+    io::stdout().write_all(bytes).map_err(|e| format!("cannot write: {e}"))
+}
+
+fn read(path: &str) -> Result<String, String> {
+    if path == "-" {
+        io::read_to_string(io::stdin()).map_err(|e| format!("standard input: {e}"))
+    } else {
+        fs::read_to_string(path).map_err(|e| format!("{path}: {e}"))
+    }
+}
+
+fn run(words: &[String]) -> Result<bool, String> {
+    let words: Vec<&str> = words.iter().map(String::as_str).collect();
+    match words[..] {
+        ["directions"] => directions(),
+        ["families"] => {
+            for (i, name) in FAMILIES.iter().enumerate() {
+                say(&format!("{i} {name}\n"))?;
+            }
+            Ok(true)
+        }
+        ["scene", seed] => {
+            say(&crate::text::written(&world(number(seed, "SEED")?)))?;
+            Ok(true)
+        }
+        ["answer", path] => {
+            say(&crate::text::answers(&crate::text::parsed(&read(path)?)?)?)?;
+            Ok(true)
+        }
+        ["rays", path] => {
+            say(&crate::text::fired(&crate::text::parsed(&read(path)?)?)?)?;
+            Ok(true)
+        }
+        ["coverage", count] => coverage(number(count, "COUNT")?),
+        ["stream", name, first, count] => {
+            let (name, first, count) = (module(name)?, number(first, "FIRST")?, number(count, "COUNT")?);
+            for seed in first..first + count {
+                for item in items::good(name, seed) {
+                    put(&item.bytes())?;
+                }
+            }
+            Ok(true)
+        }
+        ["bad", name, first, count] => {
+            let (name, first, count) = (module(name)?, number(first, "FIRST")?, number(count, "COUNT")?);
+            for seed in first..first + count {
+                for item in items::bad(name, seed, true, 60) {
+                    put(&item.bytes())?;
+                }
+            }
+            Ok(true)
+        }
+        ["record", folder] => record(folder, false),
+        ["compare", folder] => record(folder, true),
+        ["count", first, count] => tally(number(first, "FIRST")?, number(count, "COUNT")?),
+        ["time", seed] => time(number(seed, "SEED")?),
+        ["one", name, seed, place] => crate::shrink::one(module(name)?, number(seed, "SEED")?, number(place, "PLACE")? as usize),
+        ["shrink", name, seed, place, ref command @ ..] if !command.is_empty() => {
+            crate::shrink::shrink(module(name)?, number(seed, "SEED")?, number(place, "PLACE")? as usize, command)
+        }
+        _ => Err(USAGE.into()),
+    }
+}
+
+/// The Rust's own directions on this machine beside the recorded ones.
+fn directions() -> Result<bool, String> {
+    let own: Vec<u32> = gi::build_direction_sets(64, 9).iter().flatten().flat_map(|d| [d.x.to_bits(), d.y.to_bits(), d.z.to_bits()]).collect();
+    for line in own.chunks(3) {
+        say(&format!("{:08x} {:08x} {:08x}\n", line[0], line[1], line[2]))?;
+    }
+    let other = own.iter().zip(recorded_bits()).filter(|(a, b)| a != b).count();
+    eprintln!("{other} of 1728 numbers differ from the recorded table");
+    Ok(other == 0)
+}
+
+fn coverage(count: u64) -> Result<bool, String> {
+    for seed in 0..count {
+        for name in MODULES {
+            for item in items::good(name, seed) {
+                item.bytes();
+            }
+        }
+    }
+    report()
+}
+
+/// Prints how often each branch was taken; false where a reachable one never was, or an unreachable one was.
+fn report() -> Result<bool, String> {
+    let mut good = true;
+    for ((name, reachable, text), count) in watch::TABLE.iter().zip(watch::counts()) {
+        let verdict = match (*reachable, count > 0) {
+            (true, true) | (false, false) => "",
+            (true, false) => "   NEVER REACHED",
+            (false, true) => "   REACHED, THOUGH SAID NOT TO BE",
+        };
+        good &= verdict.is_empty();
+        say(&format!("{count:>12} {name}: {text}{verdict}\n"))?;
+    }
+    Ok(good)
+}
+
+/// The recorded answers: which seeds each module's program replays.
+fn recorded(name: &str) -> Vec<Item> {
+    let (seeds, bases): (u64, u64) = match name {
+        "rays" => (80, 3),
+        "masks" => (100, 3),
+        "blurs" => (40, 2),
+        "sun" => (80, 2),
+        "bake" => (60, 1),
+        "lookup" => (60, 2),
+        "fired" => (20, 0),
+        _ => (0, 0),
+    };
+    let mut out = Vec::new();
+    for seed in 0..seeds {
+        out.extend(items::good(name, seed));
+    }
+    for seed in 0..bases {
+        out.extend(items::bad(name, seed, true, 40));
+    }
+    out
+}
+
+fn record(folder: &str, compare: bool) -> Result<bool, String> {
+    let mut good = true;
+    for name in MODULES {
+        let path = format!("{folder}/replay_{name}/stdin");
+        let items = recorded(name);
+        let bytes: Vec<u8> = items.iter().flat_map(Item::bytes).collect();
+        if compare {
+            let held = fs::read(&path).map_err(|e| format!("{path}: {e}"))?;
+            let same = held == bytes;
+            good &= same;
+            say(&format!("{path}: {} records, {} bytes, {}\n", items.len(), bytes.len(), if same { "the same" } else { "DIFFERENT" }))?;
+        } else {
+            let parent = format!("{folder}/replay_{name}");
+            fs::create_dir_all(&parent).map_err(|e| format!("{parent}: {e}"))?;
+            fs::write(&path, &bytes).map_err(|e| format!("{path}: {e}"))?;
+            say(&format!("{path}: {} records, {} bytes\n", items.len(), bytes.len()))?;
+        }
+    }
+    Ok(good & report()?)
+}
+
+fn tally(first: u64, count: u64) -> Result<bool, String> {
+    let (mut triangles, mut voxels, mut halls) = (0, 0, 0);
+    for seed in first..first + count {
+        let w = world(seed);
+        triangles += w.lists.uses.len();
+        voxels += w.active.len();
+        halls += (w.family == "closed hall") as usize;
+    }
+    say(&format!("{count} scenes, {halls} of them halls, {triangles} triangles, {voxels} voxels\n"))?;
+    Ok(true)
+}
+
+fn time(seed: u64) -> Result<bool, String> {
+    let w = world(seed);
+    let mut c = crate::chance::Chance::new(seed);
+    let bake = crate::worlds::bake(&mut c, &w, vec![1.0; w.active.len()]);
+    let start = Instant::now();
+    let figures = crate::answers::baked(&bake, Some(&bake.active));
+    let seconds = start.elapsed().as_secs_f64();
+    say(&format!("{}: {} triangles, {} voxels, {} rays listed, {seconds:.3} s\n", w.family, w.lists.uses.len(), w.active.len(), figures.rays.len()))?;
+    Ok(true)
+}

@@ -1,0 +1,211 @@
+//! What is compared, module by module: for a seed the records of one seeded scene, and for a seed of bad inputs those of one base.
+use crate::answers::{baked, sunned};
+use crate::bad;
+use crate::calls::{Bake, Call, Grid, Lists, Ray, Scratch};
+use crate::chance::Chance;
+use crate::records;
+use crate::worlds::{self, voxels, World};
+
+#[derive(Clone, Debug)]
+pub enum Item {
+    One(Call),
+    Rays { lists: Lists, hits: Scratch, asked: Vec<(bool, Ray)> },
+    LightLookups { grid: Grid, light: Vec<f32>, positions: Vec<[f32; 3]> },
+    CoefficientLookups { grid: Grid, volume: Vec<f32>, positions: Vec<[f32; 3]> },
+    Bakes { bake: Box<Bake>, calls: Vec<(u64, u64)> },
+    Fired(Box<Bake>),
+}
+
+impl Item {
+    pub fn bytes(&self) -> Vec<u8> {
+        match self {
+            Item::One(call) => records::record(call),
+            Item::Rays { lists, hits, asked } => records::rays(lists, hits, asked),
+            Item::LightLookups { grid, light, positions } => records::light_lookups(grid, light, positions),
+            Item::CoefficientLookups { grid, volume, positions } => records::coefficient_lookups(grid, volume, positions),
+            Item::Bakes { bake, calls } => records::bakes(bake, calls).0,
+            Item::Fired(bake) => records::fired(bake),
+        }
+    }
+}
+
+pub const MODULES: [&str; 7] = ["rays", "masks", "blurs", "sun", "bake", "lookup", "fired"];
+
+/// The records of a seeded scene for a module.
+pub fn good(module: &str, seed: u64) -> Vec<Item> {
+    let world = worlds::world(seed);
+    let mut chance = Chance::new(seed ^ 0x600D);
+    let c = &mut chance;
+    match module {
+        "rays" => rays(c, &world),
+        "masks" => {
+            let n = voxels(&world.grid);
+            let (occupied, active) = (vec![c.below(256) as u8; n], vec![c.below(256) as u8; n]);
+            vec![Item::One(Call::Masks { grid: world.grid, points: world.lists.points.clone(), occupied, active })]
+        }
+        "blurs" => blurs(c, &world),
+        "sun" => sun(c, &world),
+        "bake" => bakes(c, &world),
+        "lookup" => lookups(c, &world),
+        "fired" => {
+            let light = lit(c, &world);
+            vec![Item::Fired(Box::new(worlds::bake(c, &world, light)))]
+        }
+        _ => vec![],
+    }
+}
+
+/// The bad inputs of one seeded base for a module.
+pub fn bad(module: &str, seed: u64, few: bool, several: usize) -> Vec<Item> {
+    let world = bad::base_world(seed);
+    let mut chance = Chance::new(seed ^ 0xBADBAD);
+    let c = &mut chance;
+    let mut out = Vec::new();
+    for base in bad::bases(c, &world) {
+        if module_of(&base) == module {
+            for b in bad::of(c, &base, few, several) {
+                out.push(Item::One(b.call));
+            }
+        }
+    }
+    out
+}
+
+pub fn module_of(call: &Call) -> &'static str {
+    match call {
+        Call::Triangle { .. } | Call::Nearest { .. } | Call::Transmittance { .. } => "rays",
+        Call::Masks { .. } => "masks",
+        Call::LightBlur { .. } | Call::CoefficientBlur { .. } => "blurs",
+        Call::Sun { .. } => "sun",
+        Call::Bake(_) => "bake",
+        Call::LightLookup { .. } | Call::CoefficientLookup { .. } | Call::Part { .. } => "lookup",
+    }
+}
+
+fn rays(c: &mut Chance, world: &World) -> Vec<Item> {
+    let mut asked = Vec::new();
+    let mut out = Vec::new();
+    for k in 0..10 {
+        let ray = worlds::ray(c, world);
+        let mut about = vec![ray];
+        if k % 3 == 0 {
+            about.extend(worlds::rays_about(world, &ray));
+        }
+        for r in about {
+            asked.push((false, r));
+            asked.push((true, r));
+        }
+        let t = world.lists.uses.len();
+        if t > 0 {
+            let k = c.below(t);
+            let mut points = [0.0; 9];
+            points.copy_from_slice(&world.lists.points[9 * k..9 * k + 9]);
+            out.push(Item::One(Call::Triangle { points, ray }));
+        }
+    }
+    out.push(Item::Rays { lists: world.lists.clone(), hits: worlds::hits(c, &world.lists), asked });
+    out
+}
+
+fn blurs(c: &mut Chance, world: &World) -> Vec<Item> {
+    let axes = world.grid.axes;
+    let n = voxels(&world.grid);
+    let junk = c.pick(&[0.0, f32::NAN, f32::INFINITY, -4.0]);
+    vec![
+        Item::One(Call::LightBlur { axes, light: worlds::light_list(c, n), scratch: vec![junk; n] }),
+        Item::One(Call::CoefficientBlur { axes, volume: worlds::light_list(c, 16 * n), scratch: vec![junk; 16 * n] }),
+    ]
+}
+
+fn sun(c: &mut Chance, world: &World) -> Vec<Item> {
+    let n = voxels(&world.grid);
+    let direction = worlds::towards(world);
+    let mut masks = vec![world.active.clone()];
+    if c.one_in(3) {
+        masks.push(vec![1; n]);
+        let whole = sunned(&world.grid, &world.lists, direction, Some(&masks[1]));
+        let none = sunned(&world.grid, &world.lists, direction, None);
+        assert!(whole.rays == none.rays && crate::calls::bits(&whole.after) == crate::calls::bits(&none.after), "a mask of ones equals the Rust's None");
+    }
+    masks
+        .into_iter()
+        .map(|active| {
+            Item::One(Call::Sun {
+                grid: world.grid,
+                lists: world.lists.clone(),
+                direction,
+                active,
+                light: vec![c.pick(&[f32::NAN, 0.5, -0.0]); n],
+                scratch: vec![c.pick(&[f32::INFINITY, 0.25]); n],
+                hits: worlds::hits(c, &world.lists),
+            })
+        })
+        .collect()
+}
+
+/// The light that a bake is lent: the sun pass's own, or anything.
+fn lit(c: &mut Chance, world: &World) -> Vec<f32> {
+    let n = voxels(&world.grid);
+    match c.below(4) {
+        0 => worlds::light_list(c, n),
+        1 => vec![-0.0; n],
+        _ => sunned(&world.grid, &world.lists, worlds::towards(world), Some(&world.active)).after,
+    }
+}
+
+fn bakes(c: &mut Chance, world: &World) -> Vec<Item> {
+    let n = voxels(&world.grid) as u64;
+    let light = lit(c, world);
+    let bake = worlds::bake(c, world, light);
+    let figures = baked(&bake, Some(&bake.active));
+    if world.active.iter().all(|a| *a == 1) {
+        let none = baked(&bake, None);
+        assert!(none.rays == figures.rays && crate::calls::bits(&none.after) == crate::calls::bits(&figures.after), "a mask of ones equals the Rust's None");
+    }
+    let mut out = vec![Item::Bakes { bake: Box::new(bake.clone()), calls: vec![(0, u64::MAX), (n, 384)] }];
+    if n <= 40 {
+        // interrupted, each call going on from the last; then once more at the end
+        let mut calls = Vec::new();
+        let mut now = bake.clone();
+        let mut progress = 0;
+        while calls.len() < 12 {
+            let allowance = if calls.len() == 11 { u64::MAX } else { c.pick(&[384, 384, 385, 447, 448, 500, 767, 768, 1000, 3000]) };
+            calls.push((progress, allowance));
+            if progress == n {
+                break;
+            }
+            now.progress = progress;
+            now.allowance = allowance;
+            progress = crate::answers::bake_call(&mut now, &figures).0;
+        }
+        out.push(Item::Bakes { bake: Box::new(bake.clone()), calls });
+    }
+    if n > 1 {
+        // from the middle, over a volume that no bake wrote
+        let mut middle = bake;
+        middle.volume = worlds::light_list(c, 16 * n as usize);
+        let start = 1 + c.below(n as usize - 1) as u64;
+        out.push(Item::Bakes { bake: Box::new(middle), calls: vec![(start, c.pick(&[384, 1000, u64::MAX]))] });
+    }
+    out
+}
+
+fn lookups(c: &mut Chance, world: &World) -> Vec<Item> {
+    let grid = world.grid;
+    let n = voxels(&grid);
+    let light = worlds::light_list(c, n);
+    let volume = worlds::light_list(c, 16 * n);
+    let scratch = worlds::light_list(c, 16 * n);
+    let positions: Vec<[f32; 3]> = (0..12).map(|_| worlds::position(c, &grid)).collect();
+    let mut out = vec![
+        Item::LightLookups { grid, light, positions: positions.clone() },
+        Item::CoefficientLookups { grid, volume: volume.clone(), positions: positions[..4].to_vec() },
+    ];
+    if n <= 30 {
+        for choice in [false, true] {
+            let index = c.below(n) as u64;
+            out.push(Item::One(Call::Part { axes: grid.axes, volume: volume.clone(), scratch: scratch.clone(), index, choice }));
+        }
+    }
+    out
+}

@@ -1,0 +1,279 @@
+//! The records that a replay program reads: little-endian words, each record led by its length in bytes.
+//!
+//! A list is: its length, the length k of a pattern, the pattern's k words (entry i is word i mod k), the count of exceptions, and for
+//! each its place and its word. A list of u64 has two words an entry, low first, and its length counts words. The first word of a
+//! record is its kind.
+use crate::answers::{self, bake_call, baked, bake_answer};
+use crate::calls::{bits, bytes, halves, Answer, Bake, Call, Grid, Lists, Ray, Scratch};
+use crate::table;
+
+#[derive(Default)]
+pub struct Writer {
+    pub words: Vec<u32>,
+}
+
+impl Writer {
+    fn word(&mut self, w: u32) {
+        self.words.push(w);
+    }
+
+    fn wide(&mut self, w: u64) {
+        self.words.extend([w as u32, (w >> 32) as u32]);
+    }
+
+    fn floats(&mut self, l: &[f32]) {
+        self.words.extend(bits(l));
+    }
+
+    pub fn list(&mut self, l: &[u32]) {
+        let n = l.len();
+        let mut best: (usize, usize) = (n + 3, n);
+        for k in [1, 2, 3, 7, 9, 16, 18, 192] {
+            if k < n {
+                let odd = (0..n).filter(|i| l[*i] != l[*i % k]).count();
+                if k + 3 + 2 * odd < best.0 {
+                    best = (k + 3 + 2 * odd, k);
+                }
+            }
+        }
+        let k = best.1;
+        self.word(n as u32);
+        self.word(k as u32);
+        self.words.extend(&l[..k]);
+        let odd: Vec<usize> = (0..n).filter(|i| l[*i] != l[*i % k.max(1)]).collect();
+        self.word(odd.len() as u32);
+        for i in odd {
+            self.word(i as u32);
+            self.word(l[i]);
+        }
+    }
+
+    fn lists(&mut self, l: &Lists) {
+        self.list(&bits(&l.points));
+        self.list(&l.uses);
+        self.list(&bytes(&l.kinds));
+        self.list(&bits(&l.numbers));
+    }
+
+    fn hits(&mut self, h: &Scratch) {
+        self.list(&bits(&h.distances));
+        self.list(&halves(&h.places));
+    }
+
+    fn axes(&mut self, axes: [u64; 3]) {
+        for a in axes {
+            self.wide(a);
+        }
+    }
+
+    fn grid(&mut self, g: &Grid) {
+        self.axes(g.axes);
+        self.floats(&g.corners);
+    }
+
+    fn ray(&mut self, r: &Ray) {
+        self.floats(&r.origin);
+        self.floats(&r.direction);
+        self.floats(&[r.shortest, r.longest]);
+    }
+
+    fn answer(&mut self, a: &Answer) {
+        self.words.extend(&a.words);
+        for l in &a.lists {
+            self.list(l);
+        }
+    }
+
+    /// The record's bytes: length first.
+    pub fn bytes(&self) -> Vec<u8> {
+        let mut out = (4 * self.words.len() as u32).to_le_bytes().to_vec();
+        for w in &self.words {
+            out.extend(w.to_le_bytes());
+        }
+        out
+    }
+}
+
+pub const TRIANGLE: u32 = 1;
+pub const RAYS: u32 = 2;
+pub const MASKS: u32 = 3;
+pub const LIGHT_BLUR: u32 = 4;
+pub const COEFFICIENT_BLUR: u32 = 5;
+pub const SUN: u32 = 6;
+pub const BAKE: u32 = 7;
+pub const LIGHT_LOOKUP: u32 = 8;
+pub const COEFFICIENT_LOOKUP: u32 = 9;
+pub const PART: u32 = 10;
+pub const FIRED: u32 = 11;
+
+/// A record of one call and the oracle's answer.
+pub fn record(call: &Call) -> Vec<u8> {
+    match call {
+        Call::Nearest { lists, ray } => rays(lists, &Scratch::default(), &[(false, *ray)]),
+        Call::Transmittance { lists, ray, hits } => rays(lists, hits, &[(true, *ray)]),
+        Call::LightLookup { grid, light, position } => light_lookups(grid, light, &[*position]),
+        Call::CoefficientLookup { grid, volume, position } => coefficient_lookups(grid, volume, &[*position]),
+        Call::Bake(bake) => bakes(bake, &[(bake.progress, bake.allowance)]).0,
+        _ => plain(call),
+    }
+}
+
+fn plain(call: &Call) -> Vec<u8> {
+    let mut w = Writer::default();
+    let answer = answers::answer(call);
+    match call {
+        Call::Triangle { points, ray } => {
+            w.word(TRIANGLE);
+            w.floats(points);
+            w.ray(ray);
+        }
+        Call::Masks { grid, points, occupied, active } => {
+            w.word(MASKS);
+            w.grid(grid);
+            w.list(&bits(points));
+            w.list(&bytes(occupied));
+            w.list(&bytes(active));
+        }
+        Call::LightBlur { axes, light, scratch } => {
+            w.word(LIGHT_BLUR);
+            w.axes(*axes);
+            w.list(&bits(light));
+            w.list(&bits(scratch));
+        }
+        Call::CoefficientBlur { axes, volume, scratch } => {
+            w.word(COEFFICIENT_BLUR);
+            w.axes(*axes);
+            w.list(&bits(volume));
+            w.list(&bits(scratch));
+        }
+        Call::Sun { grid, lists, direction, active, light, scratch, hits } => {
+            w.word(SUN);
+            w.grid(grid);
+            w.lists(lists);
+            w.floats(direction);
+            w.list(&bytes(active));
+            w.list(&bits(light));
+            w.list(&bits(scratch));
+            w.hits(hits);
+            w.word((answer.lists.len() > 2) as u32);
+        }
+        Call::Part { axes, volume, scratch, index, choice } => {
+            w.word(PART);
+            w.axes(*axes);
+            w.list(&bits(volume));
+            w.list(&bits(scratch));
+            w.wide(*index);
+            w.word(*choice as u32);
+        }
+        _ => unreachable!("recorded in a batch"),
+    }
+    // hit scratch that must stand as it was is in the record already
+    let keep = Answer { words: answer.words.clone(), lists: answer.lists[..answer.lists.len().min(2)].to_vec() };
+    w.answer(&keep);
+    w.bytes()
+}
+
+/// Rays over one scene: each the nearest hit (false) or the transmittance (true).
+pub fn rays(lists: &Lists, hits: &Scratch, asked: &[(bool, Ray)]) -> Vec<u8> {
+    let mut w = Writer::default();
+    w.word(RAYS);
+    w.lists(lists);
+    w.hits(hits);
+    w.word(asked.len() as u32);
+    for (through, ray) in asked {
+        w.word(*through as u32);
+        w.ray(ray);
+        let call = if *through {
+            Call::Transmittance { lists: lists.clone(), ray: *ray, hits: hits.clone() }
+        } else {
+            Call::Nearest { lists: lists.clone(), ray: *ray }
+        };
+        let mut words = answers::answer(&call).words;
+        words.resize(6, 0);
+        w.words.extend(words);
+    }
+    w.bytes()
+}
+
+pub fn light_lookups(grid: &Grid, light: &[f32], positions: &[[f32; 3]]) -> Vec<u8> {
+    let mut w = Writer::default();
+    w.word(LIGHT_LOOKUP);
+    w.grid(grid);
+    w.list(&bits(light));
+    w.word(positions.len() as u32);
+    for p in positions {
+        w.floats(p);
+        w.answer(&answers::answer(&Call::LightLookup { grid: *grid, light: light.to_vec(), position: *p }));
+    }
+    w.bytes()
+}
+
+pub fn coefficient_lookups(grid: &Grid, volume: &[f32], positions: &[[f32; 3]]) -> Vec<u8> {
+    let mut w = Writer::default();
+    w.word(COEFFICIENT_LOOKUP);
+    w.grid(grid);
+    w.list(&bits(volume));
+    w.word(positions.len() as u32);
+    for p in positions {
+        w.floats(p);
+        w.answer(&answers::answer(&Call::CoefficientLookup { grid: *grid, volume: volume.to_vec(), position: *p }));
+    }
+    w.bytes()
+}
+
+fn bake_arguments(w: &mut Writer, b: &Bake) {
+    w.grid(&b.grid);
+    w.lists(&b.lists);
+    w.floats(&b.sunlight);
+    w.floats(&b.ambient);
+    w.list(&bits(&b.sky));
+    w.list(&bytes(&b.active));
+    w.list(&bits(&b.light));
+    w.list(&bits(&b.volume));
+    w.list(&bits(&b.scratch));
+    w.hits(&b.hits);
+}
+
+/// Calls of the bake one after another over the same lists: each with its progress and allowance. Answers the record and the last progress.
+pub fn bakes(bake: &Bake, calls: &[(u64, u64)]) -> (Vec<u8>, u64) {
+    let mut w = Writer::default();
+    w.word(BAKE);
+    bake_arguments(&mut w, bake);
+    w.word(calls.len() as u32);
+    let mut now = bake.clone();
+    let mut figures = None;
+    let mut last = bake.progress;
+    for (progress, allowance) in calls {
+        now.progress = *progress;
+        now.allowance = *allowance;
+        let refusal = table::refusal(&Call::Bake(Box::new(now.clone())));
+        let (next, rays) = if refusal == 0 {
+            let figures = figures.get_or_insert_with(|| baked(bake, Some(&bake.active)));
+            bake_call(&mut now, figures)
+        } else {
+            (*progress, 0)
+        };
+        w.wide(*progress);
+        w.wide(*allowance);
+        let answer = bake_answer(&now, refusal, next, rays);
+        w.word((answer.lists.len() > 2) as u32);
+        w.answer(&Answer { words: answer.words, lists: answer.lists[..2].to_vec() });
+        last = next;
+    }
+    (w.bytes(), last)
+}
+
+/// A bake in one call from progress 0 and every ray it fires: kind, origin, direction, shortest and longest.
+pub fn fired(bake: &Bake) -> Vec<u8> {
+    let mut w = Writer::default();
+    w.word(FIRED);
+    bake_arguments(&mut w, bake);
+    let figures = baked(bake, Some(&bake.active));
+    w.word(figures.rays.len() as u32);
+    for ray in &figures.rays {
+        w.word(ray.voxel as u32);
+        w.word(ray.kind);
+        w.floats(&[ray.origin.x, ray.origin.y, ray.origin.z, ray.direction.x, ray.direction.y, ray.direction.z, ray.shortest, ray.longest]);
+    }
+    w.bytes()
+}

@@ -1,0 +1,220 @@
+//! Document 01's table of refusals and the order in which each call tests them, written from that document and the open points
+//! alone: which numbers are accepted, and for each call the first number whose condition holds, 0 if none.
+use crate::calls::{Bake, Call, Grid, Lists, Ray, Scratch};
+
+const AXIS: u64 = 32;
+const POINT: f32 = 4096.0;
+const EDGE: f32 = 1.0 / 1024.0;
+const TRIANGLES: usize = 4096;
+const MATERIALS: usize = 256;
+const COLOUR: f32 = 65536.0;
+const ORIGIN: f32 = 65536.0;
+const DIRECTION: f32 = 2.0;
+const DISTANCE: f32 = 65536.0;
+const THIN: f32 = 1.0e-12;
+const STORED: f32 = 18446744073709551616.0;
+const ALLOWANCE: u64 = 384;
+const SKY: usize = 1728;
+
+/// The refusal's number for a call, 0 for none.
+pub fn refusal(call: &Call) -> u32 {
+    match call {
+        Call::Triangle { points, ray } => first(&[(5, &|| bad_points(points)), (8, &|| bad_ray(ray))]),
+        Call::Nearest { lists, ray } => first(&[
+            (3, &|| misfit(lists)),
+            (4, &|| too_many(lists)),
+            (5, &|| bad_points(&lists.points)),
+            (6, &|| bad_materials(lists)),
+            (8, &|| bad_ray(ray)),
+        ]),
+        Call::Transmittance { lists, ray, hits } => first(&[
+            (3, &|| misfit(lists) || too_short(hits, lists)),
+            (4, &|| too_many(lists)),
+            (5, &|| bad_points(&lists.points)),
+            (6, &|| bad_materials(lists)),
+            (8, &|| bad_ray(ray)),
+        ]),
+        Call::Masks { grid, points, occupied, active } => first(&[
+            (1, &|| bad_axes(grid.axes)),
+            (2, &|| bad_corners(grid)),
+            (3, &|| points.len() % 9 != 0 || occupied.len() != count(grid.axes) || active.len() != count(grid.axes)),
+            (4, &|| points.len() / 9 > TRIANGLES),
+            (5, &|| bad_points(points)),
+        ]),
+        Call::LightBlur { axes, light, scratch } => first(&[
+            (1, &|| bad_axes(*axes)),
+            (3, &|| light.len() != count(*axes) || scratch.len() != count(*axes)),
+            (13, &|| bad_stored(light)),
+        ]),
+        Call::CoefficientBlur { axes, volume, scratch } => first(&[
+            (1, &|| bad_axes(*axes)),
+            (3, &|| volume.len() != 16 * count(*axes) || scratch.len() != 16 * count(*axes)),
+            (13, &|| bad_stored(volume)),
+        ]),
+        Call::Sun { grid, lists, direction, active, light, scratch, hits } => first(&[
+            (1, &|| bad_axes(grid.axes)),
+            (2, &|| bad_corners(grid)),
+            (3, &|| {
+                let n = count(grid.axes);
+                misfit(lists) || active.len() != n || light.len() != n || scratch.len() != n || too_short(hits, lists)
+            }),
+            (4, &|| too_many(lists)),
+            (5, &|| bad_points(&lists.points)),
+            (6, &|| bad_materials(lists)),
+            (7, &|| bad_direction(*direction)),
+            (13, &|| bad_mask(active)),
+        ]),
+        Call::Bake(bake) => bake_refusal(bake),
+        Call::LightLookup { grid, light, position } => first(&[
+            (1, &|| bad_axes(grid.axes)),
+            (2, &|| bad_corners(grid)),
+            (3, &|| light.len() != count(grid.axes)),
+            (11, &|| bad_position(*position)),
+            (13, &|| cells(grid, *position).iter().any(|c| bad_stored(&light[*c..c + 1]))),
+        ]),
+        Call::CoefficientLookup { grid, volume, position } => first(&[
+            (1, &|| bad_axes(grid.axes)),
+            (2, &|| bad_corners(grid)),
+            (3, &|| volume.len() != 16 * count(grid.axes)),
+            (11, &|| bad_position(*position)),
+            (13, &|| cells(grid, *position).iter().any(|c| bad_stored(&volume[16 * c..16 * c + 16]))),
+        ]),
+        Call::Part { axes, volume, scratch, index, choice: _ } => first(&[
+            (1, &|| bad_axes(*axes)),
+            (3, &|| volume.len() != 16 * count(*axes) || scratch.len() != 16 * count(*axes)),
+            (11, &|| *index >= count(*axes) as u64),
+        ]),
+    }
+}
+
+fn bake_refusal(bake: &Bake) -> u32 {
+    let grid = &bake.grid;
+    let lists = &bake.lists;
+    let s = bake.sunlight;
+    first(&[
+        (1, &|| bad_axes(grid.axes)),
+        (2, &|| bad_corners(grid)),
+        (3, &|| {
+            let n = count(grid.axes);
+            misfit(lists)
+                || bake.sky.len() != SKY
+                || bake.active.len() != n
+                || bake.light.len() != n
+                || bake.volume.len() != 16 * n
+                || bake.scratch.len() != 16 * n
+                || too_short(&bake.hits, lists)
+        }),
+        (4, &|| too_many(lists)),
+        (5, &|| bad_points(&lists.points)),
+        (6, &|| bad_materials(lists)),
+        (7, &|| {
+            bad_direction([s[0], s[1], s[2]])
+                || beyond(&s[3..], COLOUR)
+                || beyond(&bake.ambient, COLOUR)
+                || beyond(&bake.sky, COLOUR)
+        }),
+        (9, &|| bake.progress > count(grid.axes) as u64),
+        (10, &|| bake.allowance < ALLOWANCE),
+        (13, &|| {
+            bad_mask(&bake.active)
+                || bad_stored(&bake.light)
+                || 0 < bake.progress && bake.progress < count(grid.axes) as u64 && bad_stored(&bake.volume)
+        }),
+    ])
+}
+
+/// The first row whose condition holds; a later row is not looked at.
+fn first(rows: &[(u32, &dyn Fn() -> bool)]) -> u32 {
+    rows.iter().find(|row| row.1()).map_or(0, |row| row.0)
+}
+
+/// The voxel count, once the axes are known to be good.
+fn count(axes: [u64; 3]) -> usize {
+    (axes[0] * axes[1] * axes[2]) as usize
+}
+
+/// A number beyond a bound in magnitude, or none at all.
+fn beyond(numbers: &[f32], bound: f32) -> bool {
+    numbers.iter().any(|x| !(x.abs() <= bound))
+}
+
+fn outside(x: f32, low: f32, high: f32) -> bool {
+    !(low <= x && x <= high)
+}
+
+fn bad_axes(axes: [u64; 3]) -> bool {
+    axes.iter().any(|a| *a < 1 || *a > AXIS)
+}
+
+fn bad_corners(grid: &Grid) -> bool {
+    beyond(&grid.corners, POINT) || edges(grid).iter().any(|e| !(*e >= EDGE))
+}
+
+fn edges(grid: &Grid) -> [f32; 3] {
+    [0, 1, 2].map(|i| (grid.corners[3 + i] - grid.corners[i]) / grid.axes[i] as f32)
+}
+
+/// Nine numbers a triangle, seven a material.
+fn misfit(lists: &Lists) -> bool {
+    lists.points.len() != 9 * lists.uses.len() || lists.numbers.len() != 7 * lists.kinds.len()
+}
+
+fn too_short(hits: &Scratch, lists: &Lists) -> bool {
+    hits.distances.len() < lists.uses.len() || hits.places.len() < lists.uses.len()
+}
+
+fn too_many(lists: &Lists) -> bool {
+    lists.uses.len() > TRIANGLES || lists.kinds.len() > MATERIALS
+}
+
+fn bad_points(points: &[f32]) -> bool {
+    beyond(points, POINT)
+}
+
+fn bad_materials(lists: &Lists) -> bool {
+    lists.kinds.iter().any(|k| *k > 1)
+        || lists.numbers.chunks(7).any(|m| beyond(&m[..6], COLOUR) || outside(m[6], 0.0, 1.0))
+        || lists.uses.iter().any(|u| *u as usize >= lists.kinds.len())
+}
+
+fn bad_direction(d: [f32; 3]) -> bool {
+    beyond(&d, POINT) || !((d[0] * d[0] + d[1] * d[1]) + d[2] * d[2] > THIN)
+}
+
+fn bad_ray(ray: &Ray) -> bool {
+    beyond(&ray.origin, ORIGIN)
+        || beyond(&ray.direction, DIRECTION)
+        || outside(ray.shortest, 0.0, DISTANCE)
+        || ray.longest.is_nan()
+}
+
+fn bad_position(position: [f32; 3]) -> bool {
+    beyond(&position, POINT)
+}
+
+fn bad_mask(mask: &[u8]) -> bool {
+    mask.iter().any(|m| *m > 1)
+}
+
+fn bad_stored(numbers: &[f32]) -> bool {
+    beyond(numbers, STORED)
+}
+
+/// The eight cells that a lookup reads: on each axis the floored cell clamped to the grid, and the one after it, clamped too.
+fn cells(grid: &Grid, position: [f32; 3]) -> Vec<usize> {
+    let edge = edges(grid);
+    let pair = |i: usize| {
+        let last = grid.axes[i] as i64 - 1;
+        let low = (((position[i] - grid.corners[i]) / edge[i]).floor() as i64).clamp(0, last);
+        [low, (low + 1).min(last)]
+    };
+    let mut out = Vec::new();
+    for x in pair(0) {
+        for y in pair(1) {
+            for z in pair(2) {
+                out.push((x + grid.axes[0] as i64 * (y + grid.axes[1] as i64 * z)) as usize);
+            }
+        }
+    }
+    out
+}

@@ -1,0 +1,188 @@
+//! What the copies are watched for: every ray fired, every branch taken, and the lists as they stand before a blur.
+//! Without the feature `watch` all of it is empty, for timing.
+use glam::{Vec3A, Vec4};
+use std::cell::{Cell, RefCell};
+
+/// A ray as it was fired. `kind` 0 asks for the nearest hit, 1 for the transmittance.
+#[derive(Clone, Copy, PartialEq, Debug)]
+pub struct Fired {
+    pub voxel: usize,
+    pub kind: u32,
+    pub origin: Vec3A,
+    pub direction: Vec3A,
+    pub shortest: f32,
+    pub longest: f32,
+}
+
+thread_local! {
+    static RAYS: RefCell<Vec<Fired>> = const { RefCell::new(Vec::new()) };
+    static LIGHT: RefCell<Vec<f32>> = const { RefCell::new(Vec::new()) };
+    static VOLUME: RefCell<Vec<[Vec4; 4]>> = const { RefCell::new(Vec::new()) };
+    static COUNTS: [Cell<u64>; BRANCHES] = const { [const { Cell::new(0) }; BRANCHES] };
+}
+
+macro_rules! branches {
+    ($($name:ident $reachable:literal $text:literal;)*) => {
+        #[derive(Clone, Copy)]
+        pub enum Branch { $($name),* }
+
+        const BRANCHES: usize = [$(Branch::$name),*].len();
+
+        /// Each branch: its name, whether an accepted input reaches it, and what it is.
+        pub const TABLE: [(&str, bool, &str); BRANCHES] = [$((stringify!($name), $reachable, $text)),*];
+    };
+}
+
+branches! {
+    Absent true "a triangle whose cross has squared length at most 1e-12 is left out";
+    Edgewise true "|det| at most 1e-8";
+    UBelow true "u below 0";
+    UAbove true "u above 1";
+    VBelow true "v below 0";
+    UvAbove true "u+v above 1";
+    TBelow true "t below the shortest distance";
+    TAbove true "t above the longest distance";
+    Met true "a hit";
+    MetAtShortest true "a hit at the shortest distance itself";
+    MetAtLongest true "a hit at the longest distance itself";
+    MetAtMinusZero true "a hit at distance -0";
+    UMinusZero true "a hit with u = -0";
+    TNotFinite false "a distance that is not finite: |t| stays below 3e21 within the limits";
+    Tie true "nearest: an equal distance at a later place";
+    HitsTied true "transmittance: two hits at one distance";
+    Opaque true "transmittance: an opaque hit";
+    Faint true "transmittance: a product of at most 0.0001";
+    Through true "transmittance: something let through";
+    SamplesRaised false "a target of no samples: a kept triangle's area is above 0 and its quotient does not vanish";
+    SamplesLowered true "a target above 4096 samples";
+    SampleSkipped true "a sample with w below 0";
+    SampleBelow true "a sample below the grid";
+    SamplePast true "a sample past the grid";
+    SampleInside true "a sample in the grid";
+    NotOccupied true "a voxel that is not occupied";
+    WindowCutBelow true "the window of 5 cut at the low side";
+    WindowCutAbove true "the window of 5 cut at the high side";
+    WindowWhole true "a window of 5x5x5";
+    SunNoneActive true "sun: no voxel active";
+    SunInactive true "sun: an inactive voxel";
+    SunTraced true "sun: an active voxel";
+    EdgeFloor false "smallest edge at most 1e-6: an accepted edge is at least 1/1024";
+    PrimaryBiasFloor false "primary bias at its floor: the diagonal is at least sqrt(3)/1024";
+    HitBiasFloor true "hit bias at its floor";
+    ShortestFloor false "shortest distance at its floor: .15/1024 is above 1e-4";
+    BakeNoneActive true "bake: no voxel active";
+    BakeInactive true "bake: an inactive voxel";
+    SkySeen true "a primary ray that meets nothing";
+    RadianceSkipped true "radiance with squared length at most 0";
+    RadianceAdded true "radiance that is added";
+    IrradianceRaised true "irradiance raised to 0";
+    NormalTurned true "the normal turned";
+    EmissiveRaised true "emissive raised to 0";
+    AlbedoRaised true "albedo raised to 0";
+    AlbedoLowered true "albedo lowered to 1";
+    Black true "a black surface";
+    BlackBySquare true "a surface that is black by its square only";
+    OnlyEmissive true "a black albedo with an emissive that is not";
+    TowardsLight true "n.l above 0";
+    AwayFromLight true "n.l at most 0";
+    AmbientRaised true "ambient at the normal raised to 0";
+    TotalRaised true "sun and sky together raised to 0";
+    Bounced true "light bounced";
+    NoBounce true "no light to bounce";
+    NoBounceBySquare true "no light to bounce, by its square only";
+    UpIsZ true "up is Z";
+    UpIsX true "up is X";
+    NoFloor true "no brightness floor";
+    AboveFloor true "brighter than the floor";
+    Floored true "darker than the floor";
+    BlendPartly true "a blend of less than the whole";
+    BlendRaised false "blend below 0: the floor is above the current luminance here";
+    BlendLowered false "blend above 1: irradiance was raised to 0, so its luminance is not below 0";
+    CellBelow true "lookup: a cell below the grid";
+    CellPast true "lookup: a cell past the grid";
+    NextClamped true "lookup: the last cell, whose next is itself";
+    NextInside true "lookup: a cell with a next one";
+    FractionZero true "lookup: a fraction of 0";
+    FractionOne true "lookup: a fraction that rounds to 1";
+    FractionBetween true "lookup: a fraction between 0 and 1";
+}
+
+#[inline(always)]
+pub fn seen(branch: Branch) {
+    if cfg!(feature = "watch") {
+        COUNTS.with(|counts| {
+            let count = &counts[branch as usize];
+            count.set(count.get() + 1);
+        });
+    }
+}
+
+#[inline(always)]
+pub fn seen_if(branch: Branch, holds: bool) {
+    if cfg!(feature = "watch") && holds {
+        seen(branch);
+    }
+}
+
+pub fn some_below(v: Vec3A, bound: f32) -> bool {
+    v.x < bound || v.y < bound || v.z < bound
+}
+
+#[inline(always)]
+pub fn fired(kind: u32, origin: Vec3A, direction: Vec3A, shortest: f32, longest: f32) {
+    if cfg!(feature = "watch") {
+        let voxel = rayon::CURRENT.load(std::sync::atomic::Ordering::Relaxed);
+        RAYS.with(|rays| {
+            rays.borrow_mut().push(Fired { voxel, kind, origin, direction, shortest, longest })
+        });
+    }
+}
+
+/// Document 01 takes `powf(2.0)` as x·x.
+pub fn square(x: f32) -> f32 {
+    x * x
+}
+
+pub fn light_before_blur(light: &[f32]) {
+    if cfg!(feature = "watch") {
+        LIGHT.with(|kept| *kept.borrow_mut() = light.to_vec());
+    }
+}
+
+pub fn volume_before_blur(volume: &[[Vec4; 4]]) {
+    if cfg!(feature = "watch") {
+        VOLUME.with(|kept| *kept.borrow_mut() = volume.to_vec());
+    }
+}
+
+pub fn cell_looked_up(floor: [f32; 3], axes: [usize; 3], fraction: [f32; 3]) {
+    for i in 0..3 {
+        seen_if(Branch::CellBelow, floor[i] < 0.0);
+        seen_if(Branch::CellPast, floor[i] >= axes[i] as f32);
+        seen_if(Branch::NextClamped, floor[i] + 1.0 >= axes[i] as f32);
+        seen_if(Branch::NextInside, floor[i] + 1.0 < axes[i] as f32);
+        seen_if(Branch::FractionZero, fraction[i] == 0.0);
+        seen_if(Branch::FractionOne, fraction[i] == 1.0);
+        seen_if(Branch::FractionBetween, fraction[i] > 0.0 && fraction[i] < 1.0);
+    }
+}
+
+/// The rays fired since the last call.
+pub fn take_rays() -> Vec<Fired> {
+    RAYS.with(|rays| std::mem::take(&mut *rays.borrow_mut()))
+}
+
+/// The light list as it stood when the last light blur began.
+pub fn take_light() -> Vec<f32> {
+    LIGHT.with(|kept| std::mem::take(&mut *kept.borrow_mut()))
+}
+
+/// The volume as it stood when the last coefficient blur began.
+pub fn take_volume() -> Vec<[Vec4; 4]> {
+    VOLUME.with(|kept| std::mem::take(&mut *kept.borrow_mut()))
+}
+
+/// How often each branch was taken so far.
+pub fn counts() -> Vec<u64> {
+    COUNTS.with(|counts| counts.iter().map(Cell::get).collect())
+}
