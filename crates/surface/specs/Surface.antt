@@ -1,0 +1,102 @@
+-- A surface that a ray has met, the rays that it takes, and the light that it sends back. "Extra rays for a hit: 0 if albedo and emissive
+-- both have squared length ≤0, else 4, and one more if n·l>0." A ray is counted where it is traced. gi.rs decides every order. Definitions
+-- only.
+use mathlib.Core.Bool.{cond}
+use Prim.Native.Nat.{ℕ, _+_, _*_}
+use lib.ListN.{getD}
+use lib.Ieee as Ieee
+use lib.Ieee.{Float, binary32}
+use Rattle.names.specs.Bits.{lit, zero32}
+use Rattle.names.specs.Scene.{Scene}
+use Rattle.lists.specs.Fold.{fold}
+use Rattle.vectors.specs.Vectors.{clampV}
+use Rattle.vectors.specs.declared.Vec3.{Vec3}
+use Rattle.vectors.specs.declared.Ray.{Ray}
+use Rattle.triangle.specs.Places.{vecAt, triangleAt}
+use Rattle.scan.specs.Transmittance.{transmittanceOf}
+use Rattle.harmonics.specs.Harmonics.{raisedV, zeroV}
+use Rattle.bounce.specs.declared.Frame.{Frame}
+use Rattle.bounce.specs.Rays.{pointAt, rayFrom}
+use Rattle.bounce.specs.Hemisphere.{frameOf, skyDirection}
+use Rattle.bounce.specs.Light.{faceNormal, facingOf, blackOf, slantOf, sunlightOf, skylightOf, reflectedOf}
+use Rattle.surface.specs.declared.Setting.{Setting}
+use Rattle.surface.specs.declared.Surface.{Surface}
+use Rattle.surface.specs.declared.Seen.{Seen}
+use Rattle.surface.specs.declared.Traced.{Traced}
+
+abbrev pub seen : Float → ℕ → Seen
+seen s n = record { sum = s; rays = n }
+
+abbrev pub traced : Vec3 → ℕ → Traced
+traced l n = record { light = l; rays = n }
+
+-- ---- what a ray has met
+
+-- the material that the triangle at a place uses, and where its seven numbers begin
+abbrev pub numbersAt : Scene → ℕ → ℕ
+numbersAt scene place = getD (scene .uses) place 0 * 7
+
+-- base colour, clamped to 0..1, and emissive, raised to 0
+abbrev pub albedoAt : Scene → ℕ → Vec3
+albedoAt scene place = clampV (vecAt (scene .numbers) (numbersAt scene place))
+
+abbrev pub emissiveAt : Scene → ℕ → Vec3
+emissiveAt scene place = raisedV (vecAt (scene .numbers) (numbersAt scene place + 3))
+
+-- the normal on the ray's side
+abbrev pub normalAt : Scene → Ray → ℕ → Vec3
+normalAt scene ray place = facingOf (faceNormal (triangleAt (scene .points) place)) (ray .direction)
+
+-- the surface at a place, met at a distance: it is shaded at the point met, moved along the normal by the hit bias
+unfoldable pub surfaceOf : Scene → Ray → ℕ → Float → Float → Surface
+surfaceOf scene ray place distance hit =
+    record { point = pointAt (pointAt (ray .origin) (ray .direction) distance) (normalAt scene ray place) hit; normal = normalAt scene ray place; albedo = albedoAt scene place; emissive = emissiveAt scene place }
+
+-- ---- its rays
+
+-- to the sun
+unfoldable pub sunRay : Setting → Surface → Ray
+sunRay setting surface = rayFrom (surface .point) (setting .toward) (setting .biases .step) (setting .biases .shortest)
+
+-- along hemisphere direction j of a frame
+unfoldable pub skyRayIn : Setting → Surface → Frame → ℕ → Ray
+skyRayIn setting surface frame j =
+    rayFrom (surface .point) (skyDirection frame j) (setting .biases .step) (setting .biases .shortest)
+
+-- along hemisphere direction j of the surface's normal
+abbrev pub skyRay : Setting → Surface → ℕ → Ray
+skyRay setting surface j = skyRayIn setting surface (frameOf (surface .normal)) j
+
+-- ---- the light on it
+
+-- the transmittance along a ray, added to the sum
+unfoldable pub seenBy : Scene → Ray → Seen → Seen
+seenBy scene ray s = seen (Ieee.add binary32 (s .sum) (transmittanceOf scene ray)) (s .rays + 1)
+
+-- along ray j of the hemisphere
+abbrev pub seenAfter : Scene → Setting → Surface → ℕ → Seen → Seen
+seenAfter scene setting surface j s = seenBy scene (skyRay setting surface j) s
+
+-- of the four, in order
+unfoldable pub seenOf : Scene → Setting → Surface → Seen
+seenOf scene setting surface = fold (seenAfter scene setting surface) 4 0 (seen zero32 0)
+
+-- the sky's light: the four by a quarter
+unfoldable pub skyOf : Scene → Setting → Surface → Traced
+skyOf scene setting surface =
+    let s = seenOf scene setting surface in
+    traced (skylightOf (setting .ambient) (surface .normal) (Ieee.mul binary32 (s .sum) (lit 0x3e800000))) (s .rays)
+
+-- the sun's light, where the sun is above the surface
+unfoldable pub sunOf : Scene → Setting → Surface → Traced
+sunOf scene setting surface =
+    let slant = slantOf (surface .normal) (setting .toward) in
+    cond (Ieee.lt zero32 slant) (traced (sunlightOf (setting .colour) slant (transmittanceOf scene (sunRay setting surface))) 1) (traced zeroV 0)
+
+-- what it sends back, and the rays that this takes
+unfoldable pub bouncedBy : Scene → Setting → Surface → Traced
+bouncedBy scene setting surface =
+    let sun = sunOf scene setting surface in
+    let sky = skyOf scene setting surface in
+    cond (blackOf (surface .albedo) (surface .emissive)) (traced zeroV 0)
+    (traced (reflectedOf (surface .albedo) (surface .emissive) (sun .light) (sky .light)) (sun .rays + sky .rays))
