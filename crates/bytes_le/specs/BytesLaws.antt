@@ -60,6 +60,10 @@ module _ {A : Type 0} where
       let e : suc i + length x ≡ i + suc (length x) = omega arith in
       sets-append (set l i a) (suc i) x y ∙ ap (λ (k : ℕ). sets (sets (set l i a) (suc i) x) k y) e
 
+  -- a run written after another is one run
+  pub sets-after : {l₁ l₂ : List A} (l : List A) (at k : ℕ) (x y : List A) → at + length x ≡ k → l₁ ≡ sets l at x → l₂ ≡ sets l₁ k y → l₂ ≡ sets l at (x ++ y)
+  sets-after l at k x y e f g = g ∙ rw (f, ← e) (sym (sets-append l at x y))
+
   -- a run of one more
   pub sets-one-more : (l : List A) (at : ℕ) (x : List A) (i : ℕ) (d : A) → i < length x
       → set (sets l at (take i x)) (at + i) (getD x i d) ≡ sets l at (take (i + 1) x)

@@ -1,0 +1,3 @@
+pub mod KindLaw
+pub mod Step
+pub mod Head

@@ -1,0 +1,2 @@
+-- What good contents say.
+use mathlib.Core.Path.{_≡_, refl}
