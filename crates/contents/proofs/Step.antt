@@ -6,14 +6,8 @@ use mathlib.Core.List.{List}
 use native.Mathlib.Omega.{arith}
 use lib.Dec.{eqb}
 use lib.ListN.{length}
-use Rattle.lists.specs.Fold.{ahead}
+use Rattle.contents.specs.ContentsLaws.{contents-step}
 use Rattle.contents.specs.Contents.{kindAt, offsetAt, lengthAt, entryGood, contentsFrom}
-
-step : (s : List ℕ) (n to i previous start : ℕ) → i < to
-    → contentsFrom s n (to - i) i previous start
-    ≡ entryGood (kindAt s i) previous (offsetAt s i) start (lengthAt s i) i n && contentsFrom s n (to - (i + 1)) (i + 1) (kindAt s i) (start + lengthAt s i)
-unfolding contentsFrom
-step s n to i previous start h = rw (ahead i to h) refl
 
 -- ---- a test, as `if !..` leaves it
 
@@ -32,14 +26,14 @@ pub more : (s : List ℕ) (n to i previous start kind offset long : ℕ) (whole 
     → contentsFrom s n (to - i) i previous start ≡ whole → contentsFrom s n (to - (i + 1)) (i + 1) kind (start + long) ≡ whole
 more s n to i previous start kind offset long whole h k o l g w =
     let f : true ≡ entryGood (kindAt s i) previous (offsetAt s i) start (lengthAt s i) i n = rw (k, o, l) at g in
-    rw (k, l) (sym (step s n to i previous start h ∙ rw (← f) refl) ∙ w)
+    rw (k, l) (sym (contents-step s n to i previous start h ∙ rw (← f) refl) ∙ w)
 
 pub none : (s : List ℕ) (n to i previous start kind offset long : ℕ) (whole : Bool) → i < to
     → kind ≡ kindAt s i → offset ≡ offsetAt s i → long ≡ lengthAt s i → false ≡ entryGood kind previous offset start long i n
     → contentsFrom s n (to - i) i previous start ≡ whole → false ≡ whole
 none s n to i previous start kind offset long whole h k o l g w =
     let f : false ≡ entryGood (kindAt s i) previous (offsetAt s i) start (lengthAt s i) i n = rw (k, o, l) at g in
-    sym (step s n to i previous start h ∙ rw (← f) refl) ∙ w
+    sym (contents-step s n to i previous start h ∙ rw (← f) refl) ∙ w
 
 pub done : (s : List ℕ) (n to i previous start : ℕ) (whole : Bool) → to ≤ i → contentsFrom s n (to - i) i previous start ≡ whole → eqb start (length s) ≡ whole
 unfolding contentsFrom
