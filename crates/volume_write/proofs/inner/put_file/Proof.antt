@@ -1,0 +1,80 @@
+-- Seven runs of stores, each right after the one before, cover the whole list.
+use native.Mathlib.Omega.{arith}
+use Rattle.grid.specs.GridLaws.{voxels-most}
+use Rattle.volume_write.proofs.Whole.{written}
+use borrow.Author.Needs.{needs}
+use Rattle.volume_write.proofs.inner.put_file.Statement.{statement}
+use Rattle.volume_write.proofs.inner.put_file.Tie as tie
+
+put-head-requires : tie.Need-put-head-requires
+put-head-requires c κs = search needs
+
+put-contents-requires : tie.Need-put-contents-requires
+put-contents-requires c κs = omega (arith, c .before .before .before .before .before .before .before .before .before .before .pre .bytes, c .before .before .before .before .before .before .before .before .before .before .pre .count, voxels-most (c .before .before .before .before .before .before .before .before .before .before .args .axes) (c .before .before .before .before .before .before .before .before .before .before .pre .axes))
+
+put-floats-requires : tie.Need-put-floats-requires
+put-floats-requires c κs = search needs
+
+mul-put-floats : tie.Need-mul-put-floats
+mul-put-floats c = search needs
+
+add-put-floats : tie.Need-add-put-floats
+add-put-floats c = search needs
+
+put-floats-requires-2 : tie.Need-put-floats-requires-2
+put-floats-requires-2 c κs = search needs
+
+mul-put-bytes : tie.Need-mul-put-bytes
+mul-put-bytes c = search needs
+
+add-put-bytes : tie.Need-add-put-bytes
+add-put-bytes c = search needs
+
+put-bytes-requires : tie.Need-put-bytes-requires
+put-bytes-requires c κs = search needs
+
+mul-put-bytes-2 : tie.Need-mul-put-bytes-2
+mul-put-bytes-2 c = search needs
+
+add-put-bytes-2 : tie.Need-add-put-bytes-2
+add-put-bytes-2 c = search needs
+
+put-bytes-requires-2 : tie.Need-put-bytes-requires-2
+put-bytes-requires-2 c κs = search needs
+
+mul-put-corners : tie.Need-mul-put-corners
+mul-put-corners c = search needs
+
+add-put-corners : tie.Need-add-put-corners
+add-put-corners c = search needs
+
+put-corners-requires : tie.Need-put-corners-requires
+put-corners-requires c κs = search needs
+
+same-length : tie.Need-same-length
+same-length c = search needs
+
+returns : tie.Need-returns
+returns c = written (c .before .before .before .before .before .before .before .before .before .before .before .before .before .before .before .before .before .before .before .before .before .before .before .before .before .before .before .before .before .before .before .before .before .args .axes) (c .before .before .before .before .before .before .before .before .before .before .before .before .before .before .before .before .before .before .before .before .before .before .before .before .before .before .before .before .before .before .before .before .before .args .corners) (c .before .before .before .before .before .before .before .before .before .before .before .before .before .before .before .before .before .before .before .before .before .before .before .before .before .before .before .before .before .before .before .before .before .args .light .now) (c .before .before .before .before .before .before .before .before .before .before .before .before .before .before .before .before .before .before .before .before .before .before .before .before .before .before .before .before .before .before .before .before .before .args .volume .now) (c .before .before .before .before .before .before .before .before .before .before .before .before .before .before .before .before .before .before .before .before .before .before .before .before .before .before .before .before .before .before .before .before .before .args .active .now) (c .before .before .before .before .before .before .before .before .before .before .before .before .before .before .before .before .before .before .before .before .before .before .before .before .before .before .before .before .before .before .before .before .before .args .occupied .now) (c .before .before .before .before .before .before .before .before .before .before .before .before .before .before .before .before .before .before .before .before .before .before .before .before .before .before .before .before .before .before .before .before .before .args .n) (c .before .before .before .before .before .before .before .before .before .before .before .before .before .before .before .before .before .before .before .before .before .before .before .before .before .before .before .before .before .before .before .before .before .args .bytes .now) _ _ _ _ _ _ _ (c .before .before .before .before .before .before .before .before .before .before .before .before .before .before .before .before .before .before .before .before .before .before .before .before .before .before .before .before .before .before .before .before .before .pre) (c .before .before .before .before .before .before .before .before .before .before .before .before .before .before .before .before .before .before .before .before .before .before .before .before .before .before .put-head .ensures) (c .before .before .before .before .before .before .before .before .before .before .before .before .before .before .before .before .before .before .before .before .before .before .put-contents .ensures) (c .before .before .before .before .before .before .before .before .before .before .before .before .before .before .before .before .before .before .put-floats .ensures) (c .before .before .before .before .before .before .before .before .before .before .before .before .before .before .put-floats2 .ensures) (c .before .before .before .before .before .before .before .before .before .before .put-bytes .ensures) (c .before .before .before .before .before .before .put-bytes2 .ensures) (c .before .before .put-corners .ensures)
+
+pub put-file-spec : {M : Type 1} → statement M
+put-file-spec =
+    tie.close
+    (tie.spec
+    put-head-requires
+    put-contents-requires
+    put-floats-requires
+    mul-put-floats
+    add-put-floats
+    put-floats-requires-2
+    mul-put-bytes
+    add-put-bytes
+    put-bytes-requires
+    mul-put-bytes-2
+    add-put-bytes-2
+    put-bytes-requires-2
+    mul-put-corners
+    add-put-corners
+    put-corners-requires
+    same-length
+    returns)

@@ -1,0 +1,2 @@
+-- The bytes of a volume file as the writer writes it, and what reading them gives.
+pub mod FileBytes
