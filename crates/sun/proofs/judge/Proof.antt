@@ -1,0 +1,168 @@
+-- `sun::judge` meets its contract: the first test that holds gives its row's number. Voxels are counted once the axes have passed.
+use mathlib.Core.Path.{sym, _∙_}
+use Rattle.names.specs.Refusals.{refusals}
+use Rattle.limits.specs.LimitsLaws.{axes-row}
+use Rattle.sun.specs.Sun.{wrongSun, sunRefusal}
+use borrow.Author.Needs.{needs}
+use Rattle.sun.proofs.judge.Statement.{statement}
+use Rattle.sun.proofs.judge.Tie as tie
+
+bad-axes-requires : tie.Need-bad-axes-requires
+bad-axes-requires c κs = search needs
+
+returns : tie.Need-returns
+unfolding sunRefusal
+returns c = rw (← c .before .bad-axes .ensures) (search refusals depth 20)
+
+bad-grid-requires : tie.Need-bad-grid-requires
+bad-grid-requires c κs = axes-row _ .0 (sym (c .before .bad-axes .ensures) ∙ c .if1 .left)
+
+returns-2 : tie.Need-returns-2
+unfolding sunRefusal wrongSun
+returns-2 c =
+    rw (
+      ← c .before .before .before .bad-axes .ensures,
+      ← c .before .bad-grid .ensures,
+    )
+    (search refusals depth 20)
+
+voxel-count-requires : tie.Need-voxel-count-requires
+voxel-count-requires c κs = axes-row _ .0 (sym (c .before .before .before .bad-axes .ensures) ∙ c .before .before .if1 .left)
+
+wrong-scene-requires : tie.Need-wrong-scene-requires
+wrong-scene-requires c κs = search needs
+
+returns-3 : tie.Need-returns-3
+unfolding sunRefusal wrongSun
+returns-3 c =
+    rw (
+      ← c .before .before .before .before .before .before .bad-axes .ensures,
+      ← c .before .before .before .before .bad-grid .ensures,
+      ← c .before .before .voxel-count .ensures,
+      ← c .before .wrong-scene .ensures,
+    )
+    (search refusals depth 20)
+
+too-many-requires : tie.Need-too-many-requires
+too-many-requires c κs = search needs
+
+returns-4 : tie.Need-returns-4
+unfolding sunRefusal wrongSun
+returns-4 c =
+    rw (
+      ← c .before .before .before .before .before .before .before .before .bad-axes .ensures,
+      ← c .before .before .before .before .before .before .bad-grid .ensures,
+      ← c .before .before .before .before .voxel-count .ensures,
+      ← c .before .before .before .wrong-scene .ensures,
+      ← c .before .too-many .ensures,
+    )
+    (search refusals depth 20)
+
+bad-points-requires : tie.Need-bad-points-requires
+bad-points-requires c κs = search needs
+
+returns-5 : tie.Need-returns-5
+unfolding sunRefusal wrongSun
+returns-5 c =
+    rw (
+      ← c .before .before .before .before .before .before .before .before .before .before .bad-axes .ensures,
+      ← c .before .before .before .before .before .before .before .before .bad-grid .ensures,
+      ← c .before .before .before .before .before .before .voxel-count .ensures,
+      ← c .before .before .before .before .before .wrong-scene .ensures,
+      ← c .before .before .before .too-many .ensures,
+      ← c .before .bad-points .ensures,
+    )
+    (search refusals depth 20)
+
+bad-materials-requires : tie.Need-bad-materials-requires
+bad-materials-requires c κs = search needs
+
+returns-6 : tie.Need-returns-6
+unfolding sunRefusal wrongSun
+returns-6 c =
+    rw (
+      ← c .before .before .before .before .before .before .before .before .before .before .before .before .bad-axes .ensures,
+      ← c .before .before .before .before .before .before .before .before .before .before .bad-grid .ensures,
+      ← c .before .before .before .before .before .before .before .before .voxel-count .ensures,
+      ← c .before .before .before .before .before .before .before .wrong-scene .ensures,
+      ← c .before .before .before .before .before .too-many .ensures,
+      ← c .before .before .before .bad-points .ensures,
+      ← c .before .bad-materials .ensures,
+    )
+    (search refusals depth 20)
+
+bad-direction-requires : tie.Need-bad-direction-requires
+bad-direction-requires c κs = search needs
+
+returns-7 : tie.Need-returns-7
+unfolding sunRefusal wrongSun
+returns-7 c =
+    rw (
+      ← c .before .before .before .before .before .before .before .before .before .before .before .before .before .before .bad-axes .ensures,
+      ← c .before .before .before .before .before .before .before .before .before .before .before .before .bad-grid .ensures,
+      ← c .before .before .before .before .before .before .before .before .before .before .voxel-count .ensures,
+      ← c .before .before .before .before .before .before .before .before .before .wrong-scene .ensures,
+      ← c .before .before .before .before .before .before .before .too-many .ensures,
+      ← c .before .before .before .before .before .bad-points .ensures,
+      ← c .before .before .before .bad-materials .ensures,
+      ← c .before .bad-direction .ensures,
+    )
+    (search refusals depth 20)
+
+bad-mask-requires : tie.Need-bad-mask-requires
+bad-mask-requires c κs = search needs
+
+returns-8 : tie.Need-returns-8
+unfolding sunRefusal wrongSun
+returns-8 c =
+    rw (
+      ← c .before .before .before .before .before .before .before .before .before .before .before .before .before .before .before .before .bad-axes .ensures,
+      ← c .before .before .before .before .before .before .before .before .before .before .before .before .before .before .bad-grid .ensures,
+      ← c .before .before .before .before .before .before .before .before .before .before .before .before .voxel-count .ensures,
+      ← c .before .before .before .before .before .before .before .before .before .before .before .wrong-scene .ensures,
+      ← c .before .before .before .before .before .before .before .before .before .too-many .ensures,
+      ← c .before .before .before .before .before .before .before .bad-points .ensures,
+      ← c .before .before .before .before .before .bad-materials .ensures,
+      ← c .before .before .before .bad-direction .ensures,
+      ← c .before .bad-mask .ensures,
+    )
+    (search refusals depth 20)
+
+returns-9 : tie.Need-returns-9
+unfolding sunRefusal wrongSun
+returns-9 c =
+    rw (
+      ← c .before .before .before .before .before .before .before .before .before .before .before .before .before .before .before .before .bad-axes .ensures,
+      ← c .before .before .before .before .before .before .before .before .before .before .before .before .before .before .bad-grid .ensures,
+      ← c .before .before .before .before .before .before .before .before .before .before .before .before .voxel-count .ensures,
+      ← c .before .before .before .before .before .before .before .before .before .before .before .wrong-scene .ensures,
+      ← c .before .before .before .before .before .before .before .before .before .too-many .ensures,
+      ← c .before .before .before .before .before .before .before .bad-points .ensures,
+      ← c .before .before .before .before .before .bad-materials .ensures,
+      ← c .before .before .before .bad-direction .ensures,
+      ← c .before .bad-mask .ensures,
+    )
+    (search refusals depth 20)
+
+pub judge-spec : {M : Type 1} → statement M
+judge-spec =
+    tie.close
+    (tie.spec
+    bad-axes-requires
+    returns
+    bad-grid-requires
+    returns-2
+    voxel-count-requires
+    wrong-scene-requires
+    returns-3
+    too-many-requires
+    returns-4
+    bad-points-requires
+    returns-5
+    bad-materials-requires
+    returns-6
+    bad-direction-requires
+    returns-7
+    bad-mask-requires
+    returns-8
+    returns-9)

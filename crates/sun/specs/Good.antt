@@ -1,0 +1,31 @@
+-- A good call is accepted: one active voxel, no triangles, the light straight up.
+use mathlib.Core.Path.{_≡_, refl}
+use mathlib.Core.List.{List, [], _∷_}
+use lib.Ieee.{ofBits, ofFields, odd, neg, le, lt, eq, add, sub, mul, div, ofInt, round, sum, units, size, climb, span}
+use Rattle.names.specs.Bits.{zero32, one32}
+use Rattle.names.specs.Refusals.{firstOf}
+use Rattle.names.specs.Scene.{Scene, sceneOf}
+use Rattle.vectors.specs.Vectors.{vec, dotV}
+use Rattle.vectors.specs.declared.Vec3.{Vec3}
+use Rattle.grid.specs.Grid.{edgesOf}
+use Rattle.grid.specs.declared.Axes.{Axes}
+use Rattle.grid.specs.declared.Corners.{Corners}
+use Rattle.limits.specs.Limits.{within, outsideV, badAxes, badCorners, badEdges, wrongShare, wrongScene, tooMany, badPoints, badKinds, badFrom, badUses, badMaterials, badDirection, badMask}
+use Rattle.limits.specs.Some.{some}
+use Rattle.sun.specs.Sun.{wrongSun, sunRefusal}
+
+unfoldable pub oneVoxel : Axes
+oneVoxel = record { width = 1; height = 1; depth = 1 }
+
+unfoldable pub unitBox : Corners
+unitBox = record { min = vec zero32 zero32 zero32; max = vec one32 one32 one32 }
+
+unfoldable pub upward : Vec3
+upward = vec zero32 zero32 one32
+
+abbrev pub emptyScene : Scene
+emptyScene = sceneOf [] [] [] []
+
+pub sun-accepted : sunRefusal oneVoxel unitBox emptyScene upward (1 ∷ []) 1 1 0 0 ≡ 0
+unfolding sunRefusal wrongSun oneVoxel unitBox upward firstOf badAxes badCorners badEdges edgesOf wrongScene wrongShare tooMany badPoints badKinds badFrom badUses badMaterials badDirection badMask some outsideV within dotV ofBits ofFields odd neg le lt eq add sub mul div ofInt round sum units size climb span
+sun-accepted = refl

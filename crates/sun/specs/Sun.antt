@@ -1,0 +1,124 @@
+-- The sun pass. "Inactive voxels get 1.0. Active: from centre + light·(3·voxel diagonal), distances 1e-4 to infinity. Then blur: sum in z,y,x order over
+-- the in-grid 3×3×3, divide by the count, square. No active voxel: all 1.0, no blur. Rays reported: the active count." The light is the direction
+-- normalised. The figures before the blur are a definition of their own, which the light's scratch list holds afterwards; where no voxel is active
+-- that list stays as it was.
+use mathlib.Core.Path.{_≡_}
+use mathlib.Core.Bool.{Bool, cond, _||_}
+use mathlib.Core.List.{List, [], _∷_}
+use Prim.Native.Nat.{ℕ, _≤_}
+use lib.Dec.{eqb}
+use lib.ListN.{length}
+use lib.Ieee as Ieee
+use lib.Ieee.{Float, binary32}
+use Rattle.names.specs.Bits.{lit, one32, inf32}
+use Rattle.names.specs.Refusals.{Row, row, firstOf, unlessRefused}
+use Rattle.names.specs.Scene.{Scene, Sound}
+use Rattle.lists.specs.Fold.{tab}
+use Rattle.vectors.specs.Vectors.{addV, scaleV, normalV}
+use Rattle.vectors.specs.declared.Vec3.{Vec3}
+use Rattle.vectors.specs.declared.Ray.{Ray}
+use Rattle.grid.specs.Grid.{voxels, xOf, yOf, zOf, edgesOf, centreFrom, diagonalOf, AxesWithin}
+use Rattle.grid.specs.declared.Axes.{Axes}
+use Rattle.grid.specs.declared.Corners.{Corners}
+use Rattle.limits.specs.Limits.{badAxes, badGrid, wrongScene, wrongLength, tooShort, tooMany, badPoints, badMaterials, badDirection, badMask}
+use Rattle.means.specs.Box.{lightBlurOf}
+use Rattle.marks.specs.Marks.{isActive, activeCount}
+use Rattle.scan.specs.Transmittance.{transmittanceOf}
+use Rattle.sun.specs.declared.Sunned.{Sunned}
+
+-- ---- before the blur
+
+-- "distances 1e-4 to infinity"
+abbrev pub sunShortest : Float
+sunShortest = lit 0x38d1b717
+
+-- "3·voxel diagonal", as the Rust multiplies it
+abbrev pub aheadOf : Vec3 → Float
+aheadOf edges = Ieee.mul binary32 (diagonalOf edges) (lit 0x40400000)
+
+-- the ray along l that starts a way ahead of a point
+unfoldable pub sunRay : Vec3 → Float → Vec3 → Ray
+sunRay l ahead centre = record { origin = addV centre (scaleV l ahead); direction = l; shortest = sunShortest; longest = inf32 }
+
+-- what voxel i sees of the sun, from the grid's lower corner, its edges, the light's direction and the way ahead
+unfoldable pub figureOf : Axes → Vec3 → Vec3 → Vec3 → Float → Scene → List ℕ → ℕ → Float
+figureOf axes low edges l ahead scene active i =
+    cond (isActive active i)
+    (transmittanceOf scene (sunRay l ahead (centreFrom low edges (xOf axes i) (yOf axes i) (zOf axes i))))
+    one32
+
+-- of voxel i, from the call's arguments
+abbrev pub sunAt : Axes → Corners → Scene → Vec3 → List ℕ → ℕ → Float
+sunAt axes corners scene direction active i =
+    figureOf axes (corners .min) (edgesOf corners axes) (normalV direction) (aheadOf (edgesOf corners axes)) scene active i
+
+unfoldable pub sunBefore : Axes → Corners → Scene → Vec3 → List ℕ → List Float
+sunBefore axes corners scene direction active = tab (sunAt axes corners scene direction active) (voxels axes) 0
+
+-- ---- after it
+
+abbrev pub noneActive : List ℕ → Bool
+noneActive active = eqb (activeCount active) 0
+
+-- 1.0 for each voxel
+abbrev pub allOnes : Axes → List Float
+allOnes axes = tab (λ (i : ℕ). one32) (voxels axes) 0
+
+unfoldable pub sunLight : Axes → Corners → Scene → Vec3 → List ℕ → List Float
+sunLight axes corners scene direction active =
+    cond (noneActive active) (allOnes axes)
+    (lightBlurOf (sunBefore axes corners scene direction active) (axes .width) (axes .height) (axes .depth))
+
+-- what its scratch list holds, from what it held
+unfoldable pub sunScratch : Axes → Corners → Scene → Vec3 → List ℕ → List Float → List Float
+sunScratch axes corners scene direction active scratch =
+    cond (noneActive active) scratch (sunBefore axes corners scene direction active)
+
+-- ---- the call
+
+-- a list of the scene, the mask, the light or its scratch has the wrong length, or a list of hits is shorter than the triangle count
+unfoldable pub wrongSun : ℕ → Scene → ℕ → ℕ → ℕ → ℕ → ℕ → Bool
+wrongSun n scene active lights scratches distances places =
+    wrongScene (scene .points) (scene .uses) (scene .kinds) (scene .numbers)
+    || wrongLength active n
+    || wrongLength lights n
+    || wrongLength scratches n
+    || tooShort distances (length (scene .uses))
+    || tooShort places (length (scene .uses))
+
+-- the last four are lengths: of the light, its scratch and the two lists of hits
+abbrev pub sunRows : Axes → Corners → Scene → Vec3 → List ℕ → ℕ → ℕ → ℕ → ℕ → List Row
+sunRows axes corners scene direction active lights scratches distances places =
+    row 1 (badAxes axes)
+    ∷ row 2 (badGrid corners axes)
+    ∷ row 3 (wrongSun (voxels axes) scene (length active) lights scratches distances places)
+    ∷ row 4 (tooMany (length (scene .uses)) (length (scene .kinds)))
+    ∷ row 5 (badPoints (scene .points))
+    ∷ row 6 (badMaterials (scene .uses) (scene .kinds) (scene .numbers))
+    ∷ row 7 (badDirection direction)
+    ∷ row 13 (badMask active)
+    ∷ []
+
+unfoldable pub sunRefusal : Axes → Corners → Scene → Vec3 → List ℕ → ℕ → ℕ → ℕ → ℕ → ℕ
+sunRefusal axes corners scene direction active lights scratches distances places =
+    firstOf (sunRows axes corners scene direction active lights scratches distances places)
+
+-- what the trace of a voxel asks
+pub record Traceable (axes : Axes) (scene : Scene) (active distances places : ℕ) : Type 0 where
+  pub axes-fit : AxesWithin axes
+  pub scene-fits : Sound scene
+  pub mask-fits : active ≡ voxels axes
+  pub distances-fit : length (scene .uses) ≤ distances
+  pub places-fit : length (scene .uses) ≤ places
+
+-- the lists of hits keep their lengths always, and what they held where no ray is traced; what they hold otherwise is open
+pub record SunAnswered (axes : Axes) (corners : Corners) (scene : Scene) (direction : Vec3) (active : List ℕ) (light scratch distances : List Float)
+    (places : List ℕ) (r : Sunned) (light' scratch' distances' : List Float) (places' : List ℕ) : Type 0 where
+  pub answer : r .refusal ≡ sunRefusal axes corners scene direction active (length light) (length scratch) (length distances) (length places)
+  pub rays : r .rays ≡ unlessRefused (r .refusal) (activeCount active) 0
+  pub light-after : light' ≡ unlessRefused (r .refusal) (sunLight axes corners scene direction active) light
+  pub scratch-after : scratch' ≡ unlessRefused (r .refusal) (sunScratch axes corners scene direction active scratch) scratch
+  pub distances-kept : r .rays ≡ 0 → distances' ≡ distances
+  pub places-kept : r .rays ≡ 0 → places' ≡ places
+  pub distances-long : length distances' ≡ length distances
+  pub places-long : length places' ≡ length places

@@ -1,0 +1,127 @@
+-- What the sun pass means: each figure before the blur, all of them 1.0 where no voxel is active; one result; and what an accepted call has.
+use mathlib.Core.Path.{_≡_, refl, sym, ap, ap₂, _∙_}
+use mathlib.Core.Bool.{Bool, true, false, cond, _||_, false≢true}
+use mathlib.Core.List.{List, [], _∷_}
+use Prim.Native.Nat.{ℕ, zero, suc, _+_, _≤_, _<_}
+use native.Mathlib.Nat.{zero-add}
+use native.Mathlib.Omega.{arith}
+use lib.ListN.{length, getD}
+use lib.Ieee.{Float, nan}
+use borrow.Author.Tests.{ltb-false, eqb-true, not-false}
+use Rattle.names.specs.Bits.{one32}
+use Rattle.names.specs.Refusals.{unlessRefused}
+use Rattle.names.specs.Scene.{Scene, Sound}
+use Rattle.lists.specs.Fold.{tab, length-tab, getD-tab}
+use Rattle.lists.specs.Any.{any}
+use Rattle.vectors.specs.Vectors.{normalV}
+use Rattle.vectors.specs.declared.Vec3.{Vec3}
+use Rattle.grid.specs.Grid.{voxels, xOf, yOf, zOf, edgesOf, centreOf, AxesWithin}
+use Rattle.grid.specs.declared.Axes.{Axes}
+use Rattle.grid.specs.declared.Corners.{Corners}
+use Rattle.limits.specs.Limits.{wrongScene, wrongLength, tooShort}
+use Rattle.limits.specs.LimitsLaws.{either, axes-row, sound}
+use Rattle.passed.specs.Passed.{passed}
+use Rattle.marks.specs.Marks.{isActive, activeCount}
+use Rattle.marks.specs.MarksLaws.{active-some}
+use Rattle.scan.specs.Transmittance.{transmittanceOf}
+use Rattle.sun.specs.declared.Sunned.{Sunned}
+use Rattle.sun.specs.Sun.{aheadOf, sunRay, figureOf, sunAt, sunBefore, allOnes, sunRows, wrongSun, sunRefusal, Traceable, SunAnswered}
+
+-- ---- the figures before the blur
+
+module _ (axes : Axes) (corners : Corners) (scene : Scene) (direction : Vec3) (active : List ℕ) where
+  pub length-before : length (sunBefore axes corners scene direction active) ≡ voxels axes
+  unfolding sunBefore
+  length-before = length-tab (sunAt axes corners scene direction active) (voxels axes) 0
+
+  pub before-at : (i : ℕ) → i < voxels axes → getD (sunBefore axes corners scene direction active) i nan ≡ sunAt axes corners scene direction active i
+  unfolding sunBefore
+  before-at i h = getD-tab (sunAt axes corners scene direction active) (voxels axes) 0 i nan h ∙ ap (sunAt axes corners scene direction active) (zero-add i)
+
+  pub inactive-before : (i : ℕ) → i < voxels axes → isActive active i ≡ false → getD (sunBefore axes corners scene direction active) i nan ≡ one32
+  unfolding figureOf
+  inactive-before i h e = before-at i h ∙ rw e
+
+  pub active-before : (i : ℕ) → i < voxels axes → isActive active i ≡ true
+      → getD (sunBefore axes corners scene direction active) i nan
+      ≡ transmittanceOf scene (sunRay (normalV direction) (aheadOf (edgesOf corners axes)) (centreOf corners axes (xOf axes i) (yOf axes i) (zOf axes i)))
+  unfolding figureOf
+  active-before i h e = before-at i h ∙ rw e
+
+  -- two lists made by index are one where every number is
+  tab-same : (f g : ℕ → Float) (k i : ℕ) → ((j : ℕ) → i ≤ j → j < i + k → f j ≡ g j) → tab f k i ≡ tab g k i
+  unfolding tab
+  tab-same f g zero i e = refl
+  tab-same f g (suc k) i e =
+      ap₂ (λ (x : Float) (l : List Float). x ∷ l) (e i (omega arith) (omega arith)) (tab-same f g k (i + 1) (λ j p q. e j (omega arith) (omega arith)))
+
+  -- where no voxel is active every figure is 1.0
+  pub none-before : length active ≡ voxels axes → activeCount active ≡ 0 → sunBefore axes corners scene direction active ≡ allOnes axes
+  unfolding sunBefore figureOf
+  none-before l z = tab-same (sunAt axes corners scene direction active) (λ (i : ℕ). one32) (voxels axes) 0 (λ j p q. at j (isActive active j) refl (omega arith))
+    where
+      at : (j : ℕ) (b : Bool) → isActive active j ≡ b → j < voxels axes → sunAt axes corners scene direction active j ≡ one32
+      at j true e h = absurd (omega (arith, active-some active j (omega arith) e))
+      at j false e h = rw e
+
+-- ---- one result
+
+pub record SameSun (r s : Sunned) (light light' scratch scratch' distances distances' : List Float) (places places' : List ℕ) : Type 0 where
+  pub answer : r ≡ s
+  pub lights : light ≡ light'
+  pub scratches : scratch ≡ scratch'
+  pub distances-same : r .rays ≡ 0 → distances ≡ distances'
+  pub places-same : r .rays ≡ 0 → places ≡ places'
+  pub distances-long : length distances ≡ length distances'
+  pub places-long : length places ≡ length places'
+
+pub sun-answered-once : (axes : Axes) (corners : Corners) (scene : Scene) (direction : Vec3) (active : List ℕ) (l s d : List Float) (p : List ℕ)
+    (r₁ r₂ : Sunned) (l₁ s₁ d₁ l₂ s₂ d₂ : List Float) (p₁ p₂ : List ℕ)
+    → SunAnswered axes corners scene direction active l s d p r₁ l₁ s₁ d₁ p₁ → SunAnswered axes corners scene direction active l s d p r₂ l₂ s₂ d₂ p₂
+    → SameSun r₁ r₂ l₁ l₂ s₁ s₂ d₁ d₂ p₁ p₂
+sun-answered-once axes corners scene direction active l s d p r₁ r₂ l₁ s₁ d₁ l₂ s₂ d₂ p₁ p₂ a b =
+    let f : r₁ .refusal ≡ r₂ .refusal = a .answer ∙ sym (b .answer) in
+    let g : r₁ .rays ≡ r₂ .rays = a .rays ∙ rw f (sym (b .rays)) in
+    record {
+      answer = ap₂ (λ (m n : ℕ). record { refusal = m; rays = n }) f g;
+      lights = a .light-after ∙ rw f (sym (b .light-after));
+      scratches = a .scratch-after ∙ rw f (sym (b .scratch-after));
+      distances-same = λ z. a .distances-kept z ∙ sym (b .distances-kept (sym g ∙ z));
+      places-same = λ z. a .places-kept z ∙ sym (b .places-kept (sym g ∙ z));
+      distances-long = a .distances-long ∙ sym (b .distances-long);
+      places-long = a .places-long ∙ sym (b .places-long);
+    }
+
+-- ---- what an accepted call has
+
+pub record Ready (axes : Axes) (scene : Scene) (active lights scratches distances places : ℕ) : Type 0 where
+  pub traceable : Traceable axes scene active distances places
+  pub lights-fit : lights ≡ voxels axes
+  pub scratches-fit : scratches ≡ voxels axes
+
+right : (len n : ℕ) → wrongLength len n ≡ false → len ≡ n
+right len n e = eqb-true _ _ (not-false _ e)
+
+pub sun-ready : (axes : Axes) (corners : Corners) (scene : Scene) (direction : Vec3) (active : List ℕ) (lights scratches distances places : ℕ)
+    → sunRefusal axes corners scene direction active lights scratches distances places ≡ 0
+    → Ready axes scene (length active) lights scratches distances places
+unfolding sunRefusal wrongSun
+sun-ready axes corners scene direction active lights scratches distances places e =
+    let p = passed (sunRows axes corners scene direction active lights scratches distances places)
+    (omega arith, (omega arith, (omega arith, (omega arith, (omega arith, (omega arith, (omega arith, (omega arith, tt)))))))) e in
+    let a = either _ _ .0 (p .1 .1 .0) in
+    let b = either _ _ .0 (a .0) in
+    let c = either _ _ .0 (b .0) in
+    let d = either _ _ .0 (c .0) in
+    let f = either _ _ .0 (d .0) in
+    record {
+      traceable = record {
+        axes-fit = axes-row axes .0 (p .0);
+        scene-fits = sound _ _ _ _ (f .0) (p .1 .1 .1 .0) (p .1 .1 .1 .1 .1 .0);
+        mask-fits = right _ _ (f .1);
+        distances-fit = ltb-false _ _ (b .1);
+        places-fit = ltb-false _ _ (a .1);
+      };
+      lights-fit = right _ _ (d .1);
+      scratches-fit = right _ _ (c .1);
+    }

@@ -1,0 +1,244 @@
+// The sun pass: how much of the sun each voxel sees. Document 01, module 5; the Rust's compute_sun_visibility.
+ghost use mathlib.Core.Path.{_≡_};
+ghost use mathlib.Core.Bool.{cond};
+ghost use Prim.Native.Nat.{_≤_, _<_};
+ghost use lib.ListN.{length};
+ghost use Rattle.names.specs.Bits.{one32, inf32};
+ghost use Rattle.names.specs.Scene.{sceneOf};
+ghost use Rattle.lists.specs.Fold.{tab};
+ghost use Rattle.grid.specs.Grid.{voxels};
+ghost use Rattle.sun.specs.Sun.{figureOf, sunBefore, sunRefusal, Traceable, SunAnswered};
+use grid::Axes;
+use grid::Corners;
+use vectors::Ray;
+use vectors::Vec3;
+
+// "distances 1e-4 to infinity"
+const SHORTEST: f32 = 1.0e-4;
+
+// "from centre + light·(3·voxel diagonal)"
+const DIAGONALS: f32 = 3.0;
+
+// What a sun pass answers: a refusal's number, and the rays, one for each active voxel.
+#[repr(C)]
+pub struct Sunned {
+    pub refusal: u32,
+    pub rays: u64,
+}
+
+// Fills `light` with what each voxel sees of the sun, blurred, and `scratch` with the same before the blur. Where no voxel is active the light is all
+// 1.0, and scratch stays as it was. The two lists of hits are scratch too, and what stands in them afterwards is left open. Refusals 1 to 7 and 13.
+pub fn sun(
+    axes: Axes,
+    corners: Corners,
+    points: &[f32],
+    uses: &[u32],
+    kinds: &[u8],
+    numbers: &[f32],
+    direction: Vec3,
+    active: &[u8],
+    light: &mut [f32],
+    scratch: &mut [f32],
+    distances: &mut [f32],
+    places: &mut [usize],
+) -> Sunned
+    ensures { λ r. ⌜ SunAnswered axes corners (sceneOf (now (points .entry)) (now (uses .entry)) (now (kinds .entry)) (now (numbers .entry))) direction (now (active .entry)) (now (light .entry)) (now (scratch .entry)) (now (distances .entry)) (now (places .entry)) r (now (light .exit)) (now (scratch .exit)) (now (distances .exit)) (now (places .exit)) ⌝ }
+{
+    let refusal = judge(
+        axes,
+        corners,
+        points,
+        uses,
+        kinds,
+        numbers,
+        direction,
+        active,
+        light.len(),
+        scratch.len(),
+        distances.len(),
+        places.len(),
+    );
+    if refusal == 0 {
+        let rays = marks::count(active);
+        if rays == 0 {
+            brighten(light);
+            return Sunned {
+                refusal: 0,
+                rays: 0,
+            };
+        }
+        trace(
+            axes,
+            corners,
+            points,
+            uses,
+            kinds,
+            numbers,
+            direction,
+            active,
+            scratch,
+            distances,
+            places,
+        );
+        means::inner::square(scratch, light, axes.width, axes.height, axes.depth);
+        return Sunned { refusal: 0, rays };
+    }
+    Sunned { refusal, rays: 0 }
+}
+
+// 1, 2, 3, 4, 5, 6, 7, 13, where the last four are the lengths of the light, its scratch and the two lists of hits.
+fn judge(
+    axes: Axes,
+    corners: Corners,
+    points: &[f32],
+    uses: &[u32],
+    kinds: &[u8],
+    numbers: &[f32],
+    direction: Vec3,
+    active: &[u8],
+    lights: usize,
+    scratches: usize,
+    distances: usize,
+    places: usize,
+) -> u32
+    ensures { λ r. ⌜ r ≡ sunRefusal axes corners (sceneOf (now (points .entry)) (now (uses .entry)) (now (kinds .entry)) (now (numbers .entry))) direction (now (active .entry)) lights scratches distances places ⌝ }
+{
+    if limits::inner::bad_axes(axes) {
+        return 1;
+    }
+    if limits::inner::bad_grid(corners, axes) {
+        return 2;
+    }
+    let n = grid::inner::voxel_count(axes);
+    let t = uses.len();
+    let scene = limits::inner::wrong_scene(points, uses, kinds, numbers);
+    let a = active.len();
+    let wrong = scene
+        | (a != n)
+        | (lights != n)
+        | (scratches != n)
+        | (distances < t)
+        | (places < t);
+    if wrong {
+        return 3;
+    }
+    if limits::inner::too_many(uses.len(), kinds.len()) {
+        return 4;
+    }
+    if limits::inner::bad_points(points) {
+        return 5;
+    }
+    if limits::inner::bad_materials(uses, kinds, numbers) {
+        return 6;
+    }
+    if limits::inner::bad_direction(direction) {
+        return 7;
+    }
+    if limits::inner::bad_mask(active) {
+        return 13;
+    }
+    0
+}
+
+// 1.0 everywhere.
+fn brighten(light: &mut [f32])
+    ensures { λ r. ⌜ now (light .exit) ≡ tab (λ i. one32) (length (now (light .entry))) 0 ⌝ }
+{
+    let mut i = 0;
+    while i < light.len() {
+        light[i] = 1.0;
+        i += 1;
+    }
+}
+
+// The figures before the blur, in `before`.
+fn trace(
+    axes: Axes,
+    corners: Corners,
+    points: &[f32],
+    uses: &[u32],
+    kinds: &[u8],
+    numbers: &[f32],
+    direction: Vec3,
+    active: &[u8],
+    before: &mut [f32],
+    distances: &mut [f32],
+    places: &mut [usize],
+)
+    requires { ⌜ Traceable axes (sceneOf (now points) (now uses) (now kinds) (now numbers)) (length (now active)) (length (now distances)) (length (now places)) ⌝ }
+    requires { ⌜ length (now before) ≡ voxels axes ⌝ }
+    ensures { λ r. ⌜ now (before .exit) ≡ sunBefore axes corners (sceneOf (now (points .entry)) (now (uses .entry)) (now (kinds .entry)) (now (numbers .entry))) direction (now (active .entry)) ⌝ }
+{
+    let edges = grid::inner::edges(corners, axes);
+    let l = vectors::normalise(direction);
+    let ahead = vectors::length(edges) * DIAGONALS;
+    let low = corners.min;
+    let mut i = 0;
+    while i < before.len() {
+        let f = figure(
+            axes,
+            low,
+            edges,
+            l,
+            ahead,
+            points,
+            uses,
+            kinds,
+            numbers,
+            active,
+            i,
+            distances,
+            places,
+        );
+        before[i] = f;
+        i += 1;
+    }
+}
+
+// What voxel i sees of the sun: 1.0 where it is not active.
+fn figure(
+    axes: Axes,
+    low: Vec3,
+    edges: Vec3,
+    l: Vec3,
+    ahead: f32,
+    points: &[f32],
+    uses: &[u32],
+    kinds: &[u8],
+    numbers: &[f32],
+    active: &[u8],
+    i: usize,
+    distances: &mut [f32],
+    places: &mut [usize],
+) -> f32
+    requires { ⌜ Traceable axes (sceneOf (now points) (now uses) (now kinds) (now numbers)) (length (now active)) (length (now distances)) (length (now places)) ⌝ }
+    requires { ⌜ i < voxels axes ⌝ }
+    ensures { λ r. ⌜ r ≡ figureOf axes low edges l ahead (sceneOf (now (points .entry)) (now (uses .entry)) (now (kinds .entry)) (now (numbers .entry))) (now (active .entry)) i ⌝ }
+{
+    if active[i] == 1 {
+        let row = i / axes.width;
+        let centre = grid::inner::centre(
+            low,
+            edges,
+            i % axes.width,
+            row % axes.height,
+            row / axes.height,
+        );
+        let origin = vectors::add(centre, vectors::scale(l, ahead));
+        let ray = Ray {
+            origin,
+            direction: l,
+            shortest: SHORTEST,
+            longest: infinity(),
+        };
+        return scan::inner::transmittance(points, uses, kinds, numbers, ray, distances, places);
+    }
+    1.0
+}
+
+// The infinity above every number.
+fn infinity() -> f32
+    ensures { λ r. ⌜ r ≡ inf32 ⌝ }
+{
+    f32::from_bits(0x7f800000)
+}
