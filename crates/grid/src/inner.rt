@@ -1,7 +1,7 @@
 // What the crates above compute of a grid that is within the limits.
 ghost use mathlib.Core.Path.{_≡_};
 ghost use Prim.Native.Nat.{_<_, _≤_};
-ghost use Rattle.grid.specs.Grid.{voxels, floatOf, edgesOf, centreFrom, smallestEdgeOf, AxesWithin};
+ghost use Rattle.grid.specs.Grid.{voxels, indexOf, floatOf, edgesOf, centreFrom, smallestEdgeOf, AxesWithin};
 use super::Axes;
 use super::Corners;
 use vectors::Vec3;
@@ -12,6 +12,15 @@ pub fn voxel_count(axes: Axes) -> usize
     ensures { λ r. ⌜ r ≡ voxels axes ⌝ }
 {
     axes.depth * axes.height * axes.width
+}
+
+// The index of voxel (x, y, z).
+pub fn index(axes: Axes, x: usize, y: usize, z: usize) -> usize
+    requires { ⌜ AxesWithin axes ⌝ }
+    requires { ⌜ (x < axes .width) × (y < axes .height) × (z < axes .depth) ⌝ }
+    ensures { λ r. ⌜ r ≡ indexOf axes x y z ⌝ }
+{
+    (z * axes.height + y) * axes.width + x
 }
 
 // A small whole number as a float.

@@ -4,6 +4,7 @@ ghost use Prim.Native.Nat.{_<_, _≤_};
 ghost use mathlib.Core.Bool.{not};
 ghost use lib.ListN.{length};
 ghost use Rattle.grid.specs.Grid.{AxesWithin};
+ghost use Rattle.names.specs.Numbers.{lightLimit};
 ghost use Rattle.limits.specs.Some.{some};
 ghost use Rattle.limits.specs.Limits.{within, outside, upTo, outsideV, badAxes, badCorners, badEdges, badGrid, wrongShare, wrongScene, tooMany, badPoints, badTriangle, badKinds, badNumber, badNumbers, badUses, badMaterials, badDirection, badColour, badLight, badAmbient, badSky, badRay, badPosition, badMask, badLights, badCoefficients};
 ghost use lib.Dec.{ltb, leb};
@@ -209,6 +210,13 @@ pub fn bad_position(p: Vec3) -> bool
 }
 
 // ---- 13
+
+// Of one light.
+pub fn bad_light_number(x: f32) -> bool
+    ensures { λ r. ⌜ r ≡ outside lightLimit x ⌝ }
+{
+    out_of(LIGHT_LIMIT, x)
+}
 
 pub fn bad_mask(mask: &[u8]) -> bool
     ensures { λ r. ⌜ r ≡ badMask (now (mask .entry)) ⌝ }

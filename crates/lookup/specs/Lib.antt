@@ -1,0 +1,5 @@
+-- Lookups: the light and the coefficients at a position, and one voxel's sixteen numbers.
+pub mod Place
+pub mod PlaceLaws
+pub mod Lookup
+pub mod LookupLaws

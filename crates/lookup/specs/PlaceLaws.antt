@@ -1,0 +1,103 @@
+-- What the places mean: a clamped cell is the cell itself within the axis and the last past its end; the cells read lie in the grid.
+use mathlib.Core.Path.{_≡_, refl, sym, _∙_}
+use mathlib.Core.Bool.{Bool, true, false, _||_, or-false}
+use Prim.Native.Nat.{ℕ, _+_, _-_, _*_, _≤_, _<_}
+use native.Mathlib.Omega.{arith}
+use lib.Dec.{ltb}
+use lib.Ieee.{Float, toUnsigned}
+use borrow.Author.Tests.{lt-ltb, le-ltb, ltb-true, ltb-false}
+use Rattle.floats.specs.Whole.{floorOf}
+use Rattle.vectors.specs.declared.Vec3.{Vec3}
+use Rattle.grid.specs.declared.Axes.{Axes}
+use Rattle.grid.specs.declared.Corners.{Corners}
+use Rattle.grid.specs.Grid.{voxels, AxesWithin}
+use Rattle.lists.specs.Fold.{place}
+use Rattle.grid.specs.GridLaws.{index-within}
+use Rattle.limits.specs.Some.{some}
+use Rattle.lookup.specs.declared.Between.{Between}
+use Rattle.lookup.specs.declared.Cells.{Cells}
+use Rattle.lookup.specs.Place.{clamped, cellOf, betweenOf, Along, Inside, cellsFrom, cellsOf, cellsRead, blendedOf, Readable}
+
+-- ---- along one axis
+
+pub clamped-same : (n k : ℕ) → k < n → clamped n k ≡ k
+unfolding clamped
+clamped-same n k h = rw (lt-ltb k n h)
+
+pub clamped-last : (n k : ℕ) → n ≤ k → clamped n k ≡ n - 1
+unfolding clamped
+clamped-last n k h = rw (le-ltb k n h)
+
+pub clamped-within : (n k : ℕ) → 1 ≤ n → clamped n k < n
+clamped-within n k h = go (ltb k n) refl
+  where
+    go : (b : Bool) → ltb k n ≡ b → clamped n k < n
+    go true e = let p = ltb-true k n e in rw (clamped-same n k p) p
+    go false e = rw (clamped-last n k (ltb-false k n e)) (omega arith)
+
+-- a place lies within its axis
+pub cell-within : (n : ℕ) (f : Float) → 1 ≤ n → betweenOf n f .cell < n
+unfolding betweenOf cellOf
+cell-within n f h = clamped-within n (toUnsigned 64 (floorOf f)) h
+
+pub next-within : (n : ℕ) (f : Float) → 1 ≤ n → betweenOf n f .next < n
+unfolding betweenOf
+next-within n f h = clamped-within n (cellOf n (floorOf f) + 1) h
+
+-- ---- the eight cells
+
+pub cells-inside : (a : Axes) (x y z : Between) → Along a x y z → Inside (voxels a) (cellsFrom a x y z)
+unfolding cellsFrom
+cells-inside a x y z h =
+    record {
+      c000 = index-within a (x .cell) (y .cell) (z .cell) (h .x) (h .y) (h .z);
+      c100 = index-within a (x .next) (y .cell) (z .cell) (h .x') (h .y) (h .z);
+      c010 = index-within a (x .cell) (y .next) (z .cell) (h .x) (h .y') (h .z);
+      c110 = index-within a (x .next) (y .next) (z .cell) (h .x') (h .y') (h .z);
+      c001 = index-within a (x .cell) (y .cell) (z .next) (h .x) (h .y) (h .z');
+      c101 = index-within a (x .next) (y .cell) (z .next) (h .x') (h .y) (h .z');
+      c011 = index-within a (x .cell) (y .next) (z .next) (h .x) (h .y') (h .z');
+      c111 = index-within a (x .next) (y .next) (z .next) (h .x') (h .y') (h .z');
+    }
+
+-- the cells read lie in the grid, whatever the position
+pub cells-read-inside : (a : Axes) (c : Corners) (p : Vec3) → AxesWithin a → Inside (voxels a) (cellsOf a c p)
+unfolding cellsOf
+cells-read-inside a c p w =
+    cells-inside a _ _ _
+    (record {
+      x = cell-within (a .width) _ (w .width);
+      x' = next-within (a .width) _ (w .width);
+      y = cell-within (a .height) _ (w .height);
+      y' = next-within (a .height) _ (w .height);
+      z = cell-within (a .depth) _ (w .depth);
+      z' = next-within (a .depth) _ (w .depth);
+    })
+
+-- n cells of stride numbers each hold every number of the eight cells
+pub readable : (n stride k len : ℕ) (c : Cells) → Inside n c → k < stride → n * stride ≤ len → Readable stride k len c
+readable n stride k len c h p q =
+    record {
+      c000 = omega (arith, place (h .c000) p);
+      c100 = omega (arith, place (h .c100) p);
+      c010 = omega (arith, place (h .c010) p);
+      c110 = omega (arith, place (h .c110) p);
+      c001 = omega (arith, place (h .c001) p);
+      c101 = omega (arith, place (h .c101) p);
+      c011 = omega (arith, place (h .c011) p);
+      c111 = omega (arith, place (h .c111) p);
+    }
+
+-- a test of some cell read is one of the eight tests
+pub some-read : (f : ℕ → Bool) (c : Cells)
+    → some f (cellsRead c) ≡ f (c .c000) || (f (c .c100) || (f (c .c010) || (f (c .c110) || (f (c .c001) || (f (c .c101) || (f (c .c011) || f (c .c111)))))))
+unfolding some
+some-read f c = rw (or-false (f (c .c111)))
+
+-- ---- the blend
+
+-- of what is the same everywhere, the same
+pub blended-same : (c : Cells) (f g : ℕ → Float) → ((i : ℕ) → f i ≡ g i) → blendedOf c f ≡ blendedOf c g
+unfolding blendedOf
+blended-same c f g e =
+    rw (e (c .c000), e (c .c100), e (c .c010), e (c .c110), e (c .c001), e (c .c101), e (c .c011), e (c .c111))
