@@ -1,0 +1,133 @@
+-- What a voxel's gathering means: sixteen numbers, and from 64 to 384 rays: one for each direction, and up to five more where it meets a
+-- surface. With no triangle there are 64 rays, all of which miss.
+use mathlib.Core.Path.{_≡_, refl, sym, _∙_, ap}
+use mathlib.Core.List.{List, []}
+use Prim.Native.Nat.{ℕ, zero, suc, _+_, _*_, _<_, _≤_}
+use native.Mathlib.Omega.{arith}
+use lib.ListN.{length}
+use lib.Ieee.{Float}
+use Rattle.names.specs.Numbers.{primaryRays, voxelCost}
+use Rattle.names.specs.Scene.{Scene}
+use Rattle.lists.specs.Fold.{fold}
+use Rattle.vectors.specs.declared.Vec3.{Vec3}
+use Rattle.vectors.specs.declared.Ray.{Ray}
+use Rattle.triangle.specs.Places.{vecAt}
+use mathlib.Core.Bool.{Bool, true, false, cond}
+use Rattle.triangle.specs.declared.Meet.{Meet}
+use Rattle.triangle.specs.declared.Meet.the-variants.{Miss, Hit}
+use Rattle.scan.specs.Nearest.{nearestOf, nearestTo, nearerOf, meetAt, beats}
+use Rattle.scan.specs.declared.Nearest.{Nearest}
+use Rattle.scan.specs.declared.Nearest.the-variants.{Nothing, At}
+use Rattle.surface.specs.declared.Setting.{Setting}
+use Rattle.surface.specs.Surface.{surfaceOf}
+use Rattle.surface.specs.SurfaceLaws.{extra-most}
+use Rattle.gather.specs.declared.Gathering.{Gathering}
+use Rattle.gather.specs.Gather.{GatherInput, Gathered, incomingBy, incomingOf, primaryRay, directionAt, gatheredAlong, alongFrom, gatheringOf, nothingGathered, voxelOf, costOf, gatheredOf, sixteenOf, finishedOf}
+
+-- ---- two results of a call are the same
+
+pub gathered-once : (g : GatherInput) (i r s : ℕ) (out out′ : List Float) → Gathered g i r out → Gathered g i s out′ → (r ≡ s) × (out ≡ out′)
+gathered-once g i r s out out′ p q = (p .rays ∙ sym (q .rays), p .numbers ∙ sym (q .numbers))
+
+pub length-gathered : (g : GatherInput) (i : ℕ) → length (gatheredOf g i) ≡ 16
+unfolding gatheredOf sixteenOf
+length-gathered g i = refl
+
+-- ---- the rays of one direction: the primary one, and at most five more; and at most one miss
+
+pub record Costs (n misses : ℕ) : Type 0 where
+  pub least : 1 ≤ n
+  pub most : n ≤ 6
+  pub missed : misses ≤ 1
+
+pub incoming-costs : (scene : Scene) (setting : Setting) (ray : Ray) (sky : Vec3) (found : Nearest)
+    → Costs (incomingBy scene setting ray sky found .rays) (incomingBy scene setting ray sky found .misses)
+unfolding incomingBy
+incoming-costs scene setting ray sky Nothing = record { least = omega arith; most = omega arith; missed = omega arith }
+incoming-costs scene setting ray sky (At place t u v) =
+    let h = extra-most scene setting (surfaceOf scene ray place t (setting .biases .hit)) in
+    record { least = omega arith; most = omega arith; missed = omega arith }
+
+-- ---- the rays of a voxel
+
+module _ (scene : Scene) (setting : Setting) (centre : Vec3) (sky : List Float) (first : ℕ) where
+  -- after k more directions
+  pub fold-costs : (k i : ℕ) (s : Gathering)
+      → (s .rays + k ≤ fold (alongFrom scene setting centre sky first) k i s .rays)
+      × (fold (alongFrom scene setting centre sky first) k i s .rays ≤ s .rays + k * 6)
+      × (fold (alongFrom scene setting centre sky first) k i s .misses ≤ s .misses + k)
+  unfolding fold gatheredAlong
+  fold-costs zero i s = (omega arith, omega arith, omega arith)
+  fold-costs (suc k) i s =
+      let h = incoming-costs scene setting (primaryRay setting centre (directionAt (first + i))) (vecAt sky ((first + i) * 3)) (nearestOf scene (primaryRay setting centre (directionAt (first + i)))) in
+      let r = fold-costs k (i + 1) (alongFrom scene setting centre sky first i s) in
+      (omega (arith, h .least, r .0), omega (arith, h .most, r .1), omega (arith, h .missed, r .2))
+
+  pub gathering-costs : (primaryRays ≤ gatheringOf scene setting centre sky first .rays)
+      × (gatheringOf scene setting centre sky first .rays ≤ voxelCost)
+      × (gatheringOf scene setting centre sky first .misses ≤ primaryRays)
+  unfolding gatheringOf
+  gathering-costs =
+      let r = fold-costs primaryRays 0 nothingGathered in
+      (omega (arith, r .0), omega (arith, r .1), omega (arith, r .2))
+
+pub cost-least : (g : GatherInput) (i : ℕ) → primaryRays ≤ costOf g i
+unfolding costOf voxelOf
+cost-least g i = gathering-costs _ _ _ _ _ .0
+
+pub cost-most : (g : GatherInput) (i : ℕ) → costOf g i ≤ voxelCost
+unfolding costOf voxelOf
+cost-most g i = gathering-costs _ _ _ _ _ .1
+
+pub misses-most : (g : GatherInput) (i : ℕ) → voxelOf g i .misses ≤ primaryRays
+unfolding voxelOf
+misses-most g i = gathering-costs _ _ _ _ _ .2
+
+-- ---- where a surface is met, it is one of the scene's
+
+-- the place of a hit is below n
+unfoldable pub Below : ℕ → Nearest → Type 0
+Below n Nothing = Unit
+Below n (At place t u v) = place < n
+
+later : (n : ℕ) (found : Nearest) → Below n found → Below (suc n) found
+unfolding Below
+later n Nothing h = tt
+later n (At place t u v) h = omega arith
+
+nearer-below : (n : ℕ) (best : Nearest) (m : Meet) → Below n best → Below (suc n) (nearerOf best n m)
+unfolding Below nearerOf
+nearer-below n best Miss h = later n best h
+nearer-below n Nothing (Hit t u v) h = omega arith
+nearer-below n (At place s p q) (Hit t u v) h = go (beats t n s place)
+  where
+    go : (b : Bool) → Below (suc n) (cond b (At n t u v) (At place s p q))
+    go true = omega arith
+    go false = omega arith
+
+pub nearest-below : (scene : Scene) (ray : Ray) (n : ℕ) → Below n (nearestTo scene ray n)
+unfolding nearestTo Below
+nearest-below scene ray zero = tt
+nearest-below scene ray (suc n) = nearer-below n (nearestTo scene ray n) (meetAt scene ray n) (nearest-below scene ray n)
+
+-- so a hit's place is one of the scene's triangles
+pub place-below : (scene : Scene) (ray : Ray) (place : ℕ) (t u v : Float) → nearestOf scene ray ≡ At place t u v → place < length (scene .uses)
+unfolding nearestOf Below
+place-below scene ray place t u v e = rw e at (nearest-below scene ray (length (scene .uses)))
+
+-- ---- with no triangle every ray misses
+
+pub nothing-met : (scene : Scene) (ray : Ray) → scene .uses ≡ [] → nearestOf scene ray ≡ Nothing
+unfolding nearestOf nearestTo
+nothing-met scene ray e = rw e
+
+module _ (scene : Scene) (setting : Setting) (centre : Vec3) (sky : List Float) (first : ℕ) (none : scene .uses ≡ []) where
+  pub fold-missed : (k i : ℕ) (s : Gathering) → fold (alongFrom scene setting centre sky first) k i s .rays ≡ s .rays + k
+  unfolding fold gatheredAlong incomingBy
+  fold-missed zero i s = omega arith
+  fold-missed (suc k) i s =
+      fold-missed k (i + 1) (alongFrom scene setting centre sky first i s) ∙ rw (nothing-met scene (primaryRay setting centre (directionAt (first + i))) none) (omega arith)
+
+pub cost-of-nothing : (g : GatherInput) (i : ℕ) → g .scene .uses ≡ [] → costOf g i ≡ primaryRays
+unfolding costOf voxelOf gatheringOf
+cost-of-nothing g i e = fold-missed (g .scene) _ _ _ _ e primaryRays 0 nothingGathered
