@@ -28,7 +28,7 @@ use Rattle.bounds.specs.Bounds.{AtMost, AtLeast, Within}
 
 -- ---- rounding
 
-closest-one : (c : ℕ) → closest c 1 ≡ c
+pub closest-one : (c : ℕ) → closest c 1 ≡ c
 closest-one c = ap (λ (z : ℕ). nearest (c / 1) (compare (z * 2) 1)) (mod-one c) ∙ div-one c
 
 -- the spare digits of n * 2 ^ j

@@ -7,7 +7,7 @@ use mathlib.Core.Path.{_≡_, refl, sym, ap, _∙_, subst}
 use mathlib.Core.Logic.{_⊎_, inl, inr}
 use Prim.Native.Nat.{ℕ, zero, suc, _+_, _-_, _*_, _/_, _%_, _^_, _≤_, _<_}
 use mathlib.Core.Bool.{Bool, true, false, cond, _&&_}
-use native.Mathlib.Nat.{le-trans, le-of-eq, le-antisymm, lt-irrefl, lt-trans, add-comm, lt-of-not-le, mul-le-mul-right, mul-lt-mul-of-pos-right, mul-right-comm, mul-assoc, mul-comm, mul-pos, zero-lt-suc, div-lt-iff-lt-mul}
+use native.Mathlib.Nat.{le-trans, le-of-eq, le-antisymm, lt-irrefl, lt-trans, add-comm, lt-of-not-le, mul-le-mul-right, mul-lt-mul-of-pos-right, mul-right-comm, mul-assoc, mul-mul-mul-comm, mul-pos, zero-lt-suc, div-lt-iff-lt-mul}
 use native.Mathlib.Decide.{decLe}
 use native.Mathlib.Omega.{arith}
 use lib.IntN.{ℤ}
@@ -55,6 +55,24 @@ root-is-nearest (fin false (suc m) e) h =
     let n = a * 2 ^ 149 / 4 ^ k in
     let r = closestRoot 24 n in
     nearest-root a (suc m) e (units binary32 false r k) n r k refl (c .exact) (c .full) (c .rounds) (units-fits r k (c .rounds .most) (c .room)) (units-val binary32 false r k (c .room))
+
+-- the root of x units is R units, with R * R at least 3 / 4 of x * 2 ^ 149: less than is true, and enough for who divides by it
+pub root-square : (m : ℕ) (e : ℤ) → T (fits binary32 (fin false (suc m) e)) → (R : ℕ) × HasValue (rootOf (fin false (suc m) e)) false R (2 ^ 149) × (3 * (count (suc m) e * 2 ^ 149) ≤ 4 * (R * R))
+unfolding rootOf rootOfUnits
+root-square m e h =
+    let a = count (suc m) e in
+    let s = fits-spread (suc m) e h in
+    let c = cut-of a (suc m) (s .1 .0) (s .1 .1) (s .0) (some a m (s .1 .0) (s .1 .1)) (count-lt m e h) in
+    let k = fours (a * 2 ^ 149) in
+    let n = a * 2 ^ 149 / 4 ^ k in
+    let r = closestRoot 24 n in
+    (r * 2 ^ k, units-val binary32 false r k (c .room), at-square (a * 2 ^ 149) n r (2 ^ k) (c .exact) (c .rounds .high) (c .rounds .least))
+  where
+    at-square : (x n r p : ℕ) → x ≡ n * (p * p) → n ≤ r * r + r → 8388608 ≤ r → 3 * x ≤ 4 * (r * p * (r * p))
+    at-square x n r p e h l =
+        let q : 3 * r ≤ r * r = mul-le-mul-right r (le-trans (omega arith) l) in
+        let g : 3 * n ≤ 4 * (r * r) = omega arith in
+        le-trans (le-of-eq (ap (λ (z : ℕ). 3 * z) e ∙ sym (mul-assoc 3 n (p * p)))) (le-trans (mul-le-mul-right (p * p) g) (le-of-eq (mul-assoc 4 (r * r) (p * p) ∙ ap (λ (z : ℕ). 4 * z) (sym (mul-mul-mul-comm r p r p)))))
 
 -- ---- nothing else is
 

@@ -1,27 +1,75 @@
--- A floored number from 0 up and below 65,536 is whole, and the integer that it is loses nothing. Assumes nothing.
+-- What floor and ceiling mean: the whole number next to x. And a floored number from 0 up and below 65,536 is whole, and the integer that it is loses nothing. Assumes nothing.
 pub mod Steps
 use mathlib.Core.Path.{_≡_, refl, sym, ap, _∙_, subst}
 use mathlib.Core.Logic.{_⊎_, inl, inr}
-use Prim.Native.Nat.{ℕ, zero, suc, _+_, _*_, _/_, _^_, _≤_, _<_}
+use Prim.Native.Nat.{ℕ, zero, suc, _+_, _*_, _/_, _%_, _^_, _≤_, _<_}
 use mathlib.Core.Bool.{Bool, true, false, cond, _&&_, _||_, Bool·beq, false≢true}
-use native.Mathlib.Nat.{le-trans, le-of-eq, lt-of-not-le, mul-one, mul-right-comm, mul-lt-mul-of-pos-right, lt-of-mul-lt-mul-right, zero-mul, zero-add, zero-div, div-lt-iff-lt-mul, lt-of-lt-of-le}
+use native.Mathlib.Nat.{le-trans, le-of-eq, lt-of-not-le, mul-one, mul-right-comm, mul-lt-mul-of-pos-right, lt-of-mul-lt-mul-right, lt-of-lt-of-le, lt-of-le-of-lt, zero-mul, one-mul, add-mul, mul-assoc, mul-pos, zero-add, zero-div, mod-lt, div-mul-le-self, div-add-mod', div-lt-iff-lt-mul}
 use native.Mathlib.Decide.{decLe}
 use native.Mathlib.Omega.{arith}
 use borrow.Author.Tests.{ltb-true, ltb-false, lt-ltb, eq-eqb, eqb-true}
-use lib.IntN.{ℤ, pos}
-use lib.Dec.{T, ltb, eqb, le→leb}
-use lib.Ieee.{Float, nan, inf, fin, binary32, up, down, unlike, round, neg, lt, le, eq, ofInt, ofBits, inFloat, inUnsigned, toUnsigned}
-use lib.Ieee.Fits.{down-pos, up-pos}
+use lib.IntN.{ℤ, pos, negsuc}
+use lib.Dec.{T, ltb, leb, eqb, le→leb, ltb→lt, eqb·suc-zero}
+use lib.Ieee.{Float, nan, inf, fin, binary32, up, down, unlike, round, neg, lt, le, eq, ofInt, ofBits, inFloat, inUnsigned, toUnsigned, fits}
+use lib.Ieee.Fits.{down-pos, and-l, and-r}
 use lib.Ieee.Bits.{is-true}
-use lib.Ieee.Exact.{HasValue}
+use lib.Ieee.Exact.{HasValue, round-exact}
 use lib.Ieee.Order.{round-mono}
 use lib.Ieee.Positive.{first-pos}
-use lib.Pow.{pow-mono}
+use lib.Pow.{pow-pos, pow-mono, pow-add}
 use lib.Ieee.Back.{round-whole, unsigned-back}
 use Rattle.names.specs.Bits.{lit, zero32}
 use Rattle.floats.specs.OrderLaws.{le-not-lt, lt-le-transitive}
 use Rattle.floats.specs.Whole.{step, toward, floorOf, ceilingOf, wholeOf, SmallWhole}
-use Rattle.floats.specs.WholeLaws.Steps.{step-whole, toward-of, round-neg}
+use Rattle.floats.specs.WholeLaws.Steps.{step-whole, step-le, toward-of, round-neg}
+
+-- ---- the meaning
+
+-- a / c cut to a whole number, and raised to one
+pub step-cut : (a c : ℕ) → 0 < c → (step false a c * c ≤ a) × (a < (step false a c + 1) * c)
+unfolding step
+step-cut a c p = (div-mul-le-self a c, div-lt-iff-lt-mul p .0 (omega arith))
+
+pub step-raised : (a c : ℕ) → 0 < c → (a ≤ step true a c * c) × (step true a c * c < a + c)
+unfolding step
+step-raised a c p = go (a / c) (a % c) (div-add-mod' a c) (mod-lt a p)
+  where
+    go : (q r : ℕ) → q * c + r ≡ a → r < c → (a ≤ cond (eqb r 0) q (q + 1) * c) × (cond (eqb r 0) q (q + 1) * c < a + c)
+    go q zero e h = (omega arith, omega arith)
+    go q (suc r) e h =
+        subst (λ (b : Bool). (a ≤ cond b q (q + 1) * c) × (cond b q (q + 1) * c < a + c)) (sym (eqb·suc-zero r)) (le-trans (omega arith) (le-of-eq (sym (next q))), lt-of-le-of-lt (le-of-eq (next q)) (omega arith))
+      where
+        next : (q : ℕ) → (q + 1) * c ≡ q * c + c
+        next q = add-mul q 1 c ∙ ap (λ (z : ℕ). q * c + z) (one-mul c)
+
+-- an f32 has at most 24 digits, and lies below 2 ^ 128
+digits-of : (s : Bool) (m : ℕ) (e : ℤ) → T (fits binary32 (fin s m e)) → (m < 16777216) × (m * up e < 2 ^ 128 * down e)
+unfolding fits
+digits-of s zero e h = (omega arith, subst (λ (z : ℕ). z < 2 ^ 128 * down e) (sym (zero-mul (up e))) (mul-pos (pow-pos 128) (down-pos e)))
+digits-of s (suc m) e h =
+    let a = and-l (eqb (suc m % 2) 1 && ltb (suc m) (2 ^ 24) && leb (down e) (2 ^ 149)) (ltb (suc m * up e) (2 ^ 128 * down e)) h in
+    let b = and-l (eqb (suc m % 2) 1 && ltb (suc m) (2 ^ 24)) (leb (down e) (2 ^ 149)) a in
+    (ltb→lt (suc m) (2 ^ 24) (and-r (eqb (suc m % 2) 1) (ltb (suc m) (2 ^ 24)) b), ltb→lt (suc m * up e) (2 ^ 128 * down e) (and-r (eqb (suc m % 2) 1 && ltb (suc m) (2 ^ 24) && leb (down e) (2 ^ 149)) (ltb (suc m * up e) (2 ^ 128 * down e)) h))
+
+-- floor and ceiling are that whole number, with x's sign: cut where x is positive and goes down or negative and goes up, and raised else
+-- (`round` changes nothing: below 2 ^ 24 every whole number is an f32, and from there up x is itself whole.)
+pub toward-value : (u s : Bool) (m : ℕ) (e : ℤ) → T (fits binary32 (fin s m e)) → HasValue (toward u (fin s m e)) s (step (unlike s u) (m * up e) (down e)) 1
+unfolding toward
+toward-value u s m (negsuc k) h =
+    let d = digits-of s m (negsuc k) h in
+    let w = unlike s u in
+    round-whole binary32 s (step w (m * 1) (2 ^ suc k)) (le-trans (step-le w (m * 1) (2 ^ suc k)) (omega arith))
+toward-value u s m (pos k) h =
+    let d = digits-of s m (pos k) h in
+    let n = m * 2 ^ k in
+    let w = unlike s u in
+    subst (λ (z : ℕ). HasValue (round binary32 s z 1) s z 1) (sym (ap (λ (z : ℕ). step w z 1) (sym (mul-one n)) ∙ step-whole w n 1 (omega arith)))
+    (round-exact binary32 s n 1 m (k + 149) (omega arith) (d .0)
+    (lt-of-le-of-lt (le-of-eq (shifted m k)) (lt-of-lt-of-le (mul-lt-mul-of-pos-right (lt-of-lt-of-le (d .1) (le-of-eq (mul-one (2 ^ 128)))) (pow-pos 149)) (le-of-eq (sym (pow-add 2 128 149)))))
+    (sym (shifted m k) ∙ sym (mul-one (m * 2 ^ (k + 149)))))
+  where
+    shifted : (m k : ℕ) → m * 2 ^ (k + 149) ≡ m * 2 ^ k * 2 ^ 149
+    shifted m k = ap (λ (z : ℕ). m * z) (pow-add 2 k 149) ∙ sym (mul-assoc m (2 ^ k) (2 ^ 149))
 
 -- ---- a rounded whole number
 
@@ -36,9 +84,6 @@ one-is = refl
 zero-one : lt zero32 (lit 0x3f800000) ≡ true
 unfolding lt ofBits
 zero-one = refl
-
-not-above : {a b : ℕ} → (b ≤ a → ⊥) → a < b
-not-above f = lt-of-not-le f
 
 neg-below : (z : Float) → lt zero32 z ≡ true → lt (neg z) zero32 ≡ true
 unfolding lt neg ofBits

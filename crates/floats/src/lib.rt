@@ -21,10 +21,10 @@ pub fn root(x: f32) -> f32
     }
     let b = f32::to_bits(x);
     if b < 0x7f800000 {
-        if b >= 0x00800000 {
+        if b >= 0x800000 {
             return f32::from_bits(roots::of_digits(
-                (b % 8388608 + 8388608) as u64,
-                (b / 8388608 + 23) as u64,
+                (b % 0x800000 + 0x800000) as u64,
+                (b / 0x800000 + 23) as u64,
             ));
         }
         if b == 0 {

@@ -14,16 +14,17 @@ pub fn integral(x: f32, u: u32) -> f32
         return 0.0 / 0.0;
     }
     let b = f32::to_bits(x);
-    let s = b / 2147483648;
-    let a = b % 2147483648;
-    if a >= 1258291200 {
+    let s = b / 0x80000000;
+    let a = b % 0x80000000;
+    // From 2^23 up, and the infinities.
+    if a >= 0x4b000000 {
         return x;
     }
     if a == 0 {
         return x;
     }
-    let k = places(a / 8388608);
-    let y = whole(a % 8388608 + 8388608, k, (s + u) % 2) as f32;
+    let k = places(a / 0x800000);
+    let y = whole(a % 0x800000 + 0x800000, k, (s + u) % 2) as f32;
     if s == 0 { y } else { -y }
 }
 

@@ -1,3 +1,4 @@
+-- `floats::smaller` meets its contract: past the tests for NaN the definition's choice is the code's.
 use mathlib.Core.Path.{_≡_, sym, _∙_}
 use mathlib.Core.Bool.{true, false}
 use lib.Ieee.{lt}

@@ -2,7 +2,7 @@
 use mathlib.Core.Path.{_≡_, refl, sym, ap, _∙_}
 use Prim.Native.Nat.{ℕ, zero, suc, _+_, _-_, _*_, _/_, _%_, _^_, _≤_, _<_, compare}
 use mathlib.Core.Bool.{Bool, true, false, cond}
-use native.Mathlib.Nat.{mul-right-comm, mul-div-cancel, mul-mod-left, div-add-mod', eq-of-mul-eq-mul-right}
+use native.Mathlib.Nat.{mul-right-comm, mul-div-cancel, mul-mod-left, div-add-mod', eq-of-mul-eq-mul-right, div-le-self}
 use native.Mathlib.Omega.{arith}
 use lib.Dec.{T, ltb, eqb, eqb→eq}
 use lib.Ieee.{Float, nan, inf, fin, binary32, up, down, unlike, round, units, odd, neg, size, nearest}
@@ -47,6 +47,15 @@ step-whole w n c C =
     same : (w : Bool) → cond w n n ≡ n
     same true = refl
     same false = refl
+
+pub step-le : (w : Bool) (m c : ℕ) → step w m c ≤ m + 1
+unfolding step
+step-le w m c = go w (eqb (m % c) 0) (div-le-self m c)
+  where
+    go : (w z : Bool) → m / c ≤ m → cond w (cond z (m / c) (m / c + 1)) (m / c) ≤ m + 1
+    go true true h = omega arith
+    go true false h = omega arith
+    go false z h = omega arith
 
 -- a number that is a / c in size
 pub toward-of : (u : Bool) (x : Float) (s : Bool) (a c : ℕ) → 0 < c → HasValue x s a c → toward u x ≡ round binary32 s (step (unlike s u) a c) 1

@@ -1,0 +1,278 @@
+-- A normalised vector: where the dot of a vector with itself is above 0 and finite, no component of the normalised vector is NaN, and each is at most 2 in size.
+-- A component x squared, as it rounds, is at most the dot D; so x * x is below 2 D and one unit, that is at most 3 D; and 4 times the square of the root of D is at least that. Assumes nothing.
+use mathlib.Core.Path.{_≡_, refl, sym, ap, _∙_, subst}
+use mathlib.Core.Logic.{_⊎_, inl, inr}
+use Prim.Native.Nat.{ℕ, zero, suc, _+_, _-_, _*_, _/_, _%_, _^_, _≤_, _<_, zero-le, compare}
+use mathlib.Core.Bool.{Bool, true, false, cond, false≢true}
+use native.Mathlib.Nat.{le-refl, le-trans, le-of-eq, le-of-lt, lt-irrefl, lt-of-lt-of-le, lt-of-le-of-lt, lt-of-not-le, mul-one, one-mul, zero-mul, mul-comm, mul-assoc, mul-left-comm, mul-right-comm, mul-mul-mul-comm, add-mul, mul-add, mul-le-mul, mul-le-mul-right, mul-lt-mul-of-pos-right, le-of-mul-le-mul-right, mul-pos, zero-lt-suc, eq-zero-or-pos, div-div-eq-div-mul, div-lt-iff-lt-mul, le-div-iff-mul-le, le-add-right, le-add-left}
+use native.Mathlib.Decide.{decLe}
+use native.Mathlib.Omega.{arith}
+use lib.IntN.{ℤ}
+use lib.Dec.{T, ltb, eqb, lit<}
+use borrow.Author.Tests.{ne-eqb, ltb-true}
+use lib.Pow.{pow-pos, pow-mono, pow-add}
+use lib.Ieee.{Float, nan, inf, fin, binary32, up, down, unlike, size, units, odd, round, add, mul, div, lt, fits, isNan, ofBits}
+use lib.Ieee.Digits.{size-reaches, back}
+use lib.Ieee.Fits.{up-pos, down-pos, round-is, mul-fits, add-fits}
+use lib.Ieee.Exact.{HasValue, odd-sign}
+use lib.Ieee.Nearest.{closest, closest-mono, nearest-ge}
+use lib.Ieee.Order.{drop, kept}
+use lib.Ieee.Scale.{finite}
+use lib.Ieee.Positive.{first-pos}
+use Rattle.names.specs.Bits.{zero32}
+use Rattle.names.specs.Numbers.{thinLimit}
+use Rattle.floats.specs.Root.{rootOf, count}
+use Rattle.floats.specs.RootLaws.{root-square}
+use Rattle.floats.specs.RootLaws.Units.{Spread, fits-spread, counted}
+use Rattle.floats.specs.OrderLaws.{lt-transitive}
+use Rattle.vectors.specs.declared.Vec3.{Vec3}
+use Rattle.vectors.specs.Vectors.{dotV, divV, lengthV, normalV}
+use Rattle.bounds.specs.Bounds.{AtMost, Within, EachAtMost}
+use Rattle.bounds.specs.BoundsLaws.{closest-one, round-at-most}
+
+-- ---- what a fraction rounds to, in units of 2 ^ -149
+
+-- at least n * 2 ^ j where the fraction is
+grid-least : (a c n j : ℕ) → 0 < c → n < 16777216 → n * 2 ^ j * c ≤ a → n * 2 ^ j ≤ kept 24 a c * 2 ^ drop 24 a c
+grid-least a c n j C N h = go (decLe k j)
+  where
+    k : ℕ
+    k = drop 24 a c
+
+    at : (p : ℕ) → p * (c * 2 ^ k) ≤ a → p ≤ kept 24 a c
+    at p g = le-trans (le-of-eq (sym (closest-one p))) (closest-mono p 1 a (c * 2 ^ k) (omega arith) (mul-pos C (pow-pos k)) (le-trans g (le-of-eq (sym (mul-one a)))))
+
+    go : Dec (k ≤ j) → n * 2 ^ j ≤ kept 24 a c * 2 ^ k
+    go (yes l) =
+        let e : n * 2 ^ (j - k) * 2 ^ k ≡ n * 2 ^ j = mul-assoc n (2 ^ (j - k)) (2 ^ k) ∙ ap (λ (z : ℕ). n * z) (sym (pow-add 2 (j - k) k) ∙ ap (λ (z : ℕ). 2 ^ z) (back j k l)) in
+        le-trans (le-of-eq (sym e)) (mul-le-mul-right (2 ^ k) (at (n * 2 ^ (j - k)) (le-trans (le-of-eq (sym (mul-assoc (n * 2 ^ (j - k)) c (2 ^ k)) ∙ mul-right-comm (n * 2 ^ (j - k)) c (2 ^ k) ∙ ap (λ (z : ℕ). z * c) e)) h)))
+    go (no f) =
+        let big : 2 ^ (23 + k) ≤ a / c = size-reaches (a / c) (23 + k) (all-in-use (size (a / c)) j (lt-of-not-le f)) in
+        let g : 8388608 * (c * 2 ^ k) ≤ a = le-trans (le-of-eq (sym (mul-assoc 8388608 c (2 ^ k)) ∙ mul-right-comm 8388608 c (2 ^ k) ∙ ap (λ (z : ℕ). z * c) (sym (pow-add 2 23 k)))) (le-div-iff-mul-le C .0 big) in
+        le-trans (le-of-lt (lt-of-lt-of-le (mul-lt-mul-of-pos-right N (pow-pos j)) (le-trans (le-of-eq (sym (pow-add 2 24 j))) (le-trans (pow-mono {i = 24 + j} {j = 23 + k} (more j (lt-of-not-le f))) (le-of-eq (pow-add 2 23 k))))))
+        (mul-le-mul-right (2 ^ k) (at 8388608 g))
+      where
+        all-in-use : (z j : ℕ) → j < z - 24 → 23 + (z - 24) < z
+        all-in-use z j h = omega arith
+
+        more : (j : ℕ) → j < k → 24 + j ≤ 23 + k
+        more j h = omega arith
+
+-- a fraction is below twice what it rounds to, and one unit
+grid-half : (a c : ℕ) → 0 < c → a < (2 * (kept 24 a c * 2 ^ drop 24 a c) + 1) * c
+grid-half a c C = go (eq-zero-or-pos w) (eq-zero-or-pos k)
+  where
+    k : ℕ
+    k = drop 24 a c
+
+    w : ℕ
+    w = a / (c * 2 ^ k)
+
+    most : a < (w + 1) * (c * 2 ^ k)
+    most = div-lt-iff-lt-mul (mul-pos C (pow-pos k)) .0 (omega arith)
+
+    rounded : w ≤ kept 24 a c
+    rounded = nearest-ge w (compare (a % (c * 2 ^ k) * 2) (c * 2 ^ k))
+
+    go : (w ≡ 0) ⊎ (0 < w) → (k ≡ 0) ⊎ (0 < k) → a < (2 * (kept 24 a c * 2 ^ k) + 1) * c
+    go (inr p) _ =
+        lt-of-lt-of-le most
+        (le-trans (mul-le-mul-right (c * 2 ^ k) (twice w (kept 24 a c) p rounded))
+        (le-trans (le-of-eq (regroup (kept 24 a c) c (2 ^ k))) (mul-le-mul-right c (le-add-right (2 * (kept 24 a c * 2 ^ k)) 1))))
+      where
+        twice : (w q : ℕ) → 0 < w → w ≤ q → w + 1 ≤ 2 * q
+        twice w q p h = omega arith
+
+        regroup : (q c p : ℕ) → 2 * q * (c * p) ≡ 2 * (q * p) * c
+        regroup q c p = simp (mul-assoc, mul-comm, mul-left-comm)
+    go (inl z) (inl y) =
+        lt-of-lt-of-le most
+        (le-trans (le-of-eq (ap (λ (v : ℕ). (v + 1) * (c * 2 ^ k)) z ∙ one-mul (c * 2 ^ k) ∙ ap (λ (v : ℕ). c * 2 ^ v) y ∙ mul-one c ∙ sym (one-mul c))) (mul-le-mul-right c (some (kept 24 a c * 2 ^ k))))
+      where
+        some : (q : ℕ) → 1 ≤ 2 * q + 1
+        some q = omega arith
+    go (inl z) (inr y) =
+        let big : 2 ^ (23 + k) ≤ a / c = size-reaches (a / c) (23 + k) (all-in-use (size (a / c)) y) in
+        absurd (lt-irrefl a (lt-of-lt-of-le most
+        (le-trans (le-of-eq (ap (λ (v : ℕ). (v + 1) * (c * 2 ^ k)) z ∙ one-mul (c * 2 ^ k) ∙ mul-comm c (2 ^ k)))
+        (le-trans (mul-le-mul-right c (pow-mono {i = k} {j = 23 + k} (omega arith))) (le-div-iff-mul-le C .0 big)))))
+      where
+        all-in-use : (z : ℕ) → 0 < z - 24 → 23 + (z - 24) < z
+        all-in-use z h = omega arith
+
+-- a rounded number that is finite
+round-value : (s : Bool) (a c : ℕ) → finite (round binary32 s a c) ≡ true → HasValue (round binary32 s a c) s (kept 24 (a * 2 ^ 149) c * 2 ^ drop 24 (a * 2 ^ 149) c) (2 ^ 149)
+unfolding units
+round-value s a c h =
+    subst (λ (v : Float). HasValue v s (kept 24 (a * 2 ^ 149) c * 2 ^ drop 24 (a * 2 ^ 149) c) (2 ^ 149)) (sym (round-is binary32 s a c)) (of-units (kept 24 (a * 2 ^ 149) c) (drop 24 (a * 2 ^ 149) c) (ap finite (sym (round-is binary32 s a c)) ∙ h))
+  where
+    of-units : (q k : ℕ) → finite (units binary32 s q k) ≡ true → HasValue (units binary32 s q k) s (q * 2 ^ k) (2 ^ 149)
+    of-units q k h = go (ltb (q * 2 ^ k) (2 ^ 277)) h
+      where
+        go : (b : Bool) → finite (cond b (odd 25 s q k 149) (inf s)) ≡ true → HasValue (cond b (odd 25 s q k 149) (inf s)) s (q * 2 ^ k) (2 ^ 149)
+        go true h = odd-sign 25 s q k 149
+        go false h = absurd (false≢true h)
+
+-- ---- the parts of a sum and of a square
+
+parts-finite : (x y : Float) → finite (add binary32 x y) ≡ true → (finite x ≡ true) × (finite y ≡ true)
+unfolding add
+parts-finite nan y h = absurd (false≢true h)
+parts-finite (inf s) nan h = absurd (false≢true h)
+parts-finite (inf true) (inf true) h = absurd (false≢true h)
+parts-finite (inf true) (inf false) h = absurd (false≢true h)
+parts-finite (inf false) (inf true) h = absurd (false≢true h)
+parts-finite (inf false) (inf false) h = absurd (false≢true h)
+parts-finite (inf s) (fin t n d) h = absurd (false≢true h)
+parts-finite (fin s m e) nan h = absurd (false≢true h)
+parts-finite (fin s m e) (inf t) h = absurd (false≢true h)
+parts-finite (fin s m e) (fin t n d) h = (refl, refl)
+
+-- x * x is below twice q units, and one unit
+abbrev HasSquare : Float → ℕ → Type 0
+HasSquare nan q = ⊥
+HasSquare (inf s) q = ⊥
+HasSquare (fin s m e) q = m * up e * (m * up e) * 2 ^ 149 < (2 * q + 1) * (down e * down e)
+
+square-is : (x : Float) → finite (mul binary32 x x) ≡ true → (q : ℕ) × HasValue (mul binary32 x x) false q (2 ^ 149) × HasSquare x q
+unfolding mul
+square-is nan h = absurd (false≢true h)
+square-is (inf true) h = absurd (false≢true h)
+square-is (inf false) h = absurd (false≢true h)
+square-is (fin true m e) h = let a = m * up e * (m * up e) in let c = down e * down e in (kept 24 (a * 2 ^ 149) c * 2 ^ drop 24 (a * 2 ^ 149) c, round-value false a c h, grid-half (a * 2 ^ 149) c (mul-pos (down-pos e) (down-pos e)))
+square-is (fin false m e) h = let a = m * up e * (m * up e) in let c = down e * down e in (kept 24 (a * 2 ^ 149) c * 2 ^ drop 24 (a * 2 ^ 149) c, round-value false a c h, grid-half (a * 2 ^ 149) c (mul-pos (down-pos e) (down-pos e)))
+
+-- an f32 of a units is no more than what a fraction from there up rounds to
+part : (m : ℕ) (e : ℤ) (a : ℕ) → T (fits binary32 (fin false m e)) → m * up e * 2 ^ 149 ≡ a * down e → (N C : ℕ) → 0 < C → a * C ≤ N → a ≤ kept 24 N C * 2 ^ drop 24 N C
+part m e a f v N C p h =
+    let s = fits-spread m e f in
+    let q : a ≡ m * 2 ^ s .1 .0 = sym (counted m e a v) ∙ s .1 .1 in
+    le-trans (le-of-eq q) (grid-least N C m (s .1 .0) p (s .0) (le-trans (le-of-eq (ap (λ (z : ℕ). z * C) (sym q))) h))
+
+-- a sum of two that are not negative is at least each
+sum-is : (x y : Float) (a b : ℕ) → T (fits binary32 x) → T (fits binary32 y) → HasValue x false a (2 ^ 149) → HasValue y false b (2 ^ 149) → finite (add binary32 x y) ≡ true
+    → (c : ℕ) × HasValue (add binary32 x y) false c (2 ^ 149) × (a ≤ c) × (b ≤ c)
+unfolding add
+sum-is nan y a b f g v w h = absurd v
+sum-is (inf s) y a b f g v w h = absurd v
+sum-is (fin true m e) y a b f g v w h = absurd (false≢true (sym (v .0)))
+sum-is (fin false m e) nan a b f g v w h = absurd w
+sum-is (fin false m e) (inf t) a b f g v w h = absurd w
+sum-is (fin false m e) (fin true n d) a b f g v w h = absurd (false≢true (sym (w .0)))
+sum-is (fin false m e) (fin false n d) a b f g v w h =
+    let A = m * up e * down d in
+    let B = n * up d * down e in
+    let C = down e * down d in
+    let N = (A + B) * 2 ^ 149 in (
+      kept 24 N C * 2 ^ drop 24 N C,
+      round-value false (A + B) C h,
+      part m e a f (v .1) N C (mul-pos (down-pos e) (down-pos d)) (le-trans (le-of-eq (sym (mul-assoc a (down e) (down d)) ∙ ap (λ (z : ℕ). z * down d) (sym (v .1)) ∙ mul-right-comm (m * up e) (2 ^ 149) (down d))) (mul-le-mul-right (2 ^ 149) (le-add-right A B))),
+      part n d b g (w .1) N C (mul-pos (down-pos e) (down-pos d))
+          (le-trans (le-of-eq (ap (λ (z : ℕ). b * z) (mul-comm (down e) (down d)) ∙ sym (mul-assoc b (down d) (down e)) ∙ ap (λ (z : ℕ). z * down e) (sym (w .1)) ∙ mul-right-comm (n * up d) (2 ^ 149) (down e))) (mul-le-mul-right (2 ^ 149) (le-add-left B A))),
+    )
+
+-- ---- one component over the root
+
+-- |x| is at most n units
+abbrev AtMostUnits : Float → ℕ → Type 0
+AtMostUnits nan n = ⊥
+AtMostUnits (inf s) n = ⊥
+AtMostUnits (fin s m e) n = m * up e * 2 ^ 149 ≤ n * down e
+
+square-back : (a b : ℕ) → a * a ≤ b * b → a ≤ b
+square-back a b h = go (decLe a b)
+  where
+    go : Dec (a ≤ b) → a ≤ b
+    go (yes l) = l
+    go (no f) = let l = lt-of-not-le f in absurd (lt-irrefl (b * b) (lt-of-lt-of-le (lt-of-le-of-lt (mul-le-mul (le-refl b) (le-of-lt l)) (mul-lt-mul-of-pos-right l (lt-of-le-of-lt zero-le l))) h))
+
+-- x over R units, with |x| at most twice that
+over-root : (x r : Float) (R : ℕ) → HasValue r false R (2 ^ 149) → 0 < R → AtMostUnits x (2 * R) → Within 1 (div binary32 x r)
+unfolding div
+over-root nan r R v p h = absurd h
+over-root (inf s) r R v p h = absurd h
+over-root (fin s m e) nan R v p h = absurd v
+over-root (fin s m e) (inf t) R v p h = absurd v
+over-root (fin s m e) (fin t n d) R v p h =
+    let some : 0 < n * up d = first-pos (n * up d) (2 ^ 149) (subst (λ (z : ℕ). 0 < z) (sym (v .1)) (mul-pos p (down-pos d))) in
+    let z : eqb n 0 ≡ false = ne-eqb n 0 (λ e. lt-irrefl 0 (subst (λ (k : ℕ). 0 < k) (ap (λ (k : ℕ). k * up d) e ∙ zero-mul (up d)) some)) in
+    subst (λ (b : Bool). Within 1 (cond b (cond (eqb m 0) nan (inf (unlike s t))) (round binary32 (unlike s t) (m * up e * down d) (n * up d * down e)))) (sym z)
+    (round-at-most (unlike s t) (m * up e * down d) (n * up d * down e) 1 1 (mul-pos some (down-pos e)) (omega arith) (lit< tt)
+    (le-of-mul-le-mul-right
+    (le-trans (le-of-eq (mul-right-comm (m * up e) (down d) (2 ^ 149)))
+    (le-trans (mul-le-mul-right (down d) h)
+    (le-of-eq (mul-right-comm (2 * R) (down e) (down d) ∙ ap (λ (z : ℕ). z * down e) (mul-assoc 2 R (down d) ∙ ap (λ (z : ℕ). 2 * z) (sym (v .1)) ∙ sym (mul-assoc 2 (n * up d) (2 ^ 149))) ∙ mul-right-comm (2 * (n * up d)) (2 ^ 149) (down e) ∙ ap (λ (z : ℕ). z * 2 ^ 149) (mul-assoc 2 (n * up d) (down e))))))
+    (pow-pos 149)))
+
+-- P is 2 ^ 149: from the square of A / B, which is below 2 q + 1 units, to A / B itself
+root-over : (A B P q D R : ℕ) → 0 < P → A * A * P < (2 * q + 1) * (B * B) → 2 * q + 1 ≤ 3 * D → 3 * (D * P) ≤ 4 * (R * R) → A * P ≤ 2 * R * B
+root-over A B P q D R p h l g =
+    square-back (A * P) (2 * R * B)
+    (le-trans (le-of-eq (mul-mul-mul-comm A P A P ∙ sym (mul-assoc (A * A) P P)))
+    (le-trans (mul-le-mul-right P (le-of-lt h))
+    (le-trans (mul-le-mul-right P (mul-le-mul-right (B * B) l))
+    (le-trans (le-of-eq (mul-right-comm (3 * D) (B * B) P ∙ ap (λ (z : ℕ). z * (B * B)) (mul-assoc 3 D P)))
+    (le-trans (mul-le-mul-right (B * B) g) (le-of-eq (ap (λ (z : ℕ). z * (B * B)) (sym (mul-mul-mul-comm 2 R 2 R)) ∙ sym (mul-mul-mul-comm (2 * R) B (2 * R) B))))))))
+
+some-root : (D P R : ℕ) → 0 < D → 0 < P → 3 * (D * P) ≤ 4 * (R * R) → 0 < R
+some-root D P R d p h = go (eq-zero-or-pos R)
+  where
+    go : (R ≡ 0) ⊎ (0 < R) → 0 < R
+    go (inr l) = l
+    go (inl e) = absurd (lt-irrefl 0 (lt-of-lt-of-le (mul-pos (zero-lt-suc 2) (mul-pos d p)) (le-trans h (le-of-eq (ap (λ (z : ℕ). 4 * (z * z)) e)))))
+
+component : (x d : Float) (q D : ℕ) → T (fits binary32 d) → HasSquare x q → HasValue d false D (2 ^ 149) → 0 < D → q ≤ D → Within 1 (div binary32 x (rootOf d))
+component nan d q D f h v p l = absurd h
+component (inf s) d q D f h v p l = absurd h
+component (fin s m e) nan q D f h v p l = absurd v
+component (fin s m e) (inf t) q D f h v p l = absurd v
+component (fin s m e) (fin true n g) q D f h v p l = absurd (false≢true (sym (v .0)))
+component (fin s m e) (fin false zero g) q D f h v p l = absurd (lt-irrefl 0 (lt-of-lt-of-le (mul-pos p (down-pos g)) (le-of-eq (sym (v .1) ∙ ap (λ (z : ℕ). z * 2 ^ 149) (zero-mul (up g)) ∙ zero-mul (2 ^ 149)))))
+component (fin s m e) (fin false (suc n) g) q D f h v p l =
+    let r = root-square n g f in
+    let R = r .0 in
+    let b : 3 * (D * 2 ^ 149) ≤ 4 * (R * R) = subst (λ (z : ℕ). 3 * (z * 2 ^ 149) ≤ 4 * (R * R)) (counted (suc n) g D (v .1)) (r .2) in
+    over-root (fin s m e) (rootOf (fin false (suc n) g)) R (r .1) (some-root D (2 ^ 149) R p (pow-pos 149) b) (root-over (m * up e) (down e) (2 ^ 149) q D R (pow-pos 149) h (omega arith) b)
+
+-- ---- the vector
+
+above-zero : (d : Float) (D : ℕ) → HasValue d false D (2 ^ 149) → lt zero32 d ≡ true → 0 < D
+unfolding lt ofBits
+above-zero nan D v h = absurd v
+above-zero (inf s) D v h = absurd v
+above-zero (fin true m e) D v h = absurd (false≢true (sym (v .0)))
+above-zero (fin false m e) D v h =
+    let some : 0 < m * up e = lt-of-le-of-lt zero-le (lt-of-lt-of-le (ltb-true (0 * down e) (m * up e * 1) h) (le-of-eq (mul-one (m * up e)))) in
+    first-pos D (down e) (subst (λ (z : ℕ). 0 < z) (v .1) (mul-pos some (pow-pos 149)))
+
+thin-above : lt zero32 thinLimit ≡ true
+unfolding lt ofBits
+thin-above = refl
+
+pub normal-within : (a : Vec3) → lt zero32 (dotV a a) ≡ true → finite (dotV a a) ≡ true → EachAtMost 1 1 (normalV a)
+unfolding dotV normalV divV lengthV
+normal-within a p f =
+    let X = mul binary32 (a .x) (a .x) in
+    let Y = mul binary32 (a .y) (a .y) in
+    let Z = mul binary32 (a .z) (a .z) in
+    let S = add binary32 X Y in
+    let d = add binary32 S Z in
+    let o = parts-finite S Z f in
+    let i = parts-finite X Y (o .0) in
+    let x = square-is (a .x) (i .0) in
+    let y = square-is (a .y) (i .1) in
+    let z = square-is (a .z) (o .1) in
+    let s = sum-is X Y (x .0) (y .0) (mul-fits binary32 (a .x) (a .x)) (mul-fits binary32 (a .y) (a .y)) (x .1) (y .1) (o .0) in
+    let t = sum-is S Z (s .0) (z .0) (add-fits binary32 X Y) (mul-fits binary32 (a .z) (a .z)) (s .1) (z .1) f in
+    let D = t .0 in
+    let g = above-zero d D (t .1) p in
+    let h = add-fits binary32 S Z in
+    record {
+      x = component (a .x) d (x .0) D h (x .2) (t .1) g (le-trans (s .2) (t .2));
+      y = component (a .y) d (y .0) D h (y .2) (t .1) g (le-trans (s .3) (t .2));
+      z = component (a .z) d (z .0) D h (z .2) (t .1) g (t .3);
+    }
+
+-- so too of a light's direction or a cross that is not thin
+pub thin-normal-within : (a : Vec3) → lt thinLimit (dotV a a) ≡ true → finite (dotV a a) ≡ true → EachAtMost 1 1 (normalV a)
+thin-normal-within a p f = normal-within a (lt-transitive zero32 thinLimit (dotV a a) thin-above p) f
