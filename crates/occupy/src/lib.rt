@@ -1,0 +1,2 @@
+// The occupied mask of a scene's triangles. `masks` has the public call.
+pub mod inner;
