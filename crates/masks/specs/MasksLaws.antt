@@ -1,0 +1,145 @@
+-- The contract leaves one result, an accepted call has masks that fit its grid, what its entries mean, and a good call is accepted.
+use mathlib.Core.Path.{_≡_, refl, sym, ap, _∙_}
+use mathlib.Core.Bool.{Bool, true, false}
+use mathlib.Core.List.{List, [], _∷_}
+use Prim.Native.Nat.{ℕ, _/_, _%_, _≤_, _<_}
+use native.Mathlib.Omega.{arith}
+use lib.ListN.{length}
+use lib.Ieee as Ieee
+use lib.Ieee.{Float}
+use borrow.Author.Tests.{eqb-true, not-false}
+use Rattle.names.specs.Bits.{zero32, one32}
+use Rattle.names.specs.Refusals.{firstOf, unlessRefused, kept, given}
+use Rattle.lists.specs.Fold.{tab}
+use Rattle.lists.specs.Any.{any}
+use Rattle.floats.specs.Root.{rootOf}
+use Rattle.floats.specs.Whole.{toward}
+use Rattle.floats.specs.Choice.{largerOf, smallerOf}
+use Rattle.vectors.specs.Vectors.{vec, addV, subV, scaleV, dotV, crossV, lengthV}
+use Rattle.grid.specs.declared.Axes.{Axes}
+use Rattle.grid.specs.declared.Corners.{Corners}
+use Rattle.grid.specs.Grid.{voxels, AxesWithin, xOf, yOf, zOf, edgesOf}
+use Rattle.limits.specs.Limits.{within, outsideV, badAxes, badCorners, badEdges, wrongLength, tooMany, badPoints}
+use Rattle.limits.specs.Some.{some}
+use Rattle.triangle.specs.Meet.{absentOf}
+use Rattle.triangle.specs.Places.{triangleAt}
+use Rattle.samples.specs.Samples.{smallestEdgeOf, targetOf, countOf, sideFrom, sideOf, shareOf, pointOf, cellOn, indexWithin, cellOf, sampleCell}
+use Rattle.limits.specs.LimitsLaws.{axes-row, three}
+use Rattle.passed.specs.Passed.{passed}
+use Rattle.marks.specs.Marks.{isActive, activeCount}
+use Rattle.occupy.specs.Occupied.{sampledIn, touches, occupiedIn, occupiedEntry, occupiedOf}
+use Rattle.occupy.specs.OccupiedLaws.{Sampled, occupied-at, occupied-sampled, sampled-occupied}
+use Rattle.dilate.specs.Active.{activeIn, activeEntry, activeOf}
+use Rattle.dilate.specs.ActiveLaws.{NearOccupied, active-at, active-near, near-active}
+use Rattle.masks.specs.declared.Marked.{Marked}
+use Rattle.masks.specs.Masks.{wrongMasks, masksRows, masksRefusal, activeMaskOf, markedOf, MasksFilled}
+
+-- ---- one result
+
+pub record SameMasks (r r' : Marked) (occupied occupied' active active' : List ℕ) : Type 0 where
+  pub same-answer : r ≡ r'
+  pub same-occupied : occupied ≡ occupied'
+  pub same-active : active ≡ active'
+
+pub masks-filled-once : (axes : Axes) (corners : Corners) (points : List Float) (occupied active : List ℕ) (r₁ r₂ : Marked) (o₁ a₁ o₂ a₂ : List ℕ)
+    → MasksFilled axes corners points occupied active r₁ o₁ a₁ → MasksFilled axes corners points occupied active r₂ o₂ a₂
+    → SameMasks r₁ r₂ o₁ o₂ a₁ a₂
+masks-filled-once axes corners points occupied active r₁ r₂ o₁ a₁ o₂ a₂ p q =
+    record {
+      same-answer = p .answer ∙ sym (q .answer);
+      same-occupied = p .occupied-after ∙ sym (q .occupied-after);
+      same-active = p .active-after ∙ sym (q .active-after);
+    }
+
+-- ---- what an accepted call has
+
+pub record FittingMasks (axes : Axes) (occupied active : List ℕ) : Type 0 where
+  pub axes-within : AxesWithin axes
+  pub occupied-fits : length occupied ≡ voxels axes
+  pub active-fits : length active ≡ voxels axes
+
+pub masks-fitting : (axes : Axes) (corners : Corners) (points : List Float) (occupied active : List ℕ)
+    → masksRefusal axes corners points occupied active ≡ 0
+    → FittingMasks axes occupied active
+unfolding masksRefusal wrongMasks
+masks-fitting axes corners points occupied active e =
+    let p = passed (masksRows axes corners points occupied active) (omega arith, (omega arith, (omega arith, (omega arith, (omega arith, tt))))) e in
+    let q =
+    three (wrongLength (length points % 9) 0) (wrongLength (length occupied) (voxels axes)) (wrongLength (length active) (voxels axes)) .0 (p .1 .1 .0)
+    in
+    record {
+      axes-within = axes-row axes .0 (p .0);
+      occupied-fits = eqb-true _ _ (not-false _ (q .1));
+      active-fits = eqb-true _ _ (not-false _ (q .2));
+    }
+
+-- ---- what the entries of an accepted call mean
+
+module _ (axes : Axes) (corners : Corners) (points : List Float) (i : ℕ) (h : i < voxels axes) where
+  -- an occupied voxel has a sample of a present triangle in it, and such a voxel is occupied
+  pub mask-sampled : isActive (occupiedOf axes corners points) i ≡ true → Sampled axes corners points i
+  mask-sampled e = occupied-sampled axes corners points i (sym (occupied-at axes corners points i h) ∙ e)
+
+  pub sampled-mask : Sampled axes corners points i → isActive (occupiedOf axes corners points) i ≡ true
+  sampled-mask s = occupied-at axes corners points i h ∙ sampled-occupied axes corners points i s
+
+  -- an active voxel has an occupied one within 2 on every axis, and such a voxel is active
+  pub mask-near : isActive (activeMaskOf axes corners points) i ≡ true
+      → NearOccupied axes (occupiedOf axes corners points) (xOf axes i) (yOf axes i) (zOf axes i)
+  mask-near e = active-near axes (occupiedOf axes corners points) _ _ _ (sym (active-at axes (occupiedOf axes corners points) i h) ∙ e)
+
+  pub near-mask : NearOccupied axes (occupiedOf axes corners points) (xOf axes i) (yOf axes i) (zOf axes i)
+      → isActive (activeMaskOf axes corners points) i ≡ true
+  near-mask n = active-at axes (occupiedOf axes corners points) i h ∙ near-active axes (occupiedOf axes corners points) _ _ _ n
+
+-- ---- how a call meets its contract
+
+pub masks-refused : (axes : Axes) (corners : Corners) (points : List Float) (occupied active : List ℕ) (r : ℕ)
+    → r ≡ masksRefusal axes corners points occupied active → (r ≡ 0 → ⊥)
+    → MasksFilled axes corners points occupied active (record { refusal = r; occupied = 0; active = 0 }) occupied active
+masks-refused axes corners points occupied active r e n =
+    record {
+      answer =
+          rw (← e, ← kept r (activeCount (occupiedOf axes corners points)) 0 n, ← kept r (activeCount (activeMaskOf axes corners points)) 0 n) refl;
+      occupied-after = rw (← e) (kept r _ occupied n);
+      active-after = rw (← e) (kept r _ active n);
+    }
+
+pub masks-filled : (axes : Axes) (corners : Corners) (points : List Float) (occupied active occupied' active' : List ℕ) (o a : ℕ)
+    → 0 ≡ masksRefusal axes corners points occupied active
+    → occupied' ≡ occupiedOf axes corners points
+    → active' ≡ activeOf axes occupied'
+    → o ≡ activeCount occupied' → a ≡ activeCount active'
+    → MasksFilled axes corners points occupied active (record { refusal = 0; occupied = o; active = a }) occupied' active'
+masks-filled axes corners points occupied active occupied' active' o a e p q s t =
+    record {
+      answer =
+          rw (← e, ← given 0 (activeCount (occupiedOf axes corners points)) 0 refl, ← given 0 (activeCount (activeMaskOf axes corners points)) 0 refl, ← p, ← q, ← s, ← t) refl;
+      occupied-after = rw (← e) (p ∙ given 0 _ occupied refl);
+      active-after = rw (← e) (q ∙ rw p (given 0 _ active refl));
+    }
+
+-- ---- good calls
+
+abbrev pub axesOf : ℕ → ℕ → ℕ → Axes
+axesOf w h d = record { width = w; height = h; depth = d }
+
+-- "P grid 6×1×1, voxel 0 occupied: 0, 1, 2 active."
+pub six-active : activeOf (axesOf 6 1 1) (1 ∷ 0 ∷ 0 ∷ 0 ∷ 0 ∷ 0 ∷ []) ≡ 1 ∷ 1 ∷ 1 ∷ 0 ∷ 0 ∷ 0 ∷ []
+unfolding activeOf activeEntry activeIn any tab
+six-active = refl
+
+-- triangle Q over one voxel of edge 1, from 0 to 1: accepted, whatever the masks held, and its one sample, (.5, .5, 0), marks the voxel
+abbrev pub unitCorners : Corners
+unitCorners = record { min = vec zero32 zero32 zero32; max = vec one32 one32 one32 }
+
+abbrev pub pointsQ : List Float
+pointsQ = zero32 ∷ zero32 ∷ zero32 ∷ one32 ∷ zero32 ∷ zero32 ∷ zero32 ∷ one32 ∷ zero32 ∷ []
+
+pub q-accepted : masksRefusal (axesOf 1 1 1) unitCorners pointsQ (7 ∷ []) (9 ∷ []) ≡ 0
+unfolding masksRefusal firstOf badAxes badCorners badEdges outsideV within edgesOf wrongMasks tooMany badPoints some Ieee.sub Ieee.add Ieee.neg Ieee.div Ieee.le Ieee.lt Ieee.eq Ieee.ofInt Ieee.round Ieee.sum Ieee.units Ieee.odd Ieee.size Ieee.climb Ieee.span Ieee.ofBits Ieee.ofFields
+q-accepted = refl
+
+pub q-occupied : occupiedOf (axesOf 1 1 1) unitCorners pointsQ ≡ 1 ∷ []
+unfolding occupiedOf occupiedEntry occupiedIn touches sampledIn any tab absentOf triangleAt edgesOf smallestEdgeOf largerOf smallerOf countOf targetOf sideOf sideFrom shareOf pointOf cellOn indexWithin cellOf sampleCell lengthV crossV subV addV scaleV dotV rootOf toward Ieee.sub Ieee.add Ieee.neg Ieee.mul Ieee.div Ieee.le Ieee.lt Ieee.eq Ieee.isNan Ieee.toUnsigned Ieee.ofInt Ieee.round Ieee.sum Ieee.units Ieee.odd Ieee.size Ieee.climb Ieee.span Ieee.ofBits Ieee.ofFields
+q-occupied = refl
