@@ -1,0 +1,176 @@
+-- What the nearest hit is: no hit has a smaller distance, and none at an equal distance a higher place; there is nothing exactly where every
+-- triangle is missed. So the answer is the one hit that is nearest, whatever the order of the walk.
+use mathlib.Core.Path.{_≡_, refl, sym, ap, _∙_}
+use mathlib.Core.Bool.{Bool, true, false, cond, _||_, _&&_, false≢true}
+use mathlib.Core.Logic.{_⊎_, inl, inr, ⊎-elim}
+use Prim.Native.Nat.{ℕ, zero, suc, _≤_, _<_}
+use native.Mathlib.Nat.{eq-or-lt-of-le, le-of-suc-le-suc, not-suc-le-zero}
+use native.Mathlib.Omega.{arith}
+use borrow.Author.Tests.{ltb-true, lt-ltb}
+use lib.Dec.{ltb}
+use lib.ListN.{length}
+use lib.Ieee.{Float, nan, inf, fin, lt, eq, le, isNan}
+use Rattle.floats.specs.Choice.{magnitudeOf}
+use Rattle.names.specs.Scene.{Scene}
+use Rattle.vectors.specs.declared.Ray.{Ray}
+use Rattle.vectors.specs.declared.Triangle.{Triangle}
+use Rattle.triangle.specs.Meet.{meetOf, largest32}
+use Rattle.triangle.specs.Laws.{hit-met}
+use Rattle.triangle.specs.declared.Meet.{Meet}
+use Rattle.triangle.specs.declared.Meet.the-variants.{Miss, Hit}
+use Rattle.scan.specs.Nearest.{beats, nearerOf, meetAt, nearestTo, nearestOf}
+use Rattle.scan.specs.declared.Nearest.{Nearest}
+use Rattle.scan.specs.declared.Nearest.the-variants.{Nothing, At}
+use Rattle.scan_laws.specs.Order.{lt-irrefl-float, lt-trans-float, lt-eq-float, trichotomy}
+
+-- a miss is no hit
+apart : {A : Type 0} (m : Meet) (t u v : Float) → m ≡ Miss → m ≡ Hit t u v → A
+apart m t u v p q = absurd (let z : _≡_ {A = ℕ} 0 1 = cc in omega arith)
+
+-- a hit's distance is a number
+pub hit-number : (ray : Ray) (triangle : Triangle) (t u v : Float) → meetOf ray triangle ≡ Hit t u v → isNan t ≡ false
+unfolding isNan le lt eq magnitudeOf
+hit-number ray triangle t u v e = by t (hit-met ray triangle t u v e .finite)
+  where
+    by : (x : Float) → le (magnitudeOf x) largest32 ≡ true → isNan x ≡ false
+    by nan h = absurd (false≢true h)
+    by (inf s) h = refl
+    by (fin s m d) h = refl
+
+module _ (scene : Scene) (ray : Ray) where
+  -- among the first n triangles
+  pub record IsNearest (n i : ℕ) (t u v : Float) : Type 0 where
+    pub within : i < n
+    pub met : meetAt scene ray i ≡ Hit t u v
+    pub none-nearer : (j : ℕ) (s p q : Float) → j < n → meetAt scene ray j ≡ Hit s p q → lt s t ≡ false
+    pub none-later : (j : ℕ) (s p q : Float) → j < n → meetAt scene ray j ≡ Hit s p q → eq s t ≡ true → j ≤ i
+
+  abbrev pub AllMissed : ℕ → Type 0
+  AllMissed n = (j : ℕ) → j < n → meetAt scene ray j ≡ Miss
+
+  abbrev Holds : ℕ → Nearest → Type 0
+  Holds n Nothing = AllMissed n
+  Holds n (At i t u v) = IsNearest n i t u v
+
+  -- the last of the first n + 1, or one before it
+  last-or-before : {A : Type 0} (n j : ℕ) → j < suc n → (j ≡ n → A) → (j < n → A) → A
+  last-or-before n j h f g = ⊎-elim f g (eq-or-lt-of-le (le-of-suc-le-suc h))
+
+  same-distance : (j n : ℕ) (t u v s p q : Float) → j ≡ n → meetAt scene ray n ≡ Hit t u v → meetAt scene ray j ≡ Hit s p q → s ≡ t
+  same-distance j n t u v s p q e f g = let k : meetAt scene ray n ≡ Hit s p q = rw e at g in cc
+
+  better : (n i : ℕ) (s p q t u v : Float) → meetAt scene ray n ≡ Hit t u v → IsNearest n i s p q → beats t n s i ≡ true → IsNearest (suc n) n t u v
+  unfolding beats
+  better n i s p q t u v e h b =
+      record {
+        within = omega arith;
+        met = e;
+        none-nearer =
+            λ j r x y l f.
+            last-or-before n j l (λ g. rw (same-distance j n t u v r x y g e f) (lt-irrefl-float t)) (λ g. below j r x y (lt r t) refl (h .none-nearer j r x y g f));
+        none-later = λ j r x y l f g. le-of-suc-le-suc l;
+      }
+    where
+      -- what is below the new distance is below the old
+      below : (j : ℕ) (r x y : Float) (c : Bool) → lt r t ≡ c → lt r s ≡ false → c ≡ false
+      below j r x y false f g = refl
+      below j r x y true f g = by (lt t s) refl
+        where
+          by : (d : Bool) → lt t s ≡ d → true ≡ false
+          by true k = absurd (false≢true (sym g ∙ lt-trans-float r t s f k))
+          by false k = equal (eq t s) refl (rw k at b)
+            where
+              equal : (c : Bool) → eq t s ≡ c → eq t s && ltb i n ≡ true → true ≡ false
+              equal true m z = absurd (false≢true (sym g ∙ lt-eq-float r t s f m))
+              equal false m z = absurd (false≢true (sym (rw m refl) ∙ z))
+
+  worse : (n i : ℕ) (s p q t u v : Float) → meetAt scene ray n ≡ Hit t u v → IsNearest n i s p q → beats t n s i ≡ false → IsNearest (suc n) i s p q
+  unfolding beats
+  worse n i s p q t u v e h b =
+      record {
+        within = omega (arith, h .within);
+        met = h .met;
+        none-nearer = λ j r x y l f. last-or-before n j l (λ g. rw (same-distance j n t u v r x y g e f) (not-below (lt t s) refl)) (λ g. h .none-nearer j r x y g f);
+        none-later =
+            λ j r x y l f g.
+            last-or-before n j l (λ k. absurd (not-equal (eq t s) refl (let w = rw (same-distance j n t u v r x y k e f) at g in w))) (λ k. h .none-later j r x y k f g);
+      }
+    where
+      not-below : (c : Bool) → lt t s ≡ c → lt t s ≡ false
+      not-below false k = k
+      not-below true k = absurd (false≢true (sym b ∙ rw k refl))
+
+      not-equal : (c : Bool) → eq t s ≡ c → eq t s ≡ true → ⊥
+      not-equal c k m = false≢true (sym b ∙ rw (not-below (lt t s) refl, m, lt-ltb i n (h .within)) refl)
+
+  step : (n : ℕ) (b : Nearest) (m : Meet) → meetAt scene ray n ≡ m → Holds n b → Holds (suc n) (nearerOf b n m)
+  unfolding nearerOf
+  step n Nothing Miss e h = λ j l. last-or-before n j l (λ g. rw g e) (λ g. h j g)
+  step n (At i s p q) Miss e h =
+      record {
+        within = omega (arith, h .within);
+        met = h .met;
+        none-nearer = λ j r x y l f. last-or-before n j l (λ g. apart _ r x y (rw g e) f) (λ g. h .none-nearer j r x y g f);
+        none-later = λ j r x y l f k. last-or-before n j l (λ g. apart _ r x y (rw g e) f) (λ g. h .none-later j r x y g f k);
+      }
+  step n Nothing (Hit t u v) e h =
+      record {
+        within = omega arith;
+        met = e;
+        none-nearer = λ j r x y l f. last-or-before n j l (λ g. rw (same-distance j n t u v r x y g e f) (lt-irrefl-float t)) (λ g. apart _ r x y (h j g) f);
+        none-later = λ j r x y l f k. le-of-suc-le-suc l;
+      }
+  step n (At i s p q) (Hit t u v) e h = by (beats t n s i) refl
+    where
+      by : (c : Bool) → beats t n s i ≡ c → Holds (suc n) (cond c (At n t u v) (At i s p q))
+      by true f = better n i s p q t u v e h f
+      by false f = worse n i s p q t u v e h f
+
+  holds : (n : ℕ) → Holds n (nearestTo scene ray n)
+  unfolding nearestTo
+  holds zero = λ j l. absurd (not-suc-le-zero l)
+  holds (suc n) = step n (nearestTo scene ray n) (meetAt scene ray n) refl (holds n)
+
+  at-hit : (n : ℕ) (b : Nearest) (i : ℕ) (t u v : Float) → Holds n b → b ≡ At i t u v → IsNearest n i t u v
+  at-hit n b i t u v h e = let w : Holds n (At i t u v) = rw e at h in w
+
+  -- a hit that is answered is the nearest
+  pub nearest-is-nearest : (i : ℕ) (t u v : Float) → nearestOf scene ray ≡ At i t u v → IsNearest (length (scene .uses)) i t u v
+  unfolding nearestOf
+  nearest-is-nearest i t u v e = at-hit _ _ i t u v (holds (length (scene .uses))) e
+
+  -- nothing is answered only where every triangle is missed
+  pub nothing-is-missed : nearestOf scene ray ≡ Nothing → AllMissed (length (scene .uses))
+  unfolding nearestOf
+  nothing-is-missed e = let w : Holds (length (scene .uses)) Nothing = rw e at (holds (length (scene .uses))) in w
+
+  -- and wherever it is
+  pub missed-is-nothing : AllMissed (length (scene .uses)) → nearestOf scene ray ≡ Nothing
+  missed-is-nothing h = by (nearestOf scene ray) refl
+    where
+      by : (b : Nearest) → nearestOf scene ray ≡ b → b ≡ Nothing
+      by Nothing e = refl
+      by (At i t u v) e = let k = nearest-is-nearest i t u v e in apart _ t u v (h i (k .within)) (k .met)
+
+  -- the nearest hit is the answer
+  pub nearest-is-answered : (i : ℕ) (t u v : Float) → IsNearest (length (scene .uses)) i t u v → nearestOf scene ray ≡ At i t u v
+  nearest-is-answered i t u v h = by (nearestOf scene ray) refl
+    where
+      by : (b : Nearest) → nearestOf scene ray ≡ b → b ≡ At i t u v
+      by Nothing e = apart _ t u v (nothing-is-missed e i (h .within)) (h .met)
+      by (At j s p q) e =
+          let k = nearest-is-nearest j s p q e in
+          let a : lt s t ≡ false = h .none-nearer j s p q (k .within) (k .met) in
+          let b : lt t s ≡ false = k .none-nearer i t u v (h .within) (h .met) in
+          let st : eq s t ≡ true = equal s t (hit-number ray _ s p q (k .met)) (hit-number ray _ t u v (h .met)) a b (eq s t) refl in
+          let ts : eq t s ≡ true = equal t s (hit-number ray _ t u v (h .met)) (hit-number ray _ s p q (k .met)) b a (eq t s) refl in
+          let below = h .none-later j s p q (k .within) (k .met) st in
+          let above = k .none-later i t u v (h .within) (h .met) ts in
+          let same : j ≡ i = omega arith in
+          let m : meetAt scene ray i ≡ Hit s p q = rw same at (k .met) in
+          let n : meetAt scene ray i ≡ Hit t u v = h .met in
+          cc
+        where
+          equal : (x y : Float) → isNan x ≡ false → isNan y ≡ false → lt x y ≡ false → lt y x ≡ false → (c : Bool) → eq x y ≡ c → eq x y ≡ true
+          equal x y nx ny f g true z = z
+          equal x y nx ny f g false z = absurd (false≢true (sym g ∙ trichotomy x y nx ny f z))

@@ -1,0 +1,1 @@
+// Laws only: specs/ says what the two scans mean.
