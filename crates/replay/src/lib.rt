@@ -277,6 +277,11 @@ pub fn ended(t: Tally) -> Tally {
     }
 }
 
+// Room for a record.
+pub fn buffer() -> [u8; 1048576] {
+    [0u8; 1048576]
+}
+
 // The next record of standard input: its length, 0 at the input's end or where it does not fit.
 pub fn next(out: &mut [u8]) -> usize
     ensures { λ r. ⌜ r ≤ length (now (out .exit)) ⌝ }

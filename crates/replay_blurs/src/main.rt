@@ -75,6 +75,6 @@ fn run(buffer: &mut [u8]) {
 }
 
 fn main() {
-    let mut buffer = [0u8; 1048576];
+    let mut buffer = replay::buffer();
     run(&mut buffer);
 }

@@ -1,52 +1,42 @@
+-- The turns left fall; the buffer keeps its length.
+use mathlib.Core.Path.{_≡_}
+use lib.ListN.{length}
+use borrow.Author.Needs.{needs}
 use Rattle.replay_blurs.proofs.run.Statement.{statement}
 use Rattle.replay_blurs.proofs.run.Tie as tie
-use Rattle.replay_blurs.proofs.run.Reads as reads
-use Rattle.replay_blurs.proofs.run.Lts as lts
-use Rattle.replay.proofs.report.Reads as report-reads
-use Rattle.replay.proofs.start.Reads as start-reads
-use Rattle.replay_blurs.proofs.turn.Reads as turn-reads
 
 abbrev Inv-loop : tie.InvT-loop
-Inv-loop buffer₀ t₀ turns₀ buffer t turns = ?
+Inv-loop buffer₀ t₀ turns₀ buffer t turns = length buffer ≡ length buffer₀
 
 abbrev μ-loop : tie.MeasureT-loop
-μ-loop buffer₀ t₀ turns₀ buffer t turns = ?
+μ-loop buffer₀ t₀ turns₀ buffer t turns = turns
 
--- src/main.rt:68:9
 start-requires : tie.Need-start-requires Inv-loop μ-loop
-start-requires c κs = ?
+start-requires c κs = search needs
 
--- src/main.rt:70:5
 loop-holds : tie.Need-loop-holds Inv-loop μ-loop
-loop-holds c = ?
+loop-holds c = search needs
 
--- src/main.rt:71:9
 turn-requires : tie.Need-turn-requires Inv-loop μ-loop
-turn-requires c κs = ?
+turn-requires c κs = search needs
 
--- src/main.rt:72:9
 sub-turns : tie.Need-sub-turns Inv-loop μ-loop
-sub-turns c = ?
+sub-turns c = search needs
 
--- src/main.rt:70:5
 loop-less : tie.Need-loop-less Inv-loop μ-loop
-loop-less c = ?
+loop-less c = search needs
 
--- src/main.rt:70:5
 loop-again : tie.Need-loop-again Inv-loop μ-loop
-loop-again c = ?
+loop-again c = search needs
 
--- src/main.rt:74:5
 report-requires : tie.Need-report-requires Inv-loop μ-loop
-report-requires c κs = ?
+report-requires c κs = search needs
 
--- src/main.rt:67:1
 same-length : tie.Need-same-length Inv-loop μ-loop
-same-length c = ?
+same-length c = search needs
 
--- src/main.rt:67:1
 returns : tie.Need-returns Inv-loop μ-loop
-returns c = ?
+returns c = search needs
 
 pub run-spec : {M : Type 1} → statement M
 run-spec =
