@@ -1,0 +1,65 @@
+-- Each list is filled from its body's place.
+use native.Mathlib.Omega.{arith}
+use Prim.Native.Nat.{ℕ, _*_}
+use Rattle.contents.specs.Contents.{offsetAt}
+use Rattle.volume.proofs.Calls.{placed-floats, placed-bytes}
+use borrow.Author.Needs.{needs}
+use Rattle.volume.proofs.read_bodies.Statement.{statement}
+use Rattle.volume.proofs.read_bodies.Tie as tie
+
+offset-at-requires : tie.Need-offset-at-requires
+offset-at-requires c κs = search needs
+
+floats-into-requires : tie.Need-floats-into-requires
+floats-into-requires c κs = search needs
+
+offset-at-requires-2 : tie.Need-offset-at-requires-2
+offset-at-requires-2 c κs = search needs
+
+floats-into-requires-2 : tie.Need-floats-into-requires-2
+floats-into-requires-2 c κs = search needs
+
+offset-at-requires-3 : tie.Need-offset-at-requires-3
+offset-at-requires-3 c κs = search needs
+
+bytes-into-requires : tie.Need-bytes-into-requires
+bytes-into-requires c κs = search needs
+
+offset-at-requires-4 : tie.Need-offset-at-requires-4
+offset-at-requires-4 c κs = search needs
+
+bytes-into-requires-2 : tie.Need-bytes-into-requires-2
+bytes-into-requires-2 c κs = search needs
+
+same-length : tie.Need-same-length
+same-length c = search needs
+
+same-length-2 : tie.Need-same-length-2
+same-length-2 c = search needs
+
+same-length-3 : tie.Need-same-length-3
+same-length-3 c = search needs
+
+same-length-4 : tie.Need-same-length-4
+same-length-4 c = search needs
+
+returns : tie.Need-returns
+returns c = record { light = placed-floats (c .before .before .before .before .before .before .before .before .before .before .before .before .before .before .before .before .before .before .before .before .before .before .before .before .before .args .bytes .now) _ _ (offsetAt (c .before .before .before .before .before .before .before .before .before .before .before .before .before .before .before .before .before .before .before .before .before .before .before .before .before .args .bytes .now) 0) _ _ (c .before .before .before .before .before .before .before .before .before .before .before .before .before .before .before .before .before .floats-into .ensures) (c .before .before .before .before .before .before .before .before .before .before .before .before .before .before .before .before .before .before .before .offset-at .ensures) (c .before .before .before .before .before .before .before .before .before .before .before .before .before .before .before .before .before .before .before .before .before .before .before .before .before .pre .lights); volume = placed-floats (c .before .before .before .before .before .before .before .before .before .before .before .before .before .before .before .before .before .before .before .before .before .before .before .before .before .args .bytes .now) _ _ (offsetAt (c .before .before .before .before .before .before .before .before .before .before .before .before .before .before .before .before .before .before .before .before .before .before .before .before .before .args .bytes .now) 1) _ _ (c .before .before .before .before .before .before .before .before .before .before .before .before .floats-into2 .ensures) (c .before .before .before .before .before .before .before .before .before .before .before .before .before .before .offset-at2 .ensures) (c .before .before .before .before .before .before .before .before .before .before .before .before .before .before .before .before .before .before .before .before .before .before .before .before .before .pre .coefficients); active = placed-bytes (c .before .before .before .before .before .before .before .before .before .before .before .before .before .before .before .before .before .before .before .before .before .before .before .before .before .args .bytes .now) _ _ (offsetAt (c .before .before .before .before .before .before .before .before .before .before .before .before .before .before .before .before .before .before .before .before .before .before .before .before .before .args .bytes .now) 2) _ _ (c .before .before .before .before .before .before .before .bytes-into .ensures) (c .before .before .before .before .before .before .before .before .before .offset-at3 .ensures) (c .before .before .before .before .before .before .before .before .before .before .before .before .before .before .before .before .before .before .before .before .before .before .before .before .before .pre .actives); occupied = placed-bytes (c .before .before .before .before .before .before .before .before .before .before .before .before .before .before .before .before .before .before .before .before .before .before .before .before .before .args .bytes .now) _ _ (offsetAt (c .before .before .before .before .before .before .before .before .before .before .before .before .before .before .before .before .before .before .before .before .before .before .before .before .before .args .bytes .now) 3) _ _ (c .before .before .bytes-into2 .ensures) (c .before .before .before .before .offset-at4 .ensures) (c .before .before .before .before .before .before .before .before .before .before .before .before .before .before .before .before .before .before .before .before .before .before .before .before .before .pre .occupieds) }
+
+pub read-bodies-spec : {M : Type 1} → statement M
+read-bodies-spec =
+    tie.close
+    (tie.spec
+    offset-at-requires
+    floats-into-requires
+    offset-at-requires-2
+    floats-into-requires-2
+    offset-at-requires-3
+    bytes-into-requires
+    offset-at-requires-4
+    bytes-into-requires-2
+    same-length
+    same-length-2
+    same-length-3
+    same-length-4
+    returns)
