@@ -3,6 +3,7 @@ use Prim.Native.Nat.{ℕ, _+_, _*_, _≤_}
 use mathlib.Core.Path.{_≡_, refl, sym, _∙_}
 use mathlib.Core.Bool.{Bool, true, false}
 use mathlib.Core.List.{List}
+use native.Mathlib.Omega.{arith}
 use lib.Dec.{ltb}
 use lib.ListN.{length}
 use lib.Ieee.{Float}
@@ -15,14 +16,15 @@ use Rattle.names.specs.Numbers.{voxelLimit}
 use Rattle.bytes_le.specs.Bytes.{floatsAt, bytesAt}
 use Rattle.limits.specs.Limits.{badAxes, badGrid}
 use Rattle.limits.specs.LimitsLaws.{axes-row}
-use Rattle.contents.specs.Contents.{axesAt}
+use Rattle.marks.specs.Marks.{activeCount}
+use Rattle.contents.specs.Contents.{axesAt, offsetAt}
 use Rattle.volume_file.specs.VolumeFile.{voxelsAt, faulty}
-use Rattle.volume_file.specs.VolumeFileLaws.{Accepted, accepted-row, accepted-axes}
+use Rattle.volume_file.specs.VolumeFileLaws.{Accepted, accepted-row, accepted-axes, accepted-laid}
 use Rattle.volume_write.specs.FileBytes.{bytesFor, fileBytes, Lent}
 use Rattle.volume.specs.declared.Head.{Head}
 use Rattle.volume.specs.declared.Needed.{Needed}
 use Rattle.volume.specs.declared.Figures.{Figures}
-use Rattle.volume.specs.Volume.{noHead, headAnswer, fileRefusal, FileAxes, neededRefusal, VolumeBytes, wrongLists, readRefusal, VolumeRead, wrongBytes, badLists, writeRefusal, VolumeWritten, figuresLimit, noFigures, figuresAnswer, figuresRefusal, FileFigures}
+use Rattle.volume.specs.Volume.{noHead, headAnswer, fileRefusal, FileAxes, neededRefusal, VolumeBytes, wrongLists, readRefusal, VolumeRead, wrongBytes, badLists, writeRefusal, VolumeWritten, figuresLimit, zeroCount, noFigures, figuresAnswer, figuresRefusal, FileFigures}
 use Rattle.volume.specs.VolumeLaws.{lists-row, BodiesRead}
 use borrow.Author.Tests.{eqb-true, not-false}
 
@@ -155,6 +157,25 @@ lent a n l v m o b h e k w =
     }
 
 -- ---- the figures
+
+module _ (s : List ℕ) (k : Accepted s) (a : Axes) (n : ℕ) (x : a ≡ axesAt s) (y : n ≡ voxels a) where
+  count : n ≡ voxelsAt s
+  count = rw x at y
+
+  pub room-light : (off : ℕ) → off ≡ offsetAt s 0 → off + n * 4 ≤ length s
+  room-light off e = let d = accepted-laid s k in omega (arith, e, count, d .light, d .within)
+
+  pub room-active : (off : ℕ) → off ≡ offsetAt s 2 → off + n ≤ length s
+  room-active off e = let d = accepted-laid s k in omega (arith, e, count, d .active, d .within)
+
+  pub room-occupied : (off : ℕ) → off ≡ offsetAt s 3 → off + n ≤ length s
+  room-occupied off e = let d = accepted-laid s k in omega (arith, e, count, d .occupied, d .within)
+
+  pub figures-whole : (o₀ o₂ o₃ z m o : ℕ) → o₀ ≡ offsetAt s 0 → o₂ ≡ offsetAt s 2 → o₃ ≡ offsetAt s 3
+      → z ≡ zeroCount (floatsAt s o₀ n) → m ≡ activeCount (bytesAt s o₂ n) → o ≡ activeCount (bytesAt s o₃ n)
+      → record { refusal = 0; width = a .width; height = a .height; depth = a .depth; occupied = o; active = m; zeros = z } ≡ figuresAnswer s
+  unfolding figuresAnswer
+  figures-whole o₀ o₂ o₃ z m o e f g p q r = rw (p, q, r, e, f, g, count, x) refl
 
 pub figures-14 : (s : List ℕ) (r : Figures) → ltb figuresLimit (length s) ≡ true → r ≡ noFigures 14 → FileFigures s r
 unfolding figuresRefusal firstOf unlessRefused

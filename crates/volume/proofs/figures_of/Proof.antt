@@ -1,49 +1,37 @@
+-- The counts are taken at the bodies' places.
+use mathlib.Core.Path.{_≡_}
+use Rattle.volume_file.specs.VolumeFileLaws.{accepted-axes}
+use Rattle.volume.proofs.Calls.{room-light, room-active, room-occupied, figures-whole}
 use borrow.Author.Needs.{needs}
 use Rattle.volume.proofs.figures_of.Statement.{statement}
 use Rattle.volume.proofs.figures_of.Tie as tie
-use Rattle.volume.proofs.figures_of.Reads as reads
-use Rattle.volume.proofs.figures_of.Lts as lts
-use Rattle.contents.proofs.inner.axes_at.Reads as axes-at-reads
-use Rattle.grid.proofs.inner.voxel_count.Reads as voxel-count-reads
-use Rattle.volume.proofs.count_ones.Reads as count-ones-reads
-use Rattle.volume.proofs.count_zeros.Reads as count-zeros-reads
-use Rattle.volume_file.proofs.inner.offset_at.Reads as offset-at-reads
 
--- src/lib.rt:176:9
 axes-at-requires : tie.Need-axes-at-requires
 axes-at-requires c κs = search needs
 
--- src/lib.rt:177:9
 voxel-count-requires : tie.Need-voxel-count-requires
-voxel-count-requires c κs = ?
+voxel-count-requires c κs = rw (c .axes-at .ensures) (accepted-axes (c .before .before .args .bytes .now) (c .before .before .pre))
 
--- src/lib.rt:178:36
 offset-at-requires : tie.Need-offset-at-requires
 offset-at-requires c κs = search needs
 
--- src/lib.rt:178:9
 count-zeros-requires : tie.Need-count-zeros-requires
-count-zeros-requires c κs = ?
+count-zeros-requires c κs = room-light (c .before .before .before .before .args .bytes .now) (c .before .before .before .before .pre) (c .before .before .axes-at .result) (c .before .voxel-count .result) (c .before .before .axes-at .ensures) (c .before .voxel-count .ensures) _ (c .offset-at .ensures)
 
--- src/lib.rt:179:36
 offset-at-requires-2 : tie.Need-offset-at-requires-2
 offset-at-requires-2 c κs = search needs
 
--- src/lib.rt:179:9
 count-ones-requires : tie.Need-count-ones-requires
-count-ones-requires c κs = ?
+count-ones-requires c κs = room-active (c .before .before .before .before .before .before .args .bytes .now) (c .before .before .before .before .before .before .pre) (c .before .before .before .before .axes-at .result) (c .before .before .before .voxel-count .result) (c .before .before .before .before .axes-at .ensures) (c .before .before .before .voxel-count .ensures) _ (c .offset-at2 .ensures)
 
--- src/lib.rt:180:38
 offset-at-requires-3 : tie.Need-offset-at-requires-3
 offset-at-requires-3 c κs = search needs
 
--- src/lib.rt:180:9
 count-ones-requires-2 : tie.Need-count-ones-requires-2
-count-ones-requires-2 c κs = ?
+count-ones-requires-2 c κs = room-occupied (c .before .before .before .before .before .before .before .before .args .bytes .now) (c .before .before .before .before .before .before .before .before .pre) (c .before .before .before .before .before .before .axes-at .result) (c .before .before .before .before .before .voxel-count .result) (c .before .before .before .before .before .before .axes-at .ensures) (c .before .before .before .before .before .voxel-count .ensures) _ (c .offset-at3 .ensures)
 
--- src/lib.rt:172:1
 returns : tie.Need-returns
-returns c = ?
+returns c = figures-whole (c .before .before .before .before .before .before .before .before .before .args .bytes .now) (c .before .before .before .before .before .before .before .before .before .pre) (c .before .before .before .before .before .before .before .axes-at .result) (c .before .before .before .before .before .before .voxel-count .result) (c .before .before .before .before .before .before .before .axes-at .ensures) (c .before .before .before .before .before .before .voxel-count .ensures) _ _ _ _ _ _ (c .before .before .before .before .before .offset-at .ensures) (c .before .before .before .offset-at2 .ensures) (c .before .offset-at3 .ensures) (c .before .before .before .before .count-zeros .ensures) (c .before .before .count-ones .ensures) (c .count-ones2 .ensures)
 
 pub figures-of-spec : {M : Type 1} → statement M
 figures-of-spec =

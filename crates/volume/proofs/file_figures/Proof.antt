@@ -1,39 +1,30 @@
+-- Length first, then the judge; then the file is accepted.
+use borrow.Author.Tests.{lt-ltb, le-ltb}
+use Rattle.volume.proofs.Calls.{accepted, figures-14, figures-12, figures-0}
 use borrow.Author.Needs.{needs}
 use Rattle.volume.proofs.file_figures.Statement.{statement}
 use Rattle.volume.proofs.file_figures.Tie as tie
-use Rattle.volume.proofs.file_figures.Reads as reads
-use Rattle.volume.proofs.file_figures.Lts as lts
-use Rattle.volume.proofs.figures_of.Reads as figures-of-reads
-use Rattle.volume.proofs.no_figures.Reads as no-figures-reads
-use Rattle.volume_file.proofs.inner.is_faulty.Reads as is-faulty-reads
 
--- src/lib.rt:133:9
 no-figures-requires : tie.Need-no-figures-requires
 no-figures-requires c κs = search needs
 
--- src/lib.rt:133:9
 returns : tie.Need-returns
-returns c = ?
+returns c = figures-14 (c .before .before .before .args .bytes .now) _ (lt-ltb _ _ (c .before .if1 .taken)) (c .no-figures .ensures)
 
--- src/lib.rt:135:8
 is-faulty-requires : tie.Need-is-faulty-requires
 is-faulty-requires c κs = search needs
 
--- src/lib.rt:136:9
 no-figures-requires-2 : tie.Need-no-figures-requires-2
 no-figures-requires-2 c κs = search needs
 
--- src/lib.rt:136:9
 returns-2 : tie.Need-returns-2
-returns-2 c = ?
+returns-2 c = figures-12 (c .before .before .before .before .before .args .bytes .now) _ _ (le-ltb _ _ (c .before .before .before .if1 .left)) (c .before .before .is-faulty .ensures) (c .before .if2 .taken) (c .no-figures2 .ensures)
 
--- src/lib.rt:138:5
 figures-of-requires : tie.Need-figures-of-requires
-figures-of-requires c κs = ?
+figures-of-requires c κs = accepted (c .before .before .before .before .args .bytes .now) _ (c .before .is-faulty .ensures) (c .if2 .left)
 
--- src/lib.rt:129:1
 returns-3 : tie.Need-returns-3
-returns-3 c = ?
+returns-3 c = figures-0 (c .before .before .before .before .before .args .bytes .now) _ _ (le-ltb _ _ (c .before .before .before .if1 .left)) (c .before .before .is-faulty .ensures) (c .before .if2 .left) (c .figures-of .ensures)
 
 pub file-figures-spec : {M : Type 1} → statement M
 file-figures-spec =
