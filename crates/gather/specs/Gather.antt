@@ -4,7 +4,7 @@
 use mathlib.Core.Path.{_≡_}
 use mathlib.Core.List.{List, [], _∷_}
 use Prim.Native.Nat.{ℕ, _+_, _*_, _<_, _≤_}
-use lib.ListN.{length, getD}
+use lib.ListN.{length, getD, set}
 use lib.Ieee as Ieee
 use lib.Ieee.{Float, nan, binary32}
 use Rattle.names.specs.Bits.{lit, zero32}
@@ -29,6 +29,7 @@ use Rattle.harmonics.specs.declared.Coefficients.{Coefficients}
 use Rattle.harmonics.specs.Harmonics.{coefficients, zeroV, addedTo, irradianceOf, raisedOf, flooredOf}
 use Rattle.bounce.specs.Rays.{biasesOf, rayFrom}
 use Rattle.surface.specs.declared.Setting.{Setting}
+use Rattle.surface.specs.declared.Traced.{Traced}
 use Rattle.surface.specs.Surface.{surfaceOf, bouncedBy}
 use Rattle.gather.specs.declared.Incoming.{Incoming}
 use Rattle.gather.specs.declared.Gathering.{Gathering}
@@ -84,12 +85,15 @@ directionAt k = vecAt directions (k * 3)
 unfoldable pub primaryRay : Setting → Vec3 → Vec3 → Ray
 primaryRay setting centre direction = rayFrom centre direction (setting .biases .primary) (setting .biases .shortest)
 
+-- what the surface at a place sends back along a ray that met it at a distance
+abbrev pub sentBack : Scene → Setting → Ray → ℕ → Float → Traced
+sentBack scene setting ray place distance = bouncedBy scene setting (surfaceOf scene ray place distance (setting .biases .hit))
+
 -- what comes back along a ray: from the sky where nothing is met, else from the surface
 unfoldable pub incomingBy : Scene → Setting → Ray → Vec3 → Nearest → Incoming
 incomingBy scene setting ray sky Nothing = incoming sky 1 1
 incomingBy scene setting ray sky (At place distance u v) =
-    let b = bouncedBy scene setting (surfaceOf scene ray place distance (setting .biases .hit)) in
-    incoming (b .light) 0 (b .rays + 1)
+    incoming (sentBack scene setting ray place distance .light) 0 (sentBack scene setting ray place distance .rays + 1)
 
 abbrev pub incomingOf : Scene → Setting → Ray → Vec3 → Incoming
 incomingOf scene setting ray sky = incomingBy scene setting ray sky (nearestOf scene ray)
@@ -131,6 +135,10 @@ costOf g i = voxelOf g i .rays
 -- irradiance, raised to 0, and no darker than the floor
 unfoldable pub finishedOf : Coefficients → Coefficients → Coefficients
 finishedOf sums ambient = flooredOf (raisedOf (irradianceOf sums)) ambient
+
+-- a list with a colour and a fourth number from a place on
+unfoldable pub withFour : List Float → ℕ → Vec3 → Float → List Float
+withFour l at v w = set (set (set (set l at (v .x)) (at + 1) (v .y)) (at + 2) (v .z)) (at + 3) w
 
 -- coefficient after coefficient, x, y, z and a fourth place: light, the part of the sky that is seen, 0, 0
 unfoldable pub sixteenOf : Coefficients → Float → Float → List Float

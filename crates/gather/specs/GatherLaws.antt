@@ -48,6 +48,13 @@ incoming-costs scene setting ray sky (At place t u v) =
     let h = extra-most scene setting (surfaceOf scene ray place t (setting .biases .hit)) in
     record { least = omega arith; most = omega arith; missed = omega arith }
 
+pub along-adds : (scene : Scene) (setting : Setting) (centre : Vec3) (sky : List Float) (k : ℕ) (s : Gathering)
+    → (gatheredAlong scene setting centre sky k s .rays ≤ s .rays + 6) × (gatheredAlong scene setting centre sky k s .misses ≤ s .misses + 1)
+unfolding gatheredAlong
+along-adds scene setting centre sky k s =
+    let h = incoming-costs scene setting (primaryRay setting centre (directionAt k)) (vecAt sky (k * 3)) (nearestOf scene (primaryRay setting centre (directionAt k))) in
+    (omega (arith, h .most), omega (arith, h .missed))
+
 -- ---- the rays of a voxel
 
 module _ (scene : Scene) (setting : Setting) (centre : Vec3) (sky : List Float) (first : ℕ) where

@@ -1,0 +1,22 @@
+-- `gather::inner::from_surface` meets its contract: the code is the definition, call for call and operation for operation.
+use borrow.Author.Needs.{needs}
+use Rattle.gather.proofs.inner.from_surface.Statement.{statement}
+use Rattle.gather.proofs.inner.from_surface.Tie as tie
+
+surface-at-requires : tie.Need-surface-at-requires
+surface-at-requires c κs = search needs
+
+bounce-light-requires : tie.Need-bounce-light-requires
+bounce-light-requires c κs = search needs
+
+same-length : tie.Need-same-length
+same-length c = search needs
+
+same-length-2 : tie.Need-same-length-2
+same-length-2 c = search needs
+
+returns : tie.Need-returns
+returns c = rw (← c .before .before .before .before .before .before .before .surface-at .ensures, ← c .before .before .before .before .bounce-light .ensures)
+
+pub from-surface-spec : {M : Type 1} → statement M
+from-surface-spec = tie.close (tie.spec surface-at-requires bounce-light-requires same-length same-length-2 returns)
