@@ -1,0 +1,157 @@
+-- Document 01's figures marked P, in one statement over a list: each applies the definitions that the public contracts cite to the figure's
+-- input, refusal included, and the answer is compared bit for bit. Assumes nothing.
+use mathlib.Core.Path.{_≡_, refl}
+use mathlib.Core.List.{List, [], _∷_, map, _++_}
+use Prim.Native.Nat.{ℕ, zero, suc}
+use lib.ListN.{replicate}
+use lib.Ieee as Ieee
+use lib.Ieee.{Float, binary32, toBits}
+use Rattle.names.specs.Bits.{lit, zero32, half32, one32, inf32}
+use Rattle.names.specs.Refusals.{firstOf, unlessRefused}
+use Rattle.names.specs.Scene.{Scene, sceneOf}
+use Rattle.lists.specs.Fold.{fold, tab}
+use Rattle.lists.specs.Any.{any}
+use Rattle.floats.specs.Choice.{magnitudeOf, largerOf, smallerOf}
+use Rattle.floats.specs.Whole.{toward}
+use Rattle.floats.specs.Root.{rootOf}
+use Rattle.vectors.specs.Vectors.{vec, addV, subV, scaleV, dotV, crossV, lengthV}
+use Rattle.vectors.specs.declared.Vec3.{Vec3}
+use Rattle.vectors.specs.declared.Ray.{Ray}
+use Rattle.vectors.specs.declared.Triangle.{Triangle}
+use Rattle.grid.specs.declared.Axes.{Axes}
+use Rattle.grid.specs.declared.Corners.{Corners}
+use Rattle.grid.specs.Grid.{edgesOf}
+use Rattle.limits.specs.Limits.{within, upTo, outsideV, badAxes, badCorners, badEdges, wrongShare, wrongScene, tooMany, badPoints, badTriangle, badKinds, badFrom, badUses, badMaterials, badRay, badLights}
+use Rattle.limits.specs.Some.{some}
+use Rattle.triangle.specs.Meet.{absentOf, solvedOf, judgedOf, meetOf}
+use Rattle.triangle.specs.Places.{triangleAt}
+use Rattle.scan.specs.Hits.{before, insertOf, withMeet, hitsOf}
+use Rattle.scan.specs.Transmittance.{passOf, transmittanceOf}
+use Rattle.rays.specs.Rays.{meetRefusal, testValues, meetValues, wrongScratch, transmittanceRefusal}
+use Rattle.means.specs.Box.{lightBlurOf, squareAt, meanAt, meanIn, around, along}
+use Rattle.blurs.specs.Blurs.{wrongLists, lightBlurRefusal}
+use Rattle.samples.specs.Samples.{smallestEdgeOf, targetOf, countOf, sampleCount, sideFrom, sideOf, shareOf, pointOf, cellOn, indexWithin, sampleCell}
+use Rattle.occupy.specs.Occupied.{sampledIn, touches, occupiedIn, occupiedEntry, occupiedOf}
+use Rattle.dilate.specs.Active.{activeIn, activeEntry, activeOf}
+use Rattle.marks.specs.Marks.{activeCount}
+use Rattle.masks.specs.Masks.{wrongMasks, masksRefusal, activeMaskOf, markedOf}
+use Rattle.lookup.specs.Place.{clamped, betweenOf, cellsFrom, cellsOf, blendOf, blendedOf}
+use Rattle.lookup.specs.Lookup.{badLightCells, lightAtOf}
+
+-- the bits of floats
+abbrev pub bits : List Float → List ℕ
+bits l = map (toBits binary32) l
+
+abbrev pub quarter32 : Float
+quarter32 = lit 0x3e800000
+
+-- ---- rays: "Triangle Q is (0,0,0),(1,0,0),(0,1,0); direction (0,0,−1)."
+
+unfoldable pub triangleQ : Triangle
+triangleQ = record { p0 = vec zero32 zero32 zero32; p1 = vec one32 zero32 zero32; p2 = vec zero32 one32 zero32 }
+
+unfoldable pub pointsQ : List Float
+pointsQ = zero32 ∷ zero32 ∷ zero32 ∷ one32 ∷ zero32 ∷ zero32 ∷ zero32 ∷ one32 ∷ zero32 ∷ []
+
+unfoldable pub downFrom : Float → Float → Float → Ray
+downFrom a b c = record { origin = vec a b c; direction = vec zero32 zero32 (lit 0xbf800000); shortest = zero32; longest = inf32 }
+
+-- refusal, hit or not, place, distance, u, v
+unfoldable pub met : Ray → List ℕ
+met ray = let a = meetValues ray triangleQ in a .number ∷ a .hit ∷ a .place ∷ bits (a .t ∷ a .u ∷ a .v ∷ [])
+
+-- so many sheets of Q, each of the second of two materials, which is translucent at 0.5; the first is opaque
+unfoldable pub stacked : ℕ → List Float
+stacked zero = []
+stacked (suc n) = pointsQ ++ stacked n
+
+unfoldable pub sheets : ℕ → Scene
+sheets n =
+    sceneOf (stacked n) (replicate n 1) (0 ∷ 1 ∷ [])
+    (one32 ∷ one32 ∷ one32 ∷ zero32 ∷ zero32 ∷ zero32 ∷ zero32 ∷ one32 ∷ one32 ∷ one32 ∷ zero32 ∷ zero32 ∷ zero32 ∷ half32 ∷ [])
+
+-- refusal and transmittance
+unfoldable pub passing : ℕ → List ℕ
+passing n =
+    let ray = downFrom quarter32 quarter32 one32 in
+    let r = transmittanceRefusal (sheets n) ray (replicate n zero32) (replicate n 0) in
+    r ∷ bits (unlessRefused r (transmittanceOf (sheets n) ray) zero32 ∷ [])
+
+-- ---- masks
+
+abbrev pub axesOf : ℕ → ℕ → ℕ → Axes
+axesOf w h d = record { width = w; height = h; depth = d }
+
+-- from 0 to these
+unfoldable pub upToCorner : Float → Float → Float → Corners
+upToCorner a b c = record { min = vec zero32 zero32 zero32; max = vec a b c }
+
+-- how many samples triangle Q has over edge 1, how many a side, and where the first lies
+unfoldable pub sampled : List ℕ
+sampled =
+    let n = sideOf (sampleCount triangleQ one32) in
+    let u = shareOf 0 n in
+    let p = pointOf triangleQ u u (Ieee.sub binary32 (Ieee.sub binary32 one32 u) u) in
+    sampleCount triangleQ one32 ∷ n ∷ bits (p .x ∷ p .y ∷ p .z ∷ [])
+
+-- refusal, both counts, occupied and active after the call, on a grid of 6×1×1 voxels of edge 1 with Q in the first
+unfoldable pub masked : List ℕ
+masked =
+    let axes = axesOf 6 1 1 in
+    let corners = upToCorner (lit 0x40c00000) one32 one32 in
+    let held : List ℕ = replicate 6 9 in
+    let r = masksRefusal axes corners pointsQ held held in
+    let a = markedOf r axes corners pointsQ in
+    a .refusal ∷ a .occupied ∷ a .active
+    ∷ (unlessRefused r (occupiedOf axes corners pointsQ) held ++ unlessRefused r (activeMaskOf axes corners pointsQ) held)
+
+-- ---- light blur: refusal, then the light after the call
+
+unfoldable pub blurred : Axes → List Float → List Float → List ℕ
+blurred axes light scratch =
+    let r = lightBlurRefusal axes light scratch in
+    r ∷ bits (unlessRefused r (lightBlurOf light (axes .width) (axes .height) (axes .depth)) light)
+
+-- ---- lookup: "2×1×1, x from 0 to 2, other axes 0 to 1, y=z=0, light 0, 1": refusal and light
+
+unfoldable pub looked : Float → List ℕ
+looked x =
+    let a = lightAtOf (axesOf 2 1 1) (upToCorner (lit 0x40000000) one32 one32) (zero32 ∷ one32 ∷ []) (vec x zero32 zero32) in
+    a .refusal ∷ bits (a .light ∷ [])
+
+unfoldable pub answers : List (List ℕ)
+answers =
+    met (downFrom quarter32 quarter32 one32)
+    ∷ met (downFrom half32 half32 one32)
+    ∷ met (downFrom half32 (lit 0x3f400000) one32)
+    ∷ met (downFrom quarter32 quarter32 (lit 0xbf800000))
+    ∷ passing 0
+    ∷ passing 13
+    ∷ passing 14
+    ∷ sampled
+    ∷ masked
+    ∷ blurred (axesOf 1 1 1) (half32 ∷ []) (zero32 ∷ [])
+    ∷ blurred (axesOf 2 1 1) (one32 ∷ zero32 ∷ []) (zero32 ∷ zero32 ∷ [])
+    ∷ looked (lit 0xbe800000)
+    ∷ looked half32
+    ∷ looked (lit 0x3fe00000)
+    ∷ []
+
+pub figures : answers
+    ≡ (0 ∷ 1 ∷ 0 ∷ 0x3f800000 ∷ 0x3e800000 ∷ 0x3e800000 ∷ [])
+    ∷ (0 ∷ 1 ∷ 0 ∷ 0x3f800000 ∷ 0x3f000000 ∷ 0x3f000000 ∷ [])
+    ∷ (0 ∷ 0 ∷ 0 ∷ 0 ∷ 0 ∷ 0 ∷ [])
+    ∷ (0 ∷ 0 ∷ 0 ∷ 0 ∷ 0 ∷ 0 ∷ [])
+    ∷ (0 ∷ 0x3f800000 ∷ [])
+    ∷ (0 ∷ 0x39000000 ∷ [])
+    ∷ (0 ∷ 0 ∷ [])
+    ∷ (1 ∷ 1 ∷ 0x3f000000 ∷ 0x3f000000 ∷ 0 ∷ [])
+    ∷ (0 ∷ 1 ∷ 3 ∷ 1 ∷ 0 ∷ 0 ∷ 0 ∷ 0 ∷ 0 ∷ 1 ∷ 1 ∷ 1 ∷ 0 ∷ 0 ∷ 0 ∷ [])
+    ∷ (0 ∷ 0x3e800000 ∷ [])
+    ∷ (0 ∷ 0x3e800000 ∷ 0x3e800000 ∷ [])
+    ∷ (0 ∷ 0x3f400000 ∷ [])
+    ∷ (0 ∷ 0x3f000000 ∷ [])
+    ∷ (0 ∷ 0x3f800000 ∷ [])
+    ∷ []
+unfolding answers met passing sampled masked blurred looked triangleQ pointsQ downFrom stacked sheets upToCorner firstOf unlessRefused fold tab any magnitudeOf largerOf smallerOf toward rootOf addV subV scaleV dotV crossV lengthV edgesOf within upTo outsideV badAxes badCorners badEdges wrongShare wrongScene tooMany badPoints badTriangle badKinds badFrom badUses badMaterials badRay badLights some absentOf solvedOf judgedOf meetOf triangleAt before insertOf withMeet hitsOf passOf transmittanceOf meetRefusal testValues meetValues wrongScratch transmittanceRefusal lightBlurOf squareAt meanAt meanIn around along wrongLists lightBlurRefusal smallestEdgeOf targetOf countOf sideFrom sideOf shareOf pointOf cellOn indexWithin Rattle.samples.specs.Samples.cellOf sampleCell sampledIn touches occupiedIn occupiedEntry occupiedOf activeIn activeEntry activeOf activeCount wrongMasks masksRefusal clamped Rattle.lookup.specs.Place.cellOf betweenOf cellsFrom cellsOf blendOf blendedOf badLightCells lightAtOf Ieee.ofBits Ieee.ofFields Ieee.odd Ieee.toBits Ieee.neg Ieee.le Ieee.lt Ieee.eq Ieee.isNan Ieee.add Ieee.sub Ieee.mul Ieee.div Ieee.ofInt Ieee.toUnsigned Ieee.round Ieee.sum Ieee.units Ieee.size Ieee.span Ieee.climb
+figures = refl

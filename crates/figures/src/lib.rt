@@ -1,0 +1,1 @@
+// Definitions only: specs/ has document 01's proved figures.
