@@ -25,11 +25,11 @@ ambientVoxel a light =
     ∷ []
 
 -- of voxel i, by the list of lights
-abbrev pub ambientOf : Ambient → List Float → ℕ → List Float
-ambientOf a lights i = ambientVoxel a (getD lights i nan)
+abbrev pub ambientAt : Ambient → List Float → ℕ → List Float
+ambientAt a lights i = ambientVoxel a (getD lights i nan)
 
 unfoldable pub filledOf : Ambient → List Float → List Float
-filledOf a lights = laid (ambientOf a lights) (length lights) 0
+filledOf a lights = laid (ambientAt a lights) (length lights) 0
 
 -- "if any voxel is active", of the whole mask
 abbrev pub anyActive : List ℕ → Bool

@@ -1,4 +1,4 @@
--- A good input: a grid of 3×1×1 voxels, all active, no triangles. It is accepted at an allowance of 384 rays, and refused 10 at 383.
+-- A good input: a grid of 3×1×1 voxels, all active, no triangles, a black sky. It is accepted at an allowance of 384 rays, and refused 10 at 383.
 use mathlib.Core.Path.{_≡_, refl}
 use mathlib.Core.List.{List, [], _∷_}
 use Prim.Native.Nat.{ℕ}
@@ -27,7 +27,7 @@ three =
       c2 = vec zero32 zero32 zero32;
       c3 = vec zero32 zero32 zero32;
     })
-    (replicate 1728 one32)
+    (replicate 1728 zero32)
     (1 ∷ 1 ∷ 1 ∷ [])
     (one32 ∷ one32 ∷ one32 ∷ [])
     0

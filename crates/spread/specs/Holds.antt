@@ -7,11 +7,11 @@ use Prim.Native.Nat.{ℕ, zero, suc, _+_, _-_, _*_, _/_, _≤_, _<_}
 use native.Mathlib.Omega.{arith}
 use native.Mathlib.Nat.{zero-add, suc-mul, zero-mul, le-div-iff-mul-le, lt-div-mul-add, mul-le-mul-right, eq-or-lt-of-le}
 use lib.Dec.{eqb}
-use lib.ListN.{length}
+use lib.ListN.{length, replicate}
 use borrow.Author.Tests.{eq-eqb, ne-eqb, eqb-true}
-use Rattle.spread.specs.Spread.{Stage, stage, Bake, Called, Walked, voxelOf, started, walk, someActive, blurred, ended, baked, accepted, call, unblurred, unbroken, actives, costs, standing, stands, run, sum, EachAtLeast, NoneRefused}
+use Rattle.spread.specs.Spread.{Stage, stage, Bake, Called, Walked, partOf, started, walk, someActive, blurred, ended, baked, accepted, call, unblurred, unbroken, actives, costs, standing, stands, run, sum, EachAtLeast, NoneRefused}
 use Rattle.spread.specs.Walks.{walks, walk-from, walk-to, walk-goes, walk-costs, walk-rays, walk-passed, actives-split, costs-least, costs-most}
-use Rattle.spread.specs.Contents.{length-standing, walk-stands, stands-filled, stands-unblurred, voxel-of-laid}
+use Rattle.spread.specs.Contents.{length-standing, walk-stands, stands-filled, stands-unblurred, part-of-laid}
 use Rattle.spread.specs.Demand.{Fair, Lasts, roundedUp, allActive, finished, Demand}
 
 module _ {A : Type 0} (b : Bake A) (fair : Fair b) where
@@ -198,14 +198,14 @@ module _ {A : Type 0} (b : Bake A) (fair : Fair b) where
   whole-run l s e f = ⊎-elim (λ h. absurd (omega (arith, h .before))) (λ h. h) (along-run l (s .scratch) s (begins s e))
 
   before-end : (l : List ℕ) (s : Stage A) → s .progress ≡ 0 → 0 < run b l s .stage .progress → run b l s .stage .progress < b .count
-      → ((i : ℕ) → i < b .count → voxelOf (b .size) i (run b l s .stage .volume) ≡ standing b (run b l s .stage .progress) i)
+      → ((i : ℕ) → i < b .count → partOf (b .size) i (run b l s .stage .volume) ≡ standing b (run b l s .stage .progress) i)
       × (run b l s .stage .volume ≡ stands b (run b l s .stage .progress)) × (run b l s .stage .scratch ≡ s .scratch)
   before-end l s e p f =
       ⊎-elim
       (λ h.
       let t = run b l s .stage in
       let v : t .volume ≡ stands b (t .progress) = rw (ne-eqb (t .progress) 0 (λ z. omega arith)) at (h .volume) in (
-        (λ i k. rw v (voxel-of-laid (b .size) (standing b (t .progress)) (length-standing b (fair .sized) (t .progress)) i (b .count) k)),
+        (λ i k. rw v (part-of-laid (b .size) (standing b (t .progress)) (length-standing b (fair .sized) (t .progress)) i (b .count) k)),
         v,
         h .scratch,
       ))
@@ -283,12 +283,12 @@ module _ {A : Type 0} (b : Bake A) (fair : Fair b) where
       }
 
   -- "no call refused" holds of any run whose first call is accepted, where what a call leaves is what the next accepts
-  pub none-refused : Lasts b → (l : List ℕ) (s : Stage A) → EachAtLeast (b .most) l → ((a : ℕ) → b .most ≤ a → b .refusal s a ≡ 0)
+  pub no-call-refused : Lasts b → (l : List ℕ) (s : Stage A) → EachAtLeast (b .most) l → ((a : ℕ) → b .most ≤ a → b .refusal s a ≡ 0)
       → NoneRefused (run b l s .refusals)
   unfolding run
-  none-refused lasts [] s h e = tt
-  none-refused lasts (a ∷ l) s h e =
-      (answers-none (e a (h .0)), none-refused lasts l (call b a s .stage) (h .1) (λ c g. lasts s a c (e a (h .0)) g))
+  no-call-refused lasts [] s h e = tt
+  no-call-refused lasts (a ∷ l) s h e =
+      (answers-none (e a (h .0)), no-call-refused lasts l (call b a s .stage) (h .1) (λ c g. lasts s a c (e a (h .0)) g))
     where
       answers-none : b .refusal s a ≡ 0 → call b a s .refusal ≡ 0
       answers-none z = go (call b a s) (calls a s)
@@ -297,3 +297,9 @@ module _ {A : Type 0} (b : Bake A) (fair : Fair b) where
           go c (refused f n) = absurd (n (sym f ∙ z))
           go c (idle f g) = refl
           go c (walks-on f g k) = refl
+
+  -- and then each answers 0
+  pub refusals-zero : (l : List ℕ) (s : Stage A) → NoneRefused (run b l s .refusals) → run b l s .refusals ≡ replicate (length l) 0
+  unfolding run
+  refusals-zero [] s h = refl
+  refusals-zero (a ∷ l) s h = ap₂ (λ (r : ℕ) (rs : List ℕ). r ∷ rs) (h .0) (refusals-zero l (call b a s .stage) (h .1))

@@ -4,3 +4,4 @@ pub mod Walks
 pub mod Contents
 pub mod Demand
 pub mod Holds
+pub mod Bare

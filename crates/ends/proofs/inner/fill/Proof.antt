@@ -9,13 +9,13 @@ use lib.Seq.{take-all}
 use lib.Ieee.{Float}
 use Rattle.spread.specs.Spread.{laid}
 use Rattle.spread.specs.Contents.{laid-next}
-use Rattle.ends.specs.Ends.{ambientVoxel, ambientOf, filledOf}
+use Rattle.ends.specs.Ends.{ambientVoxel, ambientAt, filledOf}
 use Rattle.ends.proofs.inner.fill.Statement.{statement}
 use Rattle.ends.proofs.inner.fill.Tie as tie
 
 abbrev Inv-loop : tie.InvT-loop
 Inv-loop ambient lights volume₀ i₀ volume i =
-    (i ≤ length lights) × (length volume ≡ length lights * 16) × (take (i * 16) volume ≡ laid (ambientOf ambient lights) i 0)
+    (i ≤ length lights) × (length volume ≡ length lights * 16) × (take (i * 16) volume ≡ laid (ambientAt ambient lights) i 0)
 
 abbrev μ-loop : tie.MeasureT-loop
 μ-loop ambient lights volume₀ i₀ volume i = length lights - i
@@ -51,8 +51,8 @@ loop-again c =
       omega arith,
       rw e
           (c .before .before .fill-voxel .ensures
-          ∙ ap (λ (x : List Float). x ++ ambientOf (a .ambient) (a .lights .now) (l .i)) (l .inv .2)
-          ∙ sym (laid-next (ambientOf (a .ambient) (a .lights .now)) (l .i))),
+          ∙ ap (λ (x : List Float). x ++ ambientAt (a .ambient) (a .lights .now) (l .i)) (l .inv .2)
+          ∙ sym (laid-next (ambientAt (a .ambient) (a .lights .now)) (l .i))),
     )
 
 same-length : tie.Need-same-length Inv-loop μ-loop
@@ -64,7 +64,7 @@ returns c =
     let l = c .before .loop in
     let a = c .before .before .before .before .args in
     let e : l .i ≡ length (a .lights .now) = omega arith in
-    sym (take-all (l .i * 16) (l .volume) (omega arith)) ∙ l .inv .2 ∙ ap (λ (n : ℕ). laid (ambientOf (a .ambient) (a .lights .now)) n 0) e
+    sym (take-all (l .i * 16) (l .volume) (omega arith)) ∙ l .inv .2 ∙ ap (λ (n : ℕ). laid (ambientAt (a .ambient) (a .lights .now)) n 0) e
 
 pub fill-spec : {M : Type 1} → statement M
 fill-spec =

@@ -1,0 +1,121 @@
+-- Document 01's figure: 3×1×1 all active, no triangles: allowance 384 takes three calls of 64 rays; 448 takes two, 128 then 64; 383 is refused 10.
+-- What the rays come to follows from the costs alone, so the figure is read off the bare bake of three voxels of 64 rays each.
+use mathlib.Core.Path.{_≡_, refl, ap, _∙_}
+use mathlib.Core.Bool.{true, false}
+use mathlib.Core.List.{List, [], _∷_}
+use Prim.Native.Nat.{ℕ, zero, suc, _≤_, _<_}
+use native.Mathlib.Omega.{arith}
+use lib.Dec.{lit≤}
+use lib.Ieee as Ieee
+use lib.Ieee.{Float, ofBits, ofInt}
+use Rattle.spread.specs.Spread.{stage, Bake, Called, walk, call, run, EachAtLeast, NoneRefused}
+use Rattle.lists.specs.Any.{any}
+use Rattle.spread.specs.Bare.{bare, Agree, run-same}
+use Rattle.limits.specs.Some.{some}
+use Rattle.limits.specs.Limits.{within, badCoefficients}
+use Rattle.lists.specs.Fold.{fold}
+use Rattle.vectors.specs.Vectors.{addV, mulV, scaleV, dotV, largerV, clampOf, lerpV}
+use Rattle.floats.specs.Choice.{largerOf, smallerOf}
+use Rattle.scan.specs.Nearest.{nearestOf, nearestTo}
+use Rattle.harmonics.specs.Harmonics.{addedTo, irradianceOf, raisedOf, raisedV, flooredOf, luminanceOf, shortfallOf, blendedOf, blendedV}
+use Rattle.gather.specs.Gather.{settingOf, incomingBy, gatheredAlong, gatheringOf, voxelOf, finishedOf, sixteenOf, gatheredOf}
+use Rattle.gather.specs.GatherLaws.{cost-of-nothing}
+use Rattle.marks.specs.Marks.{isActive}
+use Rattle.spread.specs.Demand.{Fair}
+use Rattle.spread.specs.Holds.{no-call-refused, refusals-zero}
+use Rattle.intake.specs.Intake.{badVolume, bakeRefusal}
+use Rattle.intake.specs.IntakeLaws.{fits, none-refused, still-passed}
+use Rattle.intake.specs.Three.{three, begun, three-accepted}
+use Rattle.demand.specs.Bake.{gatherInput, bakeOf}
+use Rattle.demand.specs.Calls.{refused-call}
+use Rattle.demand.specs.Demanded.{bake-fair}
+use Rattle.demand.specs.Lasting.{GathersWithin, bake-lasts}
+
+-- ---- no call is refused
+
+gathers-within : GathersWithin three
+unfolding badCoefficients some within gatheredOf voxelOf gatheringOf fold gatheredAlong incomingBy nearestOf nearestTo settingOf finishedOf sixteenOf addedTo irradianceOf raisedOf raisedV flooredOf luminanceOf shortfallOf blendedOf blendedV largerOf smallerOf scaleV addV mulV lerpV dotV largerV clampOf ofBits ofInt Ieee.add Ieee.sub Ieee.mul Ieee.div Ieee.neg Ieee.le Ieee.lt Ieee.eq Ieee.isNan
+gathers-within zero h = refl
+gathers-within (suc zero) h = refl
+gathers-within (suc (suc zero)) h = refl
+gathers-within (suc (suc (suc i))) h = absurd (omega arith)
+
+-- begun, it is accepted at every allowance from 384 on
+begins : (a : ℕ) → 384 ≤ a → bakeRefusal three begun a ≡ 0
+unfolding badVolume
+begins a h =
+    let p = none-refused three begun 384 .0 (three-accepted .0) in
+    none-refused three begun a .1 (still-passed three begun 384 begun a p refl refl (lit≤ tt) h refl)
+
+three-fair : Fair (bakeOf three)
+three-fair = bake-fair three (fits three begun 384 (none-refused three begun 384 .0 (three-accepted .0)) .axes)
+
+pub three-goes-on : (l : List ℕ) → EachAtLeast 384 l → NoneRefused (run (bakeOf three) l begun .refusals)
+three-goes-on l h = no-call-refused (bakeOf three) three-fair (bake-lasts three (λ s a p. gathers-within)) l begun h begins
+
+-- ---- the rays, by the costs alone
+
+abbrev threeBare : Bake Unit
+threeBare = bare 3 384 (λ i. true) (λ i. 64)
+
+agrees : Agree (bakeOf three) threeBare
+agrees =
+    record {
+      count = refl;
+      most = refl;
+      active = all-active;
+      cost = λ i h. cost-of-nothing (gatherInput three) i refl;
+    }
+  where
+    all-active : (i : ℕ) → i < 3 → isActive (three .active) i ≡ true
+    all-active zero h = refl
+    all-active (suc zero) h = refl
+    all-active (suc (suc zero)) h = refl
+    all-active (suc (suc (suc i))) h = absurd (omega arith)
+
+-- the answers of the bare bake
+bare-384 : (run threeBare (384 ∷ 384 ∷ 384 ∷ []) (stage 0 [] []) .rays ≡ 64 ∷ 64 ∷ 64 ∷ [])
+    × (run threeBare (384 ∷ 384 ∷ 384 ∷ []) (stage 0 [] []) .stage .progress ≡ 3)
+unfolding run call walk any
+bare-384 = (refl, refl)
+
+bare-448 : (run threeBare (448 ∷ 448 ∷ []) (stage 0 [] []) .rays ≡ 128 ∷ 64 ∷ [])
+    × (run threeBare (448 ∷ 448 ∷ []) (stage 0 [] []) .stage .progress ≡ 3)
+unfolding run call walk any
+bare-448 = (refl, refl)
+
+-- ---- the figure
+
+pub figure-384 : (run (bakeOf three) (384 ∷ 384 ∷ 384 ∷ []) begun .refusals ≡ 0 ∷ 0 ∷ 0 ∷ [])
+    × (run (bakeOf three) (384 ∷ 384 ∷ 384 ∷ []) begun .rays ≡ 64 ∷ 64 ∷ 64 ∷ [])
+    × (run (bakeOf three) (384 ∷ 384 ∷ 384 ∷ []) begun .stage .progress ≡ 3)
+unfolding run call walk any
+figure-384 =
+    let n = three-goes-on (384 ∷ 384 ∷ 384 ∷ []) (omega arith) in
+    let r = run-same (bakeOf three) threeBare agrees (384 ∷ 384 ∷ 384 ∷ []) begun (stage 0 [] []) refl (lit≤ tt) n bare-none in
+    (refusals-zero (bakeOf three) three-fair (384 ∷ 384 ∷ 384 ∷ []) begun n, r .1 ∙ bare-384 .0, r .0 ∙ bare-384 .1)
+  where
+    bare-none : NoneRefused (run threeBare (384 ∷ 384 ∷ 384 ∷ []) (stage 0 [] []) .refusals)
+    bare-none = (refl, (refl, (refl, tt)))
+
+pub figure-448 : (run (bakeOf three) (448 ∷ 448 ∷ []) begun .refusals ≡ 0 ∷ 0 ∷ [])
+    × (run (bakeOf three) (448 ∷ 448 ∷ []) begun .rays ≡ 128 ∷ 64 ∷ [])
+    × (run (bakeOf three) (448 ∷ 448 ∷ []) begun .stage .progress ≡ 3)
+unfolding run call walk any
+figure-448 =
+    let n = three-goes-on (448 ∷ 448 ∷ []) (omega arith) in
+    let r = run-same (bakeOf three) threeBare agrees (448 ∷ 448 ∷ []) begun (stage 0 [] []) refl (lit≤ tt) n bare-none in
+    (refusals-zero (bakeOf three) three-fair (448 ∷ 448 ∷ []) begun n, r .1 ∙ bare-448 .0, r .0 ∙ bare-448 .1)
+  where
+    bare-none : NoneRefused (run threeBare (448 ∷ 448 ∷ []) (stage 0 [] []) .refusals)
+    bare-none = (refl, (refl, tt))
+
+pub figure-383 : (run (bakeOf three) (383 ∷ []) begun .refusals ≡ 10 ∷ []) × (run (bakeOf three) (383 ∷ []) begun .rays ≡ 0 ∷ [])
+    × (run (bakeOf three) (383 ∷ []) begun .stage ≡ begun)
+unfolding run
+figure-383 =
+    let c = refused-call three begun 383 (λ z. omega (arith, three-accepted .1)) in (
+      ap (λ (x : Called Float). x .refusal ∷ []) c ∙ ap (λ (n : ℕ). n ∷ []) (three-accepted .1),
+      ap (λ (x : Called Float). x .rays ∷ []) c,
+      ap (λ (x : Called Float). x .stage) c,
+    )
