@@ -1,14 +1,13 @@
 -- An answer from its parts: on a refusal zeros, an empty part; where nothing is refused what was found.
 use mathlib.Core.Path.{_≡_, refl, sym, ap₂, _∙_}
-use mathlib.Core.Bool.{Bool, true, false, cond}
+use mathlib.Core.Bool.{Bool, cond}
 use mathlib.Core.List.{List, []}
 use Prim.Native.Nat.{ℕ, _+_, _*_, _-_}
-use native.Mathlib.Nat.{mul-one, add-zero}
 use native.Mathlib.Omega.{arith}
-use lib.ListN.{length, getD, take, drop}
+use lib.ListN.{getD, take, drop}
 use lib.Ieee.{Float, nan}
 use Rattle.names.specs.Bits.{zero32}
-use Rattle.names.specs.Refusals.{unlessRefused, kept, given}
+use Rattle.names.specs.Refusals.{kept, given}
 use Rattle.vectors.specs.declared.Vec3.{Vec3}
 use Rattle.grid.specs.declared.Axes.{Axes}
 use Rattle.grid.specs.declared.Corners.{Corners}

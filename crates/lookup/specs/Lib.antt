@@ -3,3 +3,5 @@ pub mod Place
 pub mod PlaceLaws
 pub mod Lookup
 pub mod LookupLaws
+pub mod BlendLaws
+pub mod LookupFigures

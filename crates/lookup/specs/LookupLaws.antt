@@ -1,23 +1,20 @@
 -- What the lookups' definitions mean: k is refused exactly when row k holds and none before it; what stands where nothing is refused;
 -- a part is empty exactly when its companion's number is not zero.
-use mathlib.Core.Path.{_≡_, refl, sym, ap, _∙_}
-use mathlib.Core.Bool.{Bool, true, false, cond}
+use mathlib.Core.Path.{_≡_, refl, sym, ap}
+use mathlib.Core.Bool.{Bool, true, false}
 use mathlib.Core.Logic.{_↔_}
 use mathlib.Core.List.{List, [], _∷_}
-use Prim.Native.Nat.{ℕ, _+_, _*_, _-_, _^_, _≤_, _<_}
-use native.Mathlib.Nat.{min-eq-left}
+use Prim.Native.Nat.{ℕ, _+_, _*_, _^_, _≤_, _<_}
 use native.Mathlib.Omega.{arith}
-use borrow.Author.Tests.{eqb-true, leb-false, not-false, ne-eqb, eqb-false}
-use lib.Dec.{eqb}
-use lib.ListN.{length, take, drop, length-take, length-drop}
+use borrow.Author.Tests.{eqb-true, leb-false, not-false}
+use lib.ListN.{length, length-take, length-drop}
 use lib.Ieee.{Float}
-use Rattle.names.specs.Refusals.{Row, row, firstOf, unlessRefused, FirstIs, NoneHolds, first-given, first-found, none-given, none-found, kept, given}
+use Rattle.names.specs.Refusals.{row, firstOf, FirstIs, NoneHolds, first-given, first-found, none-given, none-found, kept, given}
 use Rattle.vectors.specs.declared.Vec3.{Vec3}
 use Rattle.grid.specs.declared.Axes.{Axes}
 use Rattle.grid.specs.declared.Corners.{Corners}
 use Rattle.grid.specs.Grid.{voxels, AxesWithin}
 use Rattle.grid.specs.GridLaws.{voxels-most}
-use Rattle.limits.specs.Limits.{badAxes, pastGrid, wrongLength}
 use Rattle.limits.specs.LimitsLaws.{axes-row, either}
 use Rattle.lookup.specs.Lookup.{lightRows, lightRefusal, coefficientRows, coefficientRefusal, partRows, partRefusal, partOf, sixteen}
 

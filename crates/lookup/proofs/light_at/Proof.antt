@@ -1,5 +1,5 @@
 -- `lookup::light_at` meets its contract: the rows are tested in their order, and what passed them all is the blend between the eight cells.
-use mathlib.Core.Path.{_≡_, refl, sym, ap, _∙_}
+use mathlib.Core.Path.{_≡_, sym, ap, _∙_}
 use mathlib.Core.Bool.{false, not}
 use mathlib.Core.List.{List, _∷_}
 use Prim.Native.Nat.{ℕ}

@@ -1,7 +1,7 @@
 -- `lookup::voxel_refusal` meets its contract: the rows are tested in their order.
 use mathlib.Core.Path.{_≡_, sym, _∙_}
-use mathlib.Core.Bool.{true, false, _||_}
-use Prim.Native.Nat.{ℕ, _*_}
+use mathlib.Core.Bool.{false, _||_}
+use Prim.Native.Nat.{_*_}
 use native.Mathlib.Omega.{arith}
 use lib.ListN.{length}
 use denote.Ref.{now}

@@ -1,8 +1,7 @@
 -- `lookup::inner::bad_volume_cell` meets its contract: the part tested is the sixteen numbers of the cell.
-use mathlib.Core.Path.{_≡_, ap, _∙_}
-use Prim.Native.Nat.{ℕ, _+_, _*_, _-_}
+use mathlib.Core.Path.{_≡_}
+use Prim.Native.Nat.{_+_, _*_, _-_}
 use native.Mathlib.Omega.{arith}
-use Rattle.limits.specs.Limits.{badCoefficients}
 use borrow.Author.Needs.{needs}
 use Rattle.lookup.proofs.inner.bad_volume_cell.Statement.{statement}
 use Rattle.lookup.proofs.inner.bad_volume_cell.Tie as tie

@@ -1,5 +1,4 @@
 -- `lookup::inner::between` meets its contract: the code is the definition, and a clamped cell lies within its axis.
-use mathlib.Core.Path.{_≡_}
 use Prim.Native.Nat.{_<_}
 use native.Mathlib.Omega.{arith}
 use Rattle.lookup.specs.Place.{cellOf, betweenOf}
