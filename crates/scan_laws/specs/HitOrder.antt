@@ -1,9 +1,11 @@
 -- The hits that transmittance goes through stand in order: each comes before the next, by distance and then by place.
-use mathlib.Core.Path.{_≡_, refl, sym, _∙_}
+use mathlib.Core.Path.{_≡_, refl, sym, ap₂, _∙_}
 use mathlib.Core.Bool.{Bool, true, false, cond, _||_, _&&_, false≢true}
-use mathlib.Core.List.{List, [], _∷_, List·Memᴰ, List·Memᴰ·head, List·Memᴰ·tail}
+use mathlib.Core.Logic.{_⊎_, inl, inr, ⊎-elim}
+use mathlib.Core.List.{List, [], _∷_, List·Memᴰ, List·Memᴰ·head, List·Memᴰ·tail, List·Memᴰ·not-nil, List·Memᴰ·cases-cons}
 use Prim.Native.Nat.{ℕ, zero, suc, _<_}
-use borrow.Author.Tests.{lt-ltb}
+use native.Mathlib.Omega.{arith}
+use borrow.Author.Tests.{lt-ltb, le-ltb, ltb-true}
 use lib.Dec.{ltb}
 use lib.Ieee.{Float, lt, eq, isNan}
 use Rattle.vectors.specs.declared.Ray.{Ray}
@@ -12,8 +14,8 @@ use Rattle.triangle.specs.Places.{triangleAt}
 use Rattle.triangle.specs.declared.Meet.{Meet}
 use Rattle.triangle.specs.declared.Meet.the-variants.{Miss, Hit}
 use Rattle.scan.specs.Hits.{Struck, struck, before, insertOf, withMeet, hitsOf}
-use Rattle.scan.specs.HitLaws.{hits-only}
-use Rattle.scan_laws.specs.Order.{trichotomy}
+use Rattle.scan.specs.HitLaws.{Stands, hits-only, hits-all}
+use Rattle.scan_laws.specs.Order.{trichotomy, lt-irrefl-float, lt-trans-float, lt-eq-float, eq-lt-float, eq-trans-float}
 use Rattle.scan_laws.specs.NearestLaws.{hit-number}
 
 pub data Sorted : List Struck → Type 0 where
@@ -63,3 +65,125 @@ hits-sorted points ray (suc n) = by (meetOf ray (triangleAt points n)) refl (hit
         let h = hits-only points ray n m in
         either t (g .distance) n (g .place) (hit-number ray _ t u v e) (hit-number ray _ (g .distance) (h .first) (h .second) (h .met)) (h .within) f)
         s
+
+-- ---- and so each comes before all that follow
+
+or-cases : {A : Type 0} (a b : Bool) → a || b ≡ true → (a ≡ true → A) → (b ≡ true → A) → A
+or-cases true b h f g = f refl
+or-cases false b h f g = g h
+
+and-both : (a b : Bool) → a && b ≡ true → (a ≡ true) × (b ≡ true)
+and-both true b h = (refl, h)
+and-both false b h = absurd (false≢true h)
+
+nearer-first : (a b : Bool) → a ≡ true → a || b ≡ true
+nearer-first a b h = rw h refl
+
+as-near : (a b c : Bool) → b ≡ true → c ≡ true → a || (b && c) ≡ true
+as-near true b c h k = refl
+as-near false b c h k = rw (h, k) refl
+
+-- a hit whose distance is no NaN
+abbrev pub Number : Struck → Type 0
+Number h = isNan (h .distance) ≡ false
+
+pub before-trans : (h g k : Struck) → Number h → Number g → Number k → before h g ≡ true → before g k ≡ true → before h k ≡ true
+unfolding before
+before-trans h g k p q r a b =
+    or-cases (lt x y) (eq x y && ltb i j) a
+    (λ e. or-cases (lt y z) (eq y z && ltb j l) b
+    (λ f. nearer-first (lt x z) _ (lt-trans-float x y z e f))
+    (λ f. nearer-first (lt x z) _ (lt-eq-float x y z e (and-both _ _ f .0))))
+    (λ e.
+    let u = and-both (eq x y) (ltb i j) e in
+    or-cases (lt y z) (eq y z && ltb j l) b
+    (λ f. nearer-first (lt x z) _ (eq-lt-float x y z p q r (u .0) f))
+    (λ f.
+    let v = and-both (eq y z) (ltb j l) f in
+    as-near (lt x z) (eq x z) (ltb i l) (eq-trans-float x y z p q r (u .0) (v .0))
+    (lt-ltb i l (omega (arith, ltb-true i j (u .1), ltb-true j l (v .1))))))
+  where
+    x : Float
+    x = h .distance
+
+    y : Float
+    y = g .distance
+
+    z : Float
+    z = k .distance
+
+    i : ℕ
+    i = h .place
+
+    j : ℕ
+    j = g .place
+
+    l : ℕ
+    l = k .place
+
+pub sorted-all : (h : Struck) (gs : List Struck) → ((g : Struck) → List·Memᴰ g (h ∷ gs) → Number g) → Sorted (h ∷ gs) → (k : Struck) → List·Memᴰ k gs
+    → before h k ≡ true
+sorted-all h [] n one k m = absurd (List·Memᴰ·not-nil m)
+sorted-all h (g ∷ gs) n (more e s) k m =
+    ⊎-elim (λ (f : k ≡ g). rw f e)
+    (λ f.
+    before-trans h g k (n h (List·Memᴰ·head refl)) (n g (List·Memᴰ·tail (List·Memᴰ·head refl))) (n k (List·Memᴰ·tail m)) e
+    (sorted-all g gs (λ x l. n x (List·Memᴰ·tail l)) s k f))
+    (List·Memᴰ·cases-cons m)
+
+-- no hit's distance is a NaN, so of the hits each comes before all that follow
+pub hits-numbers : (points : List Float) (ray : Ray) (n : ℕ) (h : Struck) → List·Memᴰ h (hitsOf points ray n) → Number h
+hits-numbers points ray n h m = let s = hits-only points ray n m in hit-number ray _ (h .distance) (s .first) (s .second) (s .met)
+
+-- ---- one list: what is sorted and holds the same hits is the same
+
+tail-sorted : {h : Struck} {gs : List Struck} → Sorted (h ∷ gs) → Sorted gs
+tail-sorted one = none
+tail-sorted (more e s) = s
+
+not-itself : (h : Struck) → before h h ≡ true → ⊥
+unfolding before
+not-itself h e = by (eq (h .distance) (h .distance)) (rw (lt-irrefl-float (h .distance), le-ltb (h .place) (h .place) (omega arith)) at e)
+  where
+    by : (b : Bool) → b && false ≡ true → ⊥
+    by true f = false≢true f
+    by false f = false≢true f
+
+sorted-once : (gs hs : List Struck) → ((k : Struck) → List·Memᴰ k gs → Number k) → Sorted gs → Sorted hs
+    → ((k : Struck) → List·Memᴰ k gs → List·Memᴰ k hs) → ((k : Struck) → List·Memᴰ k hs → List·Memᴰ k gs) → gs ≡ hs
+sorted-once [] [] n s t f b = refl
+sorted-once [] (h ∷ hs) n s t f b = absurd (List·Memᴰ·not-nil (b h (List·Memᴰ·head refl)))
+sorted-once (g ∷ gs) [] n s t f b = absurd (List·Memᴰ·not-nil (f g (List·Memᴰ·head refl)))
+sorted-once (g ∷ gs) (h ∷ hs) n s t f b =
+    ap₂ (λ (x : Struck) (l : List Struck). x ∷ l) heads
+    (sorted-once gs hs (λ k m. n k (List·Memᴰ·tail m)) (tail-sorted s) (tail-sorted t)
+    (λ k m. ⊎-elim (λ (e : k ≡ h). absurd (not-itself g (rw (e ∙ sym heads) at (after-g k m)))) (λ r. r) (List·Memᴰ·cases-cons (f k (List·Memᴰ·tail m))))
+    (λ k m. ⊎-elim (λ (e : k ≡ g). absurd (not-itself h (rw (e ∙ heads) at (after-h k m)))) (λ r. r) (List·Memᴰ·cases-cons (b k (List·Memᴰ·tail m)))))
+  where
+    all-h : (k : Struck) → List·Memᴰ k (h ∷ hs) → Number k
+    all-h k m = n k (b k m)
+
+    after-g : (k : Struck) → List·Memᴰ k gs → before g k ≡ true
+    after-g k m = sorted-all g gs n s k m
+
+    after-h : (k : Struck) → List·Memᴰ k hs → before h k ≡ true
+    after-h k m = sorted-all h hs all-h t k m
+
+    heads : g ≡ h
+    heads =
+        ⊎-elim (λ (e : g ≡ h). e)
+        (λ p. ⊎-elim (λ (e : h ≡ g). sym e)
+        (λ q.
+        absurd
+        (not-itself g
+        (before-trans g h g (n g (List·Memᴰ·head refl)) (all-h h (List·Memᴰ·head refl)) (n g (List·Memᴰ·head refl)) (after-g h q) (after-h g p))))
+        (List·Memᴰ·cases-cons (b h (List·Memᴰ·head refl))))
+        (List·Memᴰ·cases-cons (f g (List·Memᴰ·head refl)))
+
+-- the hits are the one sorted list of what the test answers
+pub hits-are : (points : List Float) (ray : Ray) (n : ℕ) (hs : List Struck) → Sorted hs → ((k : Struck) → List·Memᴰ k hs → Stands points ray n k)
+    → ((k : Struck) → Stands points ray n k → List·Memᴰ k hs) → hitsOf points ray n ≡ hs
+hits-are points ray n hs s f b =
+    sorted-once (hitsOf points ray n) hs (hits-numbers points ray n) (hits-sorted points ray n) s
+    (λ k m. b k (hits-only points ray n m))
+    (λ k m. let e = f k m in hits-all points ray n (k .place) (k .distance) (e .first) (e .second) (e .within) (e .met))

@@ -200,3 +200,61 @@ trichotomy (fin s m e) (fin t n d) p q h k = by s t (m * up e * down d) (n * up 
     by false true a b f g = elim (eq-zero-or-pos (b + a)) [ inl z ↦ (let x : a ≡ 0 = omega arith in let y : b ≡ 0 = omega arith in no (sym g ∙ rw (x, y) refl)) | inr l ↦ lt-ltb 0 (b + a) l ]
     by true false a b f g = elim (eq-zero-or-pos (a + b)) [ inl z ↦ (let x : a ≡ 0 = omega arith in let y : b ≡ 0 = omega arith in no (sym g ∙ rw (x, y) refl)) | inr l ↦ no (sym f ∙ lt-ltb 0 (a + b) l) ]
     by true true a b f g = elim (compared a b) [ inl l ↦ lt-ltb a b l | inr (inl e) ↦ no (sym g ∙ rw (eq-eqb a b e) refl) | inr (inr l) ↦ no (sym f ∙ lt-ltb b a l) ]
+
+level-not-below : (s t : Bool) (a b : ℕ) → level s a t b ≡ true → below s a t b ≡ false
+level-not-below false false a b h = le-ltb a b (omega (arith, level-same false a false b h))
+level-not-below false true a b h = refl
+level-not-below true false a b h =
+    let e = level-same true a false b h in
+    let z : a ≡ 0 = eqb-true a 0 (and-second (eqb a b) (eqb a 0) h) in
+    le-ltb 0 (a + b) (omega arith)
+level-not-below true true a b h = le-ltb b a (omega (arith, level-same true a true b h))
+
+pub eq-not-lt : (x y : Float) → eq x y ≡ true → lt x y ≡ false
+unfolding lt eq
+eq-not-lt nan y h = no h
+eq-not-lt (inf s) nan h = no h
+eq-not-lt (inf true) (inf true) h = refl
+eq-not-lt (inf true) (inf false) h = no h
+eq-not-lt (inf false) (inf t) h = refl
+eq-not-lt (inf s) (fin t n d) h = no h
+eq-not-lt (fin s m e) nan h = no h
+eq-not-lt (fin s m e) (inf t) h = no h
+eq-not-lt (fin s m e) (fin t n d) h = level-not-below s t (m * up e * down d) (n * up d * down e) h
+
+-- ---- among values that are no NaN
+
+-- neither is below the other: they are equal
+pub neither-below : (x y : Float) → isNan x ≡ false → isNan y ≡ false → (lt x y ≡ true → ⊥) → (lt y x ≡ true → ⊥) → eq x y ≡ true
+neither-below x y p q h k = by (lt x y) (eq x y) refl refl
+  where
+    by : (a b : Bool) → lt x y ≡ a → eq x y ≡ b → eq x y ≡ true
+    by true b f g = absurd (h f)
+    by false true f g = g
+    by false false f g = absurd (k (trichotomy x y p q f g))
+
+contrary : (b : Bool) → b ≡ true → b ≡ false → ⊥
+contrary b h k = false≢true (sym k ∙ h)
+
+pub eq-sym-float : (x y : Float) → isNan x ≡ false → isNan y ≡ false → eq x y ≡ true → eq y x ≡ true
+eq-sym-float x y p q e =
+    neither-below y x q p (λ h. contrary (lt y y) (lt-eq-float y x y h e) (lt-irrefl-float y)) (λ h. contrary (lt x y) h (eq-not-lt x y e))
+
+pub eq-trans-float : (x y z : Float) → isNan x ≡ false → isNan y ≡ false → isNan z ≡ false → eq x y ≡ true → eq y z ≡ true → eq x z ≡ true
+eq-trans-float x y z p q r e f =
+    neither-below x z p r
+    (λ h. contrary (lt x x) (lt-eq-float x y x (lt-eq-float x z y h (eq-sym-float y z q r f)) (eq-sym-float x y p q e)) (lt-irrefl-float x))
+    (λ h. contrary (lt z z) (lt-eq-float z y z (lt-eq-float z x y h e) f) (lt-irrefl-float z))
+
+pub eq-lt-float : (x y z : Float) → isNan x ≡ false → isNan y ≡ false → isNan z ≡ false → eq x y ≡ true → lt y z ≡ true → lt x z ≡ true
+eq-lt-float x y z p q r e h = by (lt x z) refl
+  where
+    by : (b : Bool) → lt x z ≡ b → lt x z ≡ true
+    by true f = f
+    by false f = absurd (go (lt z x) refl)
+      where
+        go : (c : Bool) → lt z x ≡ c → ⊥
+        go true g = contrary (lt y y) (lt-trans-float y z y h (lt-eq-float z x y g e)) (lt-irrefl-float y)
+        go false g =
+            let same : eq z x ≡ true = neither-below z x r p (λ k. contrary (lt z x) k g) (λ k. contrary (lt x z) k f) in
+            contrary (lt y x) (lt-eq-float y z x h same) (eq-not-lt y x (eq-sym-float x y p q e))
