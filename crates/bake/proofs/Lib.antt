@@ -1,0 +1,2 @@
+-- How the parts of a call come together.
+mod Parts

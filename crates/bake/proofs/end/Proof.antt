@@ -1,0 +1,23 @@
+-- Where the last voxel is passed the bake is finished, elsewhere nothing is written.
+use mathlib.Core.Path.{refl}
+use borrow.Author.Needs.{needs}
+use Rattle.bake.proofs.end.Statement.{statement}
+use Rattle.bake.proofs.end.Tie as tie
+
+finish-requires : tie.Need-finish-requires
+finish-requires c κs = search needs
+
+same-length : tie.Need-same-length
+same-length c = search needs
+
+same-length-2 : tie.Need-same-length-2
+same-length-2 c = search needs
+
+returns : tie.Need-returns
+returns c = record { over = λ e. c .before .before .before .before .finish .ensures; short = λ n. absurd (n (c .before .before .before .before .before .before .before .if1 .taken)) }
+
+returns-2 : tie.Need-returns-2
+returns-2 c = record { over = λ e. absurd (c .if1 .left e); short = λ n. (refl, refl) }
+
+pub end-spec : {M : Type 1} → statement M
+end-spec = tie.close (tie.spec finish-requires same-length same-length-2 returns returns-2)

@@ -1,0 +1,191 @@
+// The resumable bake of a volume of spherical harmonics. Document 01, module 7.
+ghost use mathlib.Core.Path.{_≡_};
+ghost use mathlib.Core.Bool.{cond};
+ghost use Prim.Native.Nat.{_*_, _≤_, _<_};
+ghost use lib.Dec.{eqb};
+ghost use lib.ListN.{length};
+ghost use Rattle.names.specs.Numbers.{voxelLimit};
+ghost use Rattle.names.specs.Scene.{sceneOf};
+ghost use Rattle.spread.specs.Spread.{stage, accepted};
+ghost use Rattle.ends.specs.Ends.{filledOf};
+ghost use Rattle.intake.specs.Intake.{inputOf};
+ghost use Rattle.intake.specs.IntakeLaws.{Fits};
+ghost use Rattle.demand.specs.Bake.{bakeOf};
+ghost use Rattle.walk.specs.Reports.{Accepts};
+ghost use Rattle.bake.specs.Baked.{Baked, Ends};
+use grid::Axes;
+use grid::Corners;
+use limits::Ambient;
+use limits::Light;
+use walk::Reached;
+
+// The number of a refusal, 0 where there is none; the next voxel's index; the rays that the call fired.
+#[repr(C)]
+pub struct BakeAnswer {
+    pub refusal: u32,
+    pub progress: usize,
+    pub rays: u64,
+}
+
+// Bakes from progress on while the allowance lasts. Refuses 1 to 7, 9, 10 and 13, in that order, and then returns progress as handed in and writes nothing.
+pub fn bake(
+    axes: Axes,
+    corners: Corners,
+    points: &[f32],
+    uses: &[u32],
+    kinds: &[u8],
+    numbers: &[f32],
+    light: Light,
+    ambient: Ambient,
+    sky: &[f32],
+    active: &[u8],
+    lights: &[f32],
+    volume: &mut [f32],
+    scratch: &mut [f32],
+    distances: &mut [f32],
+    places: &mut [usize],
+    progress: usize,
+    allowance: u64,
+) -> BakeAnswer
+    ensures { λ r. ⌜ Baked
+        (inputOf axes corners (sceneOf (now (points .entry)) (now (uses .entry)) (now (kinds .entry)) (now (numbers .entry)))
+        light ambient (now (sky .entry)) (now (active .entry)) (now (lights .entry))
+        (length (now (distances .entry))) (length (now (places .entry))))
+        (stage progress (now (volume .entry)) (now (scratch .entry))) allowance
+        r (now (volume .exit)) (now (scratch .exit)) (now (distances .entry)) (now (distances .exit)) (now (places .entry)) (now (places .exit)) ⌝ }
+{
+    let refusal = intake::inner::judge(
+        axes,
+        corners,
+        points,
+        uses,
+        kinds,
+        numbers,
+        light,
+        ambient,
+        sky,
+        active,
+        lights,
+        volume,
+        scratch,
+        distances.len(),
+        places.len(),
+        progress,
+        allowance,
+    );
+    if refusal != 0 {
+        return BakeAnswer {
+            refusal,
+            progress,
+            rays: 0,
+        };
+    }
+    let r = go_on(
+        axes,
+        corners,
+        points,
+        uses,
+        kinds,
+        numbers,
+        light,
+        ambient,
+        sky,
+        active,
+        lights,
+        volume,
+        scratch,
+        distances,
+        places,
+        progress,
+        allowance,
+    );
+    BakeAnswer {
+        refusal: 0,
+        progress: r.progress,
+        rays: r.rays,
+    }
+}
+
+// A call that is not refused: a finished bake is left as it is.
+fn go_on(
+    axes: Axes,
+    corners: Corners,
+    points: &[f32],
+    uses: &[u32],
+    kinds: &[u8],
+    numbers: &[f32],
+    light: Light,
+    ambient: Ambient,
+    sky: &[f32],
+    active: &[u8],
+    lights: &[f32],
+    volume: &mut [f32],
+    scratch: &mut [f32],
+    distances: &mut [f32],
+    places: &mut [usize],
+    progress: usize,
+    allowance: u64,
+) -> Reached
+    requires { ⌜ Fits
+        (inputOf axes corners (sceneOf (now points) (now uses) (now kinds) (now numbers)) light ambient (now sky) (now active) (now lights)
+        (length (now distances)) (length (now places)))
+        (stage progress (now volume) (now scratch)) allowance ⌝ }
+    ensures { λ r. ⌜ Accepts
+        (accepted
+        (bakeOf (inputOf axes corners (sceneOf (now (points .entry)) (now (uses .entry)) (now (kinds .entry)) (now (numbers .entry)))
+        light ambient (now (sky .entry)) (now (active .entry)) (now (lights .entry))
+        (length (now (distances .entry))) (length (now (places .entry)))))
+        allowance (stage progress (now (volume .entry)) (now (scratch .entry))))
+        r (now (volume .exit)) (now (scratch .exit)) (now (distances .entry)) (now (distances .exit)) (now (places .entry)) (now (places .exit)) ⌝ }
+{
+    if progress == active.len() {
+        return Reached { progress, rays: 0 };
+    }
+    start(ambient, lights, volume, progress);
+    let table = directions::table();
+    let r = walk::inner::walk(
+        axes,
+        corners,
+        points,
+        uses,
+        kinds,
+        numbers,
+        light,
+        ambient,
+        sky,
+        &table,
+        active,
+        lights,
+        volume,
+        distances,
+        places,
+        progress,
+        allowance,
+    );
+    let reached = r.progress;
+    end(axes, active, volume, scratch, reached);
+    r
+}
+
+// "At 0, first fill the volume with ambient"
+fn start(ambient: Ambient, lights: &[f32], volume: &mut [f32], progress: usize)
+    requires { ⌜ (length (now volume) ≡ length (now lights) * 16) × (length (now lights) ≤ voxelLimit) ⌝ }
+    ensures { λ r. ⌜ now (volume .exit) ≡ cond (eqb progress 0) (filledOf ambient (now (lights .entry))) (now (volume .entry)) ⌝ }
+{
+    if progress == 0 {
+        ends::inner::fill(ambient, lights, volume);
+        return;
+    }
+}
+
+// "At the end, if any voxel is active, scratch gets the unblurred volume and the volume its 3×3×3 mean."
+fn end(axes: Axes, active: &[u8], volume: &mut [f32], scratch: &mut [f32], reached: usize)
+    requires { ⌜ (0 < axes .width) × (0 < axes .height) × (axes .depth * axes .height * axes .width * 16 ≡ length (now volume))
+        × (length (now scratch) ≡ length (now volume)) ⌝ }
+    ensures { λ r. ⌜ Ends axes (now (active .entry)) reached (now (volume .entry)) (now (scratch .entry)) (now (volume .exit)) (now (scratch .exit)) ⌝ }
+{
+    if reached == active.len() {
+        ends::inner::finish(axes, active, volume, scratch);
+        return;
+    }
+}

@@ -1,0 +1,2 @@
+-- How the walk's loop goes.
+mod Loop

@@ -1,0 +1,2 @@
+-- What the inner calls of the bake ask and report.
+pub mod Reports

@@ -1,0 +1,131 @@
+// The walk of a call that is not refused, from its progress on.
+ghost use mathlib.Core.Path.{_≡_};
+ghost use Prim.Native.Nat.{_-_};
+ghost use lib.ListN.{length};
+ghost use Rattle.names.specs.Scene.{sceneOf};
+ghost use Rattle.directions.specs.Table.{directions};
+ghost use Rattle.gather.specs.Gather.{gatherOf};
+ghost use Rattle.intake.specs.Intake.{inputOf};
+ghost use Rattle.spread.specs.Spread as spread;
+ghost use Rattle.demand.specs.Bake.{bakeOf};
+ghost use Rattle.walk.specs.Reports.{Takeable, Taken, Walkable, Reports};
+use super::Reached;
+use grid::Axes;
+use grid::Corners;
+use limits::Ambient;
+use limits::Light;
+
+// "an active one is taken exactly while at least 384 rays remain"
+const VOXEL_COST: u64 = 384;
+
+// Goes through the voxels from progress on, in order, while the allowance lasts.
+pub fn walk(
+    axes: Axes,
+    corners: Corners,
+    points: &[f32],
+    uses: &[u32],
+    kinds: &[u8],
+    numbers: &[f32],
+    light: Light,
+    ambient: Ambient,
+    sky: &[f32],
+    table: &[f32; 1728],
+    active: &[u8],
+    lights: &[f32],
+    volume: &mut [f32],
+    distances: &mut [f32],
+    places: &mut [usize],
+    progress: usize,
+    allowance: u64,
+) -> Reached
+    requires { ⌜ Walkable
+        (inputOf axes corners (sceneOf (now points) (now uses) (now kinds) (now numbers)) light ambient (now sky) (now active) (now lights)
+        (length (now distances)) (length (now places)))
+        (length (now volume)) progress ⌝ }
+    requires { ⌜ now table ≡ directions ⌝ }
+    ensures { λ r. ⌜ Reports
+        (spread.walk
+        (bakeOf (inputOf axes corners (sceneOf (now (points .entry)) (now (uses .entry)) (now (kinds .entry)) (now (numbers .entry)))
+        light ambient (now (sky .entry)) (now (active .entry)) (now (lights .entry))
+        (length (now (distances .entry))) (length (now (places .entry)))))
+        (length (now (active .entry)) - progress) progress allowance (now (volume .entry)))
+        r (now (volume .exit)) (now (distances .entry)) (now (distances .exit)) (now (places .entry)) (now (places .exit)) ⌝ }
+{
+    let mut i = progress;
+    let mut rays: u64 = 0;
+    while i < active.len() {
+        let at = i;
+        i += 1;
+        if active[at] == 1 {
+            if allowance - rays < VOXEL_COST {
+                return Reached { progress: at, rays };
+            }
+            rays += take(
+                axes,
+                corners,
+                points,
+                uses,
+                kinds,
+                numbers,
+                light,
+                ambient,
+                sky,
+                table,
+                lights,
+                volume,
+                distances,
+                places,
+                at,
+            );
+        }
+    }
+    Reached { progress: i, rays }
+}
+
+// Gathers one voxel into its place of the volume, and answers its rays.
+fn take(
+    axes: Axes,
+    corners: Corners,
+    points: &[f32],
+    uses: &[u32],
+    kinds: &[u8],
+    numbers: &[f32],
+    light: Light,
+    ambient: Ambient,
+    sky: &[f32],
+    table: &[f32; 1728],
+    lights: &[f32],
+    volume: &mut [f32],
+    distances: &mut [f32],
+    places: &mut [usize],
+    i: usize,
+) -> u64
+    requires { ⌜ Takeable
+        (gatherOf axes corners (sceneOf (now points) (now uses) (now kinds) (now numbers)) light ambient (now sky) (now lights))
+        i (length (now distances)) (length (now places)) (length (now volume)) ⌝ }
+    requires { ⌜ now table ≡ directions ⌝ }
+    ensures { λ r. ⌜ Taken
+        (gatherOf axes corners (sceneOf (now (points .entry)) (now (uses .entry)) (now (kinds .entry)) (now (numbers .entry)))
+        light ambient (now (sky .entry)) (now (lights .entry)))
+        i r (now (volume .entry)) (now (volume .exit)) ⌝ }
+{
+    let start = i * 16;
+    let end = start + 16;
+    gather::inner::gather_voxel(
+        axes,
+        corners,
+        points,
+        uses,
+        kinds,
+        numbers,
+        light,
+        ambient,
+        sky,
+        table,
+        lights,
+        distances,
+        places,
+        i,
+        &mut volume[start..end],
+    )
+}
