@@ -1,4 +1,5 @@
 -- The sun pass: what each voxel sees of the sun, before and after the blur.
 pub mod Sun
 pub mod SunLaws
+pub mod SunBounds
 pub mod Good

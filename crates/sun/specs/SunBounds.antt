@@ -1,0 +1,36 @@
+-- What an accepted call writes before the blur lies from 0 to 1.
+use mathlib.Core.Path.{_≡_, refl, sym, _∙_}
+use mathlib.Core.Bool.{Bool, true, false}
+use mathlib.Core.List.{List}
+use Prim.Native.Nat.{ℕ, _<_}
+use native.Mathlib.Omega.{arith}
+use lib.ListN.{getD}
+use lib.Ieee.{nan}
+use Rattle.names.specs.Bits.{one32}
+use Rattle.names.specs.Scene.{Scene}
+use Rattle.vectors.specs.declared.Vec3.{Vec3}
+use Rattle.grid.specs.Grid.{voxels}
+use Rattle.grid.specs.declared.Axes.{Axes}
+use Rattle.grid.specs.declared.Corners.{Corners}
+use Rattle.limits.specs.Limits.{upTo}
+use Rattle.limits.specs.LimitsLaws.{materials-row}
+use Rattle.passed.specs.Passed.{passed}
+use Rattle.marks.specs.Marks.{isActive}
+use Rattle.scan_laws.specs.TransmittanceLaws.{transmittance-within, one-is-within}
+use Rattle.sun.specs.Sun.{sunBefore, sunRows, sunRefusal}
+use Rattle.sun.specs.SunLaws.{inactive-before, active-before, sun-ready}
+
+pub before-within : (axes : Axes) (corners : Corners) (scene : Scene) (direction : Vec3) (active : List ℕ) (lights scratches distances places : ℕ)
+    → sunRefusal axes corners scene direction active lights scratches distances places ≡ 0 → (i : ℕ) → i < voxels axes
+    → upTo one32 (getD (sunBefore axes corners scene direction active) i nan) ≡ true
+unfolding sunRefusal
+before-within axes corners scene direction active lights scratches distances places e i h = by (isActive active i) refl
+  where
+    by : (b : Bool) → isActive active i ≡ b → upTo one32 (getD (sunBefore axes corners scene direction active) i nan) ≡ true
+    by false f = rw (inactive-before axes corners scene direction active i h f) one-is-within
+    by true f =
+        let p = passed (sunRows axes corners scene direction active lights scratches distances places)
+        (omega arith, (omega arith, (omega arith, (omega arith, (omega arith, (omega arith, (omega arith, (omega arith, tt)))))))) e in
+        rw (active-before axes corners scene direction active i h f)
+        (transmittance-within scene _ (sun-ready axes corners scene direction active lights scratches distances places e .traceable .scene-fits)
+        (materials-row _ _ _ .0 (p .1 .1 .1 .1 .1 .0) .1))
