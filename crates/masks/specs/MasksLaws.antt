@@ -1,15 +1,15 @@
 -- The contract leaves one result, an accepted call has masks that fit its grid, what its entries mean, and a good call is accepted.
-use mathlib.Core.Path.{_≡_, refl, sym, ap, _∙_}
-use mathlib.Core.Bool.{Bool, true, false}
+use mathlib.Core.Path.{_≡_, refl, sym, _∙_}
+use mathlib.Core.Bool.{true}
 use mathlib.Core.List.{List, [], _∷_}
-use Prim.Native.Nat.{ℕ, _/_, _%_, _≤_, _<_}
+use Prim.Native.Nat.{ℕ, _%_, _<_}
 use native.Mathlib.Omega.{arith}
 use lib.ListN.{length}
 use lib.Ieee as Ieee
 use lib.Ieee.{Float}
 use borrow.Author.Tests.{eqb-true, not-false}
 use Rattle.names.specs.Bits.{zero32, one32}
-use Rattle.names.specs.Refusals.{firstOf, unlessRefused, kept, given}
+use Rattle.names.specs.Refusals.{firstOf, kept, given}
 use Rattle.lists.specs.Fold.{tab}
 use Rattle.lists.specs.Any.{any}
 use Rattle.floats.specs.Root.{rootOf}
@@ -32,7 +32,7 @@ use Rattle.occupy.specs.OccupiedLaws.{Sampled, occupied-at, occupied-sampled, s
 use Rattle.dilate.specs.Active.{activeIn, activeEntry, activeOf}
 use Rattle.dilate.specs.ActiveLaws.{NearOccupied, active-at, active-near, near-active}
 use Rattle.masks.specs.declared.Marked.{Marked}
-use Rattle.masks.specs.Masks.{wrongMasks, masksRows, masksRefusal, activeMaskOf, markedOf, MasksFilled}
+use Rattle.masks.specs.Masks.{wrongMasks, masksRows, masksRefusal, activeMaskOf, MasksFilled}
 
 -- ---- one result
 
