@@ -21,32 +21,32 @@ use Rattle.blurs.specs.Blurs.{wrongLists, lightBlurRows, lightBlurRefusa
 
 -- ---- one result
 
-pub record Same (r r' : ℕ) (list list' scratch scratch' : List Float) : Type 0 where
+pub record SameBlur (r r' : ℕ) (list list' scratch scratch' : List Float) : Type 0 where
   pub same-answer : r ≡ r'
   pub same-list : list ≡ list'
   pub same-scratch : scratch ≡ scratch'
 
 pub light-blurred-once : (axes : Axes) (light scratch : List Float) (r₁ r₂ : ℕ) (l₁ s₁ l₂ s₂ : List Float)
-    → LightBlurred axes light scratch r₁ l₁ s₁ → LightBlurred axes light scratch r₂ l₂ s₂ → Same r₁ r₂ l₁ l₂ s₁ s₂
+    → LightBlurred axes light scratch r₁ l₁ s₁ → LightBlurred axes light scratch r₂ l₂ s₂ → SameBlur r₁ r₂ l₁ l₂ s₁ s₂
 light-blurred-once axes light scratch r₁ r₂ l₁ s₁ l₂ s₂ a b =
     let e : r₁ ≡ r₂ = a .answer ∙ sym (b .answer) in
     record { same-answer = e; same-list = a .light-after ∙ rw e (sym (b .light-after)); same-scratch = a .scratch-after ∙ rw e (sym (b .scratch-after)) }
 
 pub coefficients-blurred-once : (axes : Axes) (volume scratch : List Float) (r₁ r₂ : ℕ) (v₁ s₁ v₂ s₂ : List Float)
-    → CoefficientsBlurred axes volume scratch r₁ v₁ s₁ → CoefficientsBlurred axes volume scratch r₂ v₂ s₂ → Same r₁ r₂ v₁ v₂ s₁ s₂
+    → CoefficientsBlurred axes volume scratch r₁ v₁ s₁ → CoefficientsBlurred axes volume scratch r₂ v₂ s₂ → SameBlur r₁ r₂ v₁ v₂ s₁ s₂
 coefficients-blurred-once axes volume scratch r₁ r₂ v₁ s₁ v₂ s₂ a b =
     let e : r₁ ≡ r₂ = a .answer ∙ sym (b .answer) in
     record { same-answer = e; same-list = a .volume-after ∙ rw e (sym (b .volume-after)); same-scratch = a .scratch-after ∙ rw e (sym (b .scratch-after)) }
 
 -- ---- what an accepted call has
 
-pub record Fitting (axes : Axes) (stride : ℕ) (list scratch : List Float) : Type 0 where
+pub record FittingLists (axes : Axes) (stride : ℕ) (list scratch : List Float) : Type 0 where
   pub axes-within : AxesWithin axes
   pub list-fits : length list ≡ voxels axes * stride
   pub scratch-fits : length scratch ≡ voxels axes * stride
 
 fitting : (axes : Axes) (stride : ℕ) (list scratch : List Float) → badAxes axes ≡ false → wrongLists axes stride list scratch ≡ false
-    → Fitting axes stride list scratch
+    → FittingLists axes stride list scratch
 unfolding wrongLists
 fitting axes stride list scratch a e =
     let p = either (wrongLength (length list) (voxels axes * stride)) (wrongLength (length scratch) (voxels axes * stride)) .0 e in
@@ -56,13 +56,13 @@ fitting axes stride list scratch a e =
       scratch-fits = eqb-true _ _ (not-false _ (p .1));
     }
 
-pub light-blur-fitting : (axes : Axes) (light scratch : List Float) → lightBlurRefusal axes light scratch ≡ 0 → Fitting axes 1 light scratch
+pub light-blur-fitting : (axes : Axes) (light scratch : List Float) → lightBlurRefusal axes light scratch ≡ 0 → FittingLists axes 1 light scratch
 unfolding lightBlurRefusal
 light-blur-fitting axes light scratch e =
     let p = passed (lightBlurRows axes light scratch) (omega arith, (omega arith, (omega arith, tt))) e in
     fitting axes 1 light scratch (p .0) (p .1 .0)
 
-pub coefficient-blur-fitting : (axes : Axes) (volume scratch : List Float) → coefficientBlurRefusal axes volume scratch ≡ 0 → Fitting axes 16 volume scratch
+pub coefficient-blur-fitting : (axes : Axes) (volume scratch : List Float) → coefficientBlurRefusal axes volume scratch ≡ 0 → FittingLists axes 16 volume scratch
 unfolding coefficientBlurRefusal
 coefficient-blur-fitting axes volume scratch e =
     let p = passed (coefficientBlurRows axes volume scratch) (omega arith, (omega arith, (omega arith, tt))) e in

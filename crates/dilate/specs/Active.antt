@@ -15,8 +15,8 @@ abbrev pub reach : ℕ
 reach = 2
 
 -- a and b lie within that of each other
-abbrev pub within : ℕ → ℕ → Bool
-within a b = leb a (b + reach) && leb b (a + reach)
+abbrev pub withinReach : ℕ → ℕ → Bool
+withinReach a b = leb a (b + reach) && leb b (a + reach)
 
 -- whether f holds of some voxel's coordinates
 abbrev pub someVoxel : Axes → (ℕ → ℕ → ℕ → Bool) → Bool
@@ -24,7 +24,7 @@ someVoxel axes f = any (λ z. any (λ y. any (λ x. f x y z) (axes .width) 0) (a
 
 -- voxel (x, y, z) is active
 unfoldable pub activeIn : Axes → List ℕ → ℕ → ℕ → ℕ → Bool
-activeIn axes occupied x y z = someVoxel axes (λ i j k. isActive occupied (indexOf axes i j k) && (within i x && (within j y && within k z)))
+activeIn axes occupied x y z = someVoxel axes (λ i j k. isActive occupied (indexOf axes i j k) && (withinReach i x && (withinReach j y && withinReach k z)))
 
 -- entry i of the active mask
 unfoldable pub activeEntry : Axes → List ℕ → ℕ → ℕ

@@ -14,7 +14,7 @@ use Rattle.lists.specs.Any.{any-in, any-out}
 use Rattle.grid.specs.declared.Axes.{Axes}
 use Rattle.grid.specs.Grid.{voxels, indexOf, xOf, yOf, zOf}
 use Rattle.marks.specs.Marks.{isActive}
-use Rattle.dilate.specs.Active.{within, activeIn, activeEntry, activeOf}
+use Rattle.dilate.specs.Active.{withinReach, activeIn, activeEntry, activeOf}
 
 -- An occupied voxel (i, j, k) of the grid that lies within 2 of (x, y, z) on every axis
 pub record NearOccupied (axes : Axes) (occupied : List ℕ) (x y z : ℕ) : Type 0 where
@@ -32,20 +32,20 @@ both {a} {b} e = and-eq-true-iff a b .0 e
 and-both : {a b : Bool} → a ≡ true → b ≡ true → a && b ≡ true
 and-both {a} {b} p q = and-eq-true-iff a b .1 (p, q)
 
-within-out : (a b : ℕ) → within a b ≡ true → (a ≤ b + 2) × (b ≤ a + 2)
+within-out : (a b : ℕ) → withinReach a b ≡ true → (a ≤ b + 2) × (b ≤ a + 2)
 within-out a b e = let p = both e in (leb-true _ _ (p .0), leb-true _ _ (p .1))
 
-within-in : (a b : ℕ) → a ≤ b + 2 → b ≤ a + 2 → within a b ≡ true
+within-in : (a b : ℕ) → a ≤ b + 2 → b ≤ a + 2 → withinReach a b ≡ true
 within-in a b p q = and-both (le-leb _ _ p) (le-leb _ _ q)
 
 module _ (axes : Axes) (occupied : List ℕ) where
   -- a voxel that passes the definition's test
   found : (x y z i j k : ℕ) → i < axes .width → j < axes .height → k < axes .depth
-      → isActive occupied (indexOf axes i j k) && (within i x && (within j y && within k z)) ≡ true → NearOccupied axes occupied x y z
+      → isActive occupied (indexOf axes i j k) && (withinReach i x && (withinReach j y && withinReach k z)) ≡ true → NearOccupied axes occupied x y z
   found x y z i j k li lj lk e =
-      let p : (isActive occupied (indexOf axes i j k) ≡ true) × (within i x && (within j y && within k z) ≡ true) = both e in
-      let q : (within i x ≡ true) × (within j y && within k z ≡ true) = both (p .1) in
-      let r : (within j y ≡ true) × (within k z ≡ true) = both (q .1) in
+      let p : (isActive occupied (indexOf axes i j k) ≡ true) × (withinReach i x && (withinReach j y && withinReach k z) ≡ true) = both e in
+      let q : (withinReach i x ≡ true) × (withinReach j y && withinReach k z ≡ true) = both (p .1) in
+      let r : (withinReach j y ≡ true) × (withinReach k z ≡ true) = both (q .1) in
       record {
         i = i;
         in-x = omega (arith, within-out i x (q .0));

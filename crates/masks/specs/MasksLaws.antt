@@ -18,12 +18,12 @@ use Rattle.floats.specs.Choice.{largerOf, smallerOf}
 use Rattle.vectors.specs.Vectors.{vec, addV, subV, scaleV, dotV, crossV, lengthV}
 use Rattle.grid.specs.declared.Axes.{Axes}
 use Rattle.grid.specs.declared.Corners.{Corners}
-use Rattle.grid.specs.Grid.{voxels, AxesWithin, xOf, yOf, zOf, edgesOf}
+use Rattle.grid.specs.Grid.{voxels, AxesWithin, xOf, yOf, zOf, edgesOf, smallestEdgeOf}
 use Rattle.limits.specs.Limits.{within, outsideV, badAxes, badCorners, badEdges, wrongLength, tooMany, badPoints}
 use Rattle.limits.specs.Some.{some}
 use Rattle.triangle.specs.Meet.{absentOf}
 use Rattle.triangle.specs.Places.{triangleAt}
-use Rattle.samples.specs.Samples.{smallestEdgeOf, targetOf, countOf, sideFrom, sideOf, shareOf, pointOf, cellOn, indexWithin, cellOf, sampleCell}
+use Rattle.samples.specs.Samples.{targetOf, countOf, sideFrom, sideOf, shareOf, pointOf, cellOn, indexWithin, cellOf, sampleCell}
 use Rattle.limits.specs.LimitsLaws.{axes-row, three}
 use Rattle.passed.specs.Passed.{passed}
 use Rattle.marks.specs.Marks.{isActive, activeCount}
@@ -121,7 +121,7 @@ masks-filled axes corners points occupied active occupied' active' o a e p q s t
 
 -- ---- good calls
 
-abbrev pub axesOf : ℕ → ℕ → ℕ → Axes
+abbrev axesOf : ℕ → ℕ → ℕ → Axes
 axesOf w h d = record { width = w; height = h; depth = d }
 
 -- "P grid 6×1×1, voxel 0 occupied: 0, 1, 2 active."
@@ -130,10 +130,10 @@ unfolding activeOf activeEntry activeIn any tab
 six-active = refl
 
 -- triangle Q over one voxel of edge 1, from 0 to 1: accepted, whatever the masks held, and its one sample, (.5, .5, 0), marks the voxel
-abbrev pub unitCorners : Corners
+abbrev unitCorners : Corners
 unitCorners = record { min = vec zero32 zero32 zero32; max = vec one32 one32 one32 }
 
-abbrev pub pointsQ : List Float
+abbrev pointsQ : List Float
 pointsQ = zero32 ∷ zero32 ∷ zero32 ∷ one32 ∷ zero32 ∷ zero32 ∷ zero32 ∷ one32 ∷ zero32 ∷ []
 
 pub q-accepted : masksRefusal (axesOf 1 1 1) unitCorners pointsQ (7 ∷ []) (9 ∷ []) ≡ 0

@@ -12,8 +12,8 @@ use Rattle.triangle.specs.Meet.{absentOf}
 use Rattle.triangle.specs.Places.{triangleAt}
 use Rattle.samples.specs.Samples.{sampleCount, sideOf, sampleCell}
 
-abbrev pub none : ℕ → ℕ
-none i = 0
+abbrev pub unmarked : ℕ → ℕ
+unmarked i = 0
 
 -- a 1 at the voxel of a sample; a sample outside the grid has a place past the mask, where nothing is set
 abbrev pub markSample : Axes → Vec3 → Vec3 → Triangle → ℕ → ℕ → ℕ → List ℕ → List ℕ

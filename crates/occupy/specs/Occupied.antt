@@ -11,10 +11,10 @@ use Rattle.vectors.specs.declared.Vec3.{Vec3}
 use Rattle.vectors.specs.declared.Triangle.{Triangle}
 use Rattle.grid.specs.declared.Axes.{Axes}
 use Rattle.grid.specs.declared.Corners.{Corners}
-use Rattle.grid.specs.Grid.{voxels, edgesOf}
+use Rattle.grid.specs.Grid.{voxels, edgesOf, smallestEdgeOf}
 use Rattle.triangle.specs.Meet.{absentOf}
 use Rattle.triangle.specs.Places.{triangleAt}
-use Rattle.samples.specs.Samples.{smallestEdgeOf, sampleCount, sideOf, sampleCell}
+use Rattle.samples.specs.Samples.{sampleCount, sideOf, sampleCell}
 
 -- some sample (iu, iv) of n a side, iu < n and iv < n − iu, falls into voxel i
 unfoldable pub sampledIn : Axes → Vec3 → Vec3 → Triangle → ℕ → ℕ → Bool

@@ -17,13 +17,13 @@ use Rattle.vectors.specs.declared.Vec3.{Vec3}
 use Rattle.vectors.specs.declared.Triangle.{Triangle}
 use Rattle.grid.specs.declared.Axes.{Axes}
 use Rattle.grid.specs.declared.Corners.{Corners}
-use Rattle.grid.specs.Grid.{voxels, edgesOf}
+use Rattle.grid.specs.Grid.{voxels, edgesOf, smallestEdgeOf}
 use Rattle.triangle.specs.Meet.{absentOf}
 use Rattle.triangle.specs.Places.{triangleAt}
-use Rattle.samples.specs.Samples.{smallestEdgeOf, sampleCount, sideOf, sampleCell}
+use Rattle.samples.specs.Samples.{sampleCount, sideOf, sampleCell}
 use Rattle.marks.specs.Marks.{isActive}
 use Rattle.occupy.specs.Occupied.{sampledIn, touches, occupiedIn, occupiedEntry, occupiedOf}
-use Rattle.occupy.specs.Marking.{none, markSample, markRow, markRows, markTriangle, markPlace, markAll}
+use Rattle.occupy.specs.Marking.{unmarked, markSample, markRow, markRows, markTriangle, markPlace, markAll}
 
 -- ---- what it means
 
@@ -160,14 +160,14 @@ module _ (axes : Axes) (low edges : Vec3) where
 
 -- from a mask of zeros that has an entry for each voxel
 pub marked-occupied : (axes : Axes) (corners : Corners) (points : List Float)
-    → markAll axes (corners .min) (edgesOf corners axes) (smallestEdgeOf (edgesOf corners axes)) points (tab none (voxels axes) 0)
+    → markAll axes (corners .min) (edgesOf corners axes) (smallestEdgeOf (edgesOf corners axes)) points (tab unmarked (voxels axes) 0)
     ≡ occupiedOf axes corners points
 unfolding occupiedIn
 marked-occupied axes corners points =
     let m = all-marks axes (corners .min) (edgesOf corners axes) (smallestEdgeOf (edgesOf corners axes)) points in
-    let n : length (tab none (voxels axes) 0) ≡ voxels axes = length-tab none (voxels axes) 0 in
-    let k = m .keeps (tab none (voxels axes) 0) in
+    let n : length (tab unmarked (voxels axes) 0) ≡ voxels axes = length-tab unmarked (voxels axes) 0 in
+    let k = m .keeps (tab unmarked (voxels axes) 0) in
     ext-getD 0 _ _ (k ∙ n ∙ sym (occupied-length axes corners points))
     (λ i h.
     let l : i < voxels axes = omega arith in
-    m .marks (tab none (voxels axes) 0) i (omega arith) ∙ rw (getD-tab none (voxels axes) 0 i 0 l) (sym (entry-at axes corners points i l)))
+    m .marks (tab unmarked (voxels axes) 0) i (omega arith) ∙ rw (getD-tab unmarked (voxels axes) 0 i 0 l) (sym (entry-at axes corners points i l)))

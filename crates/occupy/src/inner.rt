@@ -5,7 +5,7 @@ ghost use lib.ListN.{length, set};
 ghost use Rattle.lists.specs.Fold.{tab};
 ghost use Rattle.grid.specs.Grid.{voxels, AxesWithin};
 ghost use Rattle.occupy.specs.Occupied.{occupiedOf};
-ghost use Rattle.occupy.specs.Marking.{none, markRow, markRows, markTriangle, markAll};
+ghost use Rattle.occupy.specs.Marking.{unmarked, markRow, markRows, markTriangle, markAll};
 use grid::Axes;
 use grid::Corners;
 use vectors::Triangle;
@@ -18,12 +18,12 @@ pub fn occupy(axes: Axes, corners: Corners, points: &[f32], occupied: &mut [u8])
 {
     clear(occupied);
     let edges = grid::inner::edges(corners, axes);
-    let e = samples::inner::smallest_edge(edges);
+    let e = grid::inner::smallest_edge(edges);
     mark_all(axes, corners.min, edges, e, points, occupied);
 }
 
 fn clear(mask: &mut [u8])
-    ensures { λ r. ⌜ now (mask .exit) ≡ tab none (length (now (mask .entry))) 0 ⌝ }
+    ensures { λ r. ⌜ now (mask .exit) ≡ tab unmarked (length (now (mask .entry))) 0 ⌝ }
 {
     let mut i = 0;
     while i < mask.len() {

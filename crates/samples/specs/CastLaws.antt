@@ -17,8 +17,8 @@ power k = fin false 1 (pos k)
 abbrev pub minusOne : Float
 minusOne = fin true 1 (pos 0)
 
-abbrev pub none : Float
-none = fin false 0 (pos 0)
+abbrev pub nought : Float
+nought = fin false 0 (pos 0)
 
 holds : (b : Bool) → b ≡ true → T b
 holds true e = tt
@@ -41,7 +41,7 @@ below-power j k h (fin false m d) e =
     holds _ (lt-ltb (m * up d * 1) (1 * 2 ^ k * down d) (omega (arith, mul-le-mul-right (down d) h)))
 
 -- not below 0: above −1
-pub above-minus-one : (x : Float) → le none x ≡ true → T (lt minusOne x)
+pub above-minus-one : (x : Float) → le nought x ≡ true → T (lt minusOne x)
 unfolding le lt eq
 above-minus-one nan e = absurd (false≢true e)
 above-minus-one (inf true) e = absurd (false≢true e)
@@ -61,7 +61,7 @@ one-above (fin true m d) e = absurd (false≢true e)
 one-above (fin false m d) e = holds _ (lt-ltb 0 (1 * 1 * down d + m * up d * 1) (omega (arith, down-pos false m d)))
 
 -- neither below 0 nor below 2 ^ 32: the cast is at least 2 ^ 32
-pub far-cast : (x : Float) → le none x ≡ true → lt x (power 32) ≡ false → 4294967296 ≤ toUnsigned 64 x
+pub far-cast : (x : Float) → le nought x ≡ true → lt x (power 32) ≡ false → 4294967296 ≤ toUnsigned 64 x
 unfolding le lt eq toUnsigned
 far-cast nan p e = absurd (false≢true p)
 far-cast (inf true) p e = absurd (false≢true p)

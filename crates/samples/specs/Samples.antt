@@ -7,22 +7,16 @@ use lib.Dec.{ltb, leb}
 use lib.Ieee as Ieee
 use lib.Ieee.{Float, binary32, toUnsigned}
 use Rattle.names.specs.Bits.{lit, zero32, half32, one32, two32}
-use Rattle.floats.specs.Choice.{largerOf, smallerOf}
 use Rattle.floats.specs.Whole.{ceilingOf}
 use Rattle.vectors.specs.declared.Vec3.{Vec3}
 use Rattle.vectors.specs.declared.Triangle.{Triangle}
 use Rattle.vectors.specs.Vectors.{addV, subV, scaleV, crossV, lengthV}
 use Rattle.grid.specs.declared.Axes.{Axes}
 use Rattle.grid.specs.Grid.{voxels, indexOf, floatOf}
-
 -- ---- how many
 
--- 1e-6, below which no edge is taken
-abbrev pub leastEdge : Float
-leastEdge = lit 0x358637bd
-
-unfoldable pub smallestEdgeOf : Vec3 → Float
-smallestEdgeOf edges = largerOf (smallerOf (edges .x) (smallerOf (edges .y) (edges .z))) leastEdge
+-- e below is the smallest edge of a voxel, which is the grid's to say
+unfoldable pub use Rattle.grid.specs.Grid.{smallestEdgeOf}
 
 -- ((0.5·length of the cross) / (e·e))·2, ceiling
 unfoldable pub targetOf : Triangle → Float → Float

@@ -170,7 +170,7 @@ largest-side = omega (arith, side-least 4096 64 (omega arith), enough (sideOf 40
             part true e = inl (ltb-true _ _ e)
             part false e = inr (ltb-false _ _ e)
 
-abbrev pub triangleQ : Triangle
+abbrev triangleQ : Triangle
 triangleQ = record { p0 = vec zero32 zero32 zero32; p1 = vec one32 zero32 zero32; p2 = vec zero32 one32 zero32 }
 
 pub q-count : sampleCount triangleQ one32 ≡ 1

@@ -2,26 +2,17 @@
 ghost use mathlib.Core.Path.{_≡_};
 ghost use Prim.Native.Nat.{_<_, _≤_, min};
 ghost use Rattle.grid.specs.Grid.{AxesWithin};
-ghost use Rattle.samples.specs.Samples.{smallestEdgeOf, targetOf, countOf, sampleCount, sideOf, shareOf, pointOf, cellOn, indexWithin, cellOf, sampleCell};
+ghost use Rattle.samples.specs.Samples.{targetOf, countOf, sampleCount, sideOf, shareOf, pointOf, cellOn, indexWithin, cellOf, sampleCell};
 use grid::Axes;
 use vectors::Triangle;
 use vectors::Vec3;
 
-// The smallest edge of a voxel is taken as no less.
-const LEAST_EDGE: f32 = 1.0e-6;
 // "clamped to 1..4096"
 const MOST_SAMPLES: usize = 4096;
 
 const MOST_SAMPLES_FLOAT: f32 = 4096.0;
 // 2^32: whatever is not below it lies past every axis
 const FAR: f32 = 4294967296.0;
-
-pub fn smallest_edge(edges: Vec3) -> f32
-    ensures { λ r. ⌜ r ≡ smallestEdgeOf edges ⌝ }
-{
-    let least = floats::smaller(edges.x, floats::smaller(edges.y, edges.z));
-    floats::larger(least, LEAST_EDGE)
-}
 
 // How many samples a triangle has over an edge of e.
 pub fn sample_count(t: Triangle, e: f32) -> usize

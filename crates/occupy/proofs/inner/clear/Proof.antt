@@ -6,13 +6,13 @@ use native.Mathlib.Omega.{arith}
 use native.Mathlib.Nat.{sub-zero}
 use lib.ListN.{length, take, length-set}
 use Rattle.lists.specs.Fold.{tab, tab-step, tab-end}
-use Rattle.occupy.specs.Marking.{none}
+use Rattle.occupy.specs.Marking.{unmarked}
 use Rattle.occupy.proofs.inner.clear.Statement.{statement}
 use Rattle.occupy.proofs.inner.clear.Tie as tie
 
 abbrev Inv-loop : tie.InvT-loop
 Inv-loop mask₀ i₀ mask i =
-    (i ≤ length mask) × (length mask ≡ length mask₀) × (take i mask ++ tab none (length mask - i) i ≡ tab none (length mask₀) 0)
+    (i ≤ length mask) × (length mask ≡ length mask₀) × (take i mask ++ tab unmarked (length mask - i) i ≡ tab unmarked (length mask₀) 0)
 
 abbrev μ-loop : tie.MeasureT-loop
 μ-loop mask₀ i₀ mask i = length mask - i
@@ -32,13 +32,13 @@ loop-less c = simp length-set (omega arith)
 loop-again : tie.Need-loop-again Inv-loop μ-loop
 loop-again c =
     let l = c .before .loop in
-    simp length-set (omega arith, l .inv .1, tab-step none (l .mask) (l .i) (omega arith) ∙ l .inv .2)
+    simp length-set (omega arith, l .inv .1, tab-step unmarked (l .mask) (l .i) (omega arith) ∙ l .inv .2)
 
 same-length : tie.Need-same-length Inv-loop μ-loop
 same-length c = omega arith
 
 returns : tie.Need-returns Inv-loop μ-loop
-returns c = sym (tab-end none (c .before .loop .mask) (c .before .loop .i) (omega arith)) ∙ c .before .loop .inv .2
+returns c = sym (tab-end unmarked (c .before .loop .mask) (c .before .loop .i) (omega arith)) ∙ c .before .loop .inv .2
 
 pub clear-spec : {M : Type 1} → statement M
 clear-spec =
