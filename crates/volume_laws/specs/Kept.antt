@@ -179,7 +179,7 @@ corners-at s h a l =
     rw (← corners-list s) (floats-kept s h 6 at l (below-six (λ i. isNan (f32At s (at + i * 4)) ≡ false) n₀ n₁ n₂ n₃ n₄ n₅))
 
 -- what is left after the five entries of a file of five: the file's end
-ended : (s : List ℕ) (n : ℕ) → entriesAt s ≡ 5 → Laid s n → length s ≡ 96 + n * 70
+pub ended : (s : List ℕ) (n : ℕ) → entriesAt s ≡ 5 → Laid s n → length s ≡ 96 + n * 70
 unfolding contentsFrom
 ended s n e d =
     let z : entriesAt s - 5 ≡ 0 = omega arith in

@@ -1,3 +1,5 @@
 -- What is written is read back, every bit, and a file of kinds 1 to 5 that is read is written back, every byte.
 pub mod Written
 pub mod Kept
+pub mod RoundTrip
+pub mod Smallest

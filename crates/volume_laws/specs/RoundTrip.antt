@@ -1,0 +1,185 @@
+-- The two laws of the public calls. Written and then read: every bit returns. Read and then written, for a file of kinds 1 to 5: every
+-- byte returns. And 12 is answered exactly where the judge says faulty.
+use mathlib.Core.Path.{_≡_, refl, sym, ap, _∙_}
+use mathlib.Core.Bool.{Bool, true, false, cond, not, _||_, false≢true}
+use mathlib.Core.List.{List, [], _∷_}
+use mathlib.Core.Logic.{_↔_}
+use Prim.Native.Nat.{ℕ, _+_, _*_, _≤_}
+use native.Mathlib.Omega.{arith}
+use borrow.Author.Tests.{eq-eqb, eqb-true}
+use lib.Dec.{eqb}
+use lib.ListN.{length, drop, length-drop}
+use lib.Seq.{length-take-le}
+use lib.Ieee.{Float}
+use Rattle.names.specs.Refusals.{row, firstOf, unlessRefused, given}
+use Rattle.lists.specs.Fold.{length-tab}
+use Rattle.grid.specs.declared.Axes.{Axes}
+use Rattle.grid.specs.declared.Corners.{Corners}
+use Rattle.grid.specs.Grid.{voxels}
+use Rattle.bytes_le.specs.Bytes.{f32At, bytesAt}
+use Rattle.bytes_le.specs.RoundTrip.{AllFit, AllBytes}
+use Rattle.limits.specs.Limits.{badAxes, badGrid, badLights, badCoefficients, badMask}
+use Rattle.limits.specs.LimitsLaws.{either, three}
+use Rattle.contents.specs.Contents.{axesAt, entriesAt, offsetAt}
+use Rattle.contents.specs.ContentsLaws.{Laid}
+use Rattle.volume_file.specs.VolumeFile.{voxelsAt, lightAt, volumeAt, activeAt, occupiedAt, cornersAt, faulty}
+use Rattle.volume_file.specs.VolumeFileLaws.{Accepted, accepted-row, accepted-laid}
+use Rattle.volume_write.specs.FileBytes.{bytesFor, cornersList, fileBytes}
+use Rattle.volume.specs.declared.Head.{Head}
+use Rattle.volume.specs.Volume.{noHead, headAnswer, wrongLists, wrongBytes, badLists, readRefusal, VolumeRead, writeRefusal, VolumeWritten, fileRefusal, FileAxes}
+use Rattle.volume.specs.VolumeLaws.{lists-row}
+use Rattle.volume_laws.specs.Written.{Givens, Gives, Back, written-back}
+use Rattle.volume_laws.specs.Kept.{kept-back, ended}
+
+-- ---- rows that all pass
+
+write-passed : (b₁ b₂ b₃ b₄ b₅ : Bool) → 0 ≡ firstOf (row 1 b₁ ∷ row 2 b₂ ∷ row 3 b₃ ∷ row 3 b₄ ∷ row 13 b₅ ∷ [])
+    → (b₁ ≡ false) × (b₂ ≡ false) × (b₃ ≡ false) × (b₄ ≡ false) × (b₅ ≡ false)
+unfolding firstOf
+write-passed true b₂ b₃ b₄ b₅ e = absurd (omega arith)
+write-passed false true b₃ b₄ b₅ e = absurd (omega arith)
+write-passed false false true b₄ b₅ e = absurd (omega arith)
+write-passed false false false true b₅ e = absurd (omega arith)
+write-passed false false false false true e = absurd (omega arith)
+write-passed false false false false false e = (refl, refl, refl, refl, refl)
+
+read-passed : (b₁ b₂ : Bool) → firstOf (row 12 b₁ ∷ row 3 b₂ ∷ []) ≡ 0 → (b₁ ≡ false) × (b₂ ≡ false)
+unfolding firstOf
+read-passed true b₂ e = absurd (omega arith)
+read-passed false true e = absurd (omega arith)
+read-passed false false e = (refl, refl)
+
+lists-right : (n l v m o : ℕ) → l ≡ n → v ≡ n * 16 → m ≡ n → o ≡ n → wrongLists n l v m o ≡ false
+unfolding wrongLists
+lists-right n l v m o p q r t = rw (eq-eqb l n p, eq-eqb v (n * 16) q, eq-eqb m n r, eq-eqb o n t) refl
+
+lists-good : (l v : List Float) (m o : List ℕ) → badLists l v m o ≡ false → (badLights l ≡ false) × (badCoefficients v ≡ false) × (badMask m ≡ false) × (badMask o ≡ false)
+unfolding badLists
+lists-good l v m o e =
+    let p = either _ (badMask o) .0 e in
+    let q = three (badLights l) (badCoefficients v) (badMask m) .0 (p .0) in
+    (q .0, q .1, q .2, p .1)
+
+-- what the writer's answer 0 says of what it was given
+written-givens : (a : Axes) (c : Corners) (l v : List Float) (m o b : List ℕ) → AllFit l → AllFit v → AllFit (cornersList c) → 0 ≡ writeRefusal a c l v m o b → Givens a c l v m o
+unfolding writeRefusal
+written-givens a c l v m o b x y z e =
+    let p = write-passed (badAxes a) (badGrid c a) _ (wrongBytes (voxels a) (length b)) (badLists l v m o) e in
+    let q = lists-row (voxels a) (length l) (length v) (length m) (length o) (p .2) in
+    let r = lists-good l v m o (p .4) in
+    record {
+      axes = p .0;
+      grid = p .1;
+      light = q .0;
+      volume = q .1;
+      active = q .2;
+      occupied = q .3;
+      lights = r .0;
+      coefficients = r .1;
+      actives = r .2;
+      occupieds = r .3;
+      light-fits = x;
+      volume-fits = y;
+      corners-fit = z;
+    }
+
+-- ---- written, then read
+
+-- every bit that was written
+pub record Returned (a : Axes) (c : Corners) (l v : List Float) (m o : List ℕ) (r : Head) (l′ v′ : List Float) (m′ o′ : List ℕ) : Type 0 where
+  pub answer : r ≡ record { refusal = 0; axes = a; corners = c }
+  pub light : l′ ≡ l
+  pub volume : v′ ≡ v
+  pub active : m′ ≡ m
+  pub occupied : o′ ≡ o
+
+read-zero : (s : List ℕ) (l v : List Float) (m o : List ℕ) → Accepted s → length l ≡ voxelsAt s → length v ≡ voxelsAt s * 16 → length m ≡ voxelsAt s → length o ≡ voxelsAt s
+    → readRefusal s l v m o ≡ 0
+unfolding readRefusal firstOf
+read-zero s l v m o k p q r t = rw (accepted-row s .1 k, lists-right (voxelsAt s) (length l) (length v) (length m) (length o) p q r t) refl
+
+head-gives : (s : List ℕ) (a : Axes) (c : Corners) → axesAt s ≡ a → cornersAt s ≡ c → headAnswer s ≡ record { refusal = 0; axes = a; corners = c }
+unfolding headAnswer
+head-gives s a c e f = rw (e, f) refl
+
+pub written-read : (a : Axes) (c : Corners) (l v : List Float) (m o b b′ : List ℕ) (l₀ v₀ : List Float) (m₀ o₀ : List ℕ) (r : Head) (l′ v′ : List Float) (m′ o′ : List ℕ)
+    → AllFit l → AllFit v → AllFit (cornersList c)
+    → VolumeWritten a c l v m o b 0 b′
+    → length l₀ ≡ length l → length v₀ ≡ length v → length m₀ ≡ length m → length o₀ ≡ length o
+    → VolumeRead b′ l₀ v₀ m₀ o₀ r l′ v′ m′ o′
+    → Returned a c l v m o r l′ v′ m′ o′
+written-read a c l v m o b b′ l₀ v₀ m₀ o₀ r l′ v′ m′ o′ x y z w p q t u d =
+    let g : Givens a c l v m o = written-givens a c l v m o b x y z (w .answer) in
+    let e : b′ ≡ fileBytes a c l v m o = w .bytes ∙ sym (given _ _ _ (sym (w .answer))) in
+    let k : Back b′ a c l v m o = rw e (written-back a c l v m o g) in
+    let n : voxelsAt b′ ≡ voxels a = ap voxels (k .gives .axes) in
+    let zero : readRefusal b′ l₀ v₀ m₀ o₀ ≡ 0 =
+    read-zero b′ l₀ v₀ m₀ o₀ (k .accepted) (p ∙ g .light ∙ sym n) (q ∙ g .volume ∙ sym (ap (λ (i : ℕ). i * 16) n)) (t ∙ g .active ∙ sym n) (u ∙ g .occupied ∙ sym n) in
+    record {
+      answer = d .answer ∙ sym (given _ _ _ zero) ∙ head-gives b′ a c (k .gives .axes) (k .gives .corners);
+      light = d .light ∙ sym (given _ _ _ zero) ∙ k .gives .light;
+      volume = d .volume ∙ sym (given _ _ _ zero) ∙ k .gives .volume;
+      active = d .active ∙ sym (given _ _ _ zero) ∙ k .gives .active;
+      occupied = d .occupied ∙ sym (given _ _ _ zero) ∙ k .gives .occupied;
+    }
+
+-- ---- read, then written
+
+-- a refusal of 0 is no refusal
+head-zero : (s : List ℕ) (k : ℕ) (r : Head) → r ≡ unlessRefused k (headAnswer s) (noHead k) → r .refusal ≡ 0 → k ≡ 0
+unfolding unlessRefused noHead
+head-zero s k r e h = go (eqb k 0) refl e
+  where
+    go : (b : Bool) → eqb k 0 ≡ b → r ≡ cond b (headAnswer s) (noHead k) → k ≡ 0
+    go true f g = eqb-true k 0 f
+    go false f g = sym (ap (λ (x : Head). x .refusal) g) ∙ h
+
+write-zero : (a : Axes) (c : Corners) (l v : List Float) (m o b : List ℕ) → badAxes a ≡ false → badGrid c a ≡ false
+    → wrongLists (voxels a) (length l) (length v) (length m) (length o) ≡ false → length b ≡ bytesFor (voxels a)
+    → badLights l ≡ false → badCoefficients v ≡ false → badMask m ≡ false → badMask o ≡ false → writeRefusal a c l v m o b ≡ 0
+unfolding writeRefusal firstOf wrongBytes badLists
+write-zero a c l v m o b p q r t x y z w = rw (p, q, r, eq-eqb (length b) (bytesFor (voxels a)) t, x, y, z, w) refl
+
+part-length : (s : List ℕ) (at n : ℕ) → at + n ≤ length s → length (bytesAt s at n) ≡ n
+part-length s at n h = length-take-le n (drop at s) (rw (length-drop at s) (omega arith))
+
+pub read-written : (s : List ℕ) (l v : List Float) (m o : List ℕ) (r : Head) (l′ v′ : List Float) (m′ o′ b : List ℕ) (t : ℕ) (b′ : List ℕ)
+    → AllBytes s → entriesAt s ≡ 5
+    → VolumeRead s l v m o r l′ v′ m′ o′ → r .refusal ≡ 0
+    → length b ≡ length s
+    → VolumeWritten (r .axes) (r .corners) l′ v′ m′ o′ b t b′
+    → (t ≡ 0) × (b′ ≡ s)
+unfolding readRefusal headAnswer
+read-written s l v m o r l′ v′ m′ o′ b t b′ h five d z len w =
+    let zero : readRefusal s l v m o ≡ 0 = head-zero s (readRefusal s l v m o) r (d .answer) z in
+    let k : Accepted s = accepted-row s .0 (read-passed (faulty s) _ zero .0) in
+    let n : ℕ = voxelsAt s in
+    let la : Laid s n = accepted-laid s k in
+    let head : r ≡ headAnswer s = d .answer ∙ sym (given _ _ _ zero) in
+    let ax : r .axes ≡ axesAt s = ap (λ (x : Head). x .axes) head in
+    let co : r .corners ≡ cornersAt s = ap (λ (x : Head). x .corners) head in
+    let li : l′ ≡ lightAt s = d .light ∙ sym (given _ _ _ zero) in
+    let vo : v′ ≡ volumeAt s = d .volume ∙ sym (given _ _ _ zero) in
+    let ac : m′ ≡ activeAt s = d .active ∙ sym (given _ _ _ zero) in
+    let oc : o′ ≡ occupiedAt s = d .occupied ∙ sym (given _ _ _ zero) in
+    let w′ : VolumeWritten (axesAt s) (cornersAt s) (lightAt s) (volumeAt s) (activeAt s) (occupiedAt s) b t b′ = rw (ax, co, li, vo, ac, oc) at w in
+    let none : writeRefusal (axesAt s) (cornersAt s) (lightAt s) (volumeAt s) (activeAt s) (occupiedAt s) b ≡ 0 =
+    write-zero (axesAt s) (cornersAt s) (lightAt s) (volumeAt s) (activeAt s) (occupiedAt s) b (k .axes) (k .grid)
+    (lists-right n _ _ _ _
+    (length-tab (λ i. f32At s (offsetAt s 0 + i * 4)) n 0)
+    (length-tab (λ i. f32At s (offsetAt s 1 + i * 4)) (n * 16) 0)
+    (part-length s (offsetAt s 2) n (omega (arith, la .active, la .within)))
+    (part-length s (offsetAt s 3) n (omega (arith, la .occupied, la .within))))
+    (len ∙ ended s n five la) (k .lights) (k .coefficients) (k .active) (k .occupied) in
+    (w′ .answer ∙ none, w′ .bytes ∙ sym (given _ _ _ none) ∙ kept-back s h k five)
+
+-- ---- 12 exactly where the judge refuses
+
+file-12 : (b : Bool) → (firstOf (row 12 b ∷ []) ≡ 12) ↔ (b ≡ true)
+unfolding firstOf
+file-12 true = (λ e. refl, λ e. refl)
+file-12 false = (λ e. absurd (omega arith), λ e. absurd (false≢true e))
+
+pub refused-12 : (s : List ℕ) → (fileRefusal s ≡ 12) ↔ (faulty s ≡ true)
+unfolding fileRefusal
+refused-12 s = file-12 (faulty s)

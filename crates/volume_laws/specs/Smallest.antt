@@ -1,0 +1,61 @@
+-- Document 01's file of 166 bytes: 1 by 1 by 1, light .25, zero coefficients, masks 1, corners 0,0,0 and 1,1,1. It is accepted, its
+-- figures are 1 1 1 1 1 0, and it is what the writer writes of these. The empty input is refused 12. All by computation.
+use mathlib.Core.Path.{_≡_, refl}
+use mathlib.Core.Bool.{Bool, false}
+use mathlib.Core.List.{List, [], _∷_, _++_}
+use Prim.Native.Nat.{ℕ}
+use lib.ListN.{length, replicate}
+use lib.Ieee as Ieee
+use lib.Ieee.{Float}
+use Rattle.names.specs.Bits.{lit, zero32, one32}
+use Rattle.names.specs.Refusals.{firstOf, unlessRefused}
+use Rattle.lists.specs.Fold.{fold, tab}
+use Rattle.vectors.specs.Vectors.{vec}
+use Rattle.grid.specs.declared.Axes.{Axes}
+use Rattle.grid.specs.declared.Corners.{Corners}
+use Rattle.grid.specs.Grid.{edgesOf}
+use Rattle.limits.specs.Some.{some}
+use Rattle.limits.specs.Limits.{within, outsideV, badAxes, badCorners, badEdges, badMask, badLights, badCoefficients}
+use Rattle.marks.specs.Marks.{activeCount}
+use Rattle.bytes_le.specs.Bytes.{f32At, encode}
+use Rattle.contents.specs.Contents.{marked, headed, kindOf, bodyFits, entryGood, contentsFrom, offsetAt}
+use Rattle.volume_file.specs.VolumeFile.{cornersAt, badBodies, faulty}
+use Rattle.volume_write.specs.FileBytes.{contentsOf, fileBytes}
+use Rattle.volume.specs.Volume.{fileRefusal, figuresRefusal, figuresAnswer, zeroCount, wrongLists, wrongBytes, badLists, writeRefusal}
+
+pub smallest : List ℕ
+smallest =
+    86 ∷ 71 ∷ 82 ∷ 68 ∷ 1 ∷ 0 ∷ 1 ∷ 0 ∷ 1 ∷ 0 ∷ 5 ∷ 0 ∷ 1 ∷ 0 ∷ 0 ∷ 0 ∷ 72 ∷ 0 ∷ 0 ∷ 0 ∷ 4 ∷ 0 ∷ 0 ∷ 0 ∷ 2 ∷ 0 ∷ 0 ∷ 0 ∷ 76 ∷ 0 ∷ 0 ∷ 0 ∷ 64 ∷ 0 ∷ 0 ∷ 0 ∷ 3 ∷ 0 ∷ 0 ∷ 0 ∷ 140 ∷ 0 ∷ 0 ∷ 0 ∷ 1 ∷ 0 ∷ 0 ∷ 0 ∷ 4 ∷ 0 ∷ 0 ∷ 0 ∷ 141 ∷ 0 ∷ 0 ∷ 0 ∷ 1 ∷ 0 ∷ 0 ∷ 0 ∷ 5 ∷ 0 ∷ 0 ∷ 0 ∷ 142 ∷ 0 ∷ 0 ∷ 0 ∷ 24 ∷ 0 ∷ 0 ∷ 0 ∷ 0 ∷ 0 ∷ 128 ∷ 62 ∷ 0 ∷ 0 ∷ 0 ∷ 0 ∷ 0 ∷ 0 ∷ 0 ∷ 0 ∷ 0 ∷ 0 ∷ 0 ∷ 0 ∷ 0 ∷ 0 ∷ 0 ∷ 0 ∷ 0 ∷ 0 ∷ 0 ∷ 0 ∷ 0 ∷ 0 ∷ 0 ∷ 0 ∷ 0 ∷ 0 ∷ 0 ∷ 0 ∷ 0 ∷ 0 ∷ 0 ∷ 0 ∷ 0 ∷ 0 ∷ 0 ∷ 0 ∷ 0 ∷ 0 ∷ 0 ∷ 0 ∷ 0 ∷ 0 ∷ 0 ∷ 0 ∷ 0 ∷ 0 ∷ 0 ∷ 0 ∷ 0 ∷ 0 ∷ 0 ∷ 0 ∷ 0 ∷ 0 ∷ 0 ∷ 0 ∷ 0 ∷ 0 ∷ 0 ∷ 0 ∷ 0 ∷ 0 ∷ 0 ∷ 0 ∷ 1 ∷ 1 ∷ 0 ∷ 0 ∷ 0 ∷ 0 ∷ 0 ∷ 0 ∷ 0 ∷ 0 ∷ 0 ∷ 0 ∷ 0 ∷ 0 ∷ 0 ∷ 0 ∷ 128 ∷ 63 ∷ 0 ∷ 0 ∷ 128 ∷ 63 ∷ 0 ∷ 0 ∷ 128 ∷ 63 ∷ []
+
+pub one-voxel : Axes
+one-voxel = record { width = 1; height = 1; depth = 1 }
+
+pub unit-cube : Corners
+unit-cube = record { min = vec zero32 zero32 zero32; max = vec one32 one32 one32 }
+
+pub quarter : Float
+quarter = lit 0x3e800000
+
+pub smallest-offsets : (offsetAt smallest 0 ≡ 72) × (offsetAt smallest 1 ≡ 76) × (offsetAt smallest 2 ≡ 140) × (offsetAt smallest 3 ≡ 141) × (offsetAt smallest 4 ≡ 142)
+unfolding smallest
+smallest-offsets = (refl, refl, refl, refl, refl)
+
+pub smallest-accepted : figuresRefusal smallest ≡ 0
+unfolding smallest figuresRefusal firstOf faulty headed marked contentsFrom entryGood kindOf bodyFits badAxes badBodies cornersAt f32At tab some within outsideV badCorners badEdges edgesOf badMask badLights badCoefficients Ieee.ofBits Ieee.neg Ieee.le Ieee.lt Ieee.eq Ieee.sub Ieee.div Ieee.add Ieee.ofInt
+smallest-accepted = refl
+
+pub smallest-figures : figuresAnswer smallest ≡ record { refusal = 0; width = 1; height = 1; depth = 1; occupied = 1; active = 1; zeros = 0 }
+unfolding smallest figuresAnswer zeroCount activeCount fold tab f32At Ieee.ofBits Ieee.eq
+smallest-figures = refl
+
+pub smallest-written : fileBytes one-voxel unit-cube (quarter ∷ []) (replicate 16 zero32) (1 ∷ []) (1 ∷ []) ≡ smallest
+unfolding smallest one-voxel unit-cube quarter fileBytes contentsOf encode Ieee.toBits Ieee.ofBits
+smallest-written = refl
+
+pub smallest-writable : writeRefusal one-voxel unit-cube (quarter ∷ []) (replicate 16 zero32) (1 ∷ []) (1 ∷ []) (replicate 166 0) ≡ 0
+unfolding one-voxel unit-cube quarter writeRefusal firstOf badAxes wrongLists wrongBytes badLists some within outsideV badCorners badEdges edgesOf badMask badLights badCoefficients Ieee.ofBits Ieee.neg Ieee.le Ieee.lt Ieee.eq Ieee.sub Ieee.div Ieee.add Ieee.ofInt
+smallest-writable = refl
+
+pub empty-refused : figuresRefusal [] ≡ 12
+unfolding figuresRefusal firstOf faulty headed
+empty-refused = refl
