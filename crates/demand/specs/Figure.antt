@@ -1,13 +1,14 @@
 -- Document 01's figure: 3×1×1 all active, no triangles: allowance 384 takes three calls of 64 rays; 448 takes two, 128 then 64; 383 is refused 10.
 -- What the rays come to follows from the costs alone, so the figure is read off the bare bake of three voxels of 64 rays each.
 use mathlib.Core.Path.{_≡_, refl, ap, _∙_}
-use mathlib.Core.Bool.{true, false}
+use mathlib.Core.Bool.{true, false, false≢true}
 use mathlib.Core.List.{List, [], _∷_}
 use Prim.Native.Nat.{ℕ, zero, suc, _≤_, _<_}
 use native.Mathlib.Omega.{arith}
 use lib.Dec.{lit≤}
+use lib.ListN.{getD}
 use lib.Ieee as Ieee
-use lib.Ieee.{Float, ofBits, ofInt}
+use lib.Ieee.{Float, nan, ofBits, ofInt}
 use Rattle.spread.specs.Spread.{stage, Bake, Called, walk, call, run, EachAtLeast, NoneRefused}
 use Rattle.lists.specs.Any.{any}
 use Rattle.spread.specs.Bare.{bare, Agree, run-same}
@@ -20,7 +21,9 @@ use Rattle.scan.specs.Nearest.{nearestOf, nearestTo}
 use Rattle.harmonics.specs.Harmonics.{addedTo, irradianceOf, raisedOf, raisedV, flooredOf, luminanceOf, shortfallOf, blendedOf, blendedV}
 use Rattle.gather.specs.Gather.{settingOf, incomingBy, gatheredAlong, gatheringOf, voxelOf, finishedOf, sixteenOf, gatheredOf}
 use Rattle.gather.specs.GatherLaws.{cost-of-nothing}
+use Rattle.names.specs.Bits.{one32}
 use Rattle.marks.specs.Marks.{isActive}
+use Rattle.ends.specs.Ends.{ambientVoxel, ambientAt}
 use Rattle.spread.specs.Demand.{Fair}
 use Rattle.spread.specs.Holds.{no-call-refused, refusals-zero}
 use Rattle.intake.specs.Intake.{badVolume, bakeRefusal}
@@ -119,3 +122,17 @@ figure-383 =
       ap (λ (x : Called Float). x .rays ∷ []) c,
       ap (λ (x : Called Float). x .stage) c,
     )
+
+-- the first call of the three takes voxel 0 and no more
+pub figure-first : (run (bakeOf three) (384 ∷ []) begun .refusals ≡ 0 ∷ []) × (run (bakeOf three) (384 ∷ []) begun .rays ≡ 64 ∷ [])
+    × (run (bakeOf three) (384 ∷ []) begun .stage .progress ≡ 1)
+unfolding run call walk any
+figure-first =
+    let n = three-goes-on (384 ∷ []) (omega arith) in
+    let r = run-same (bakeOf three) threeBare agrees (384 ∷ []) begun (stage 0 [] []) refl (lit≤ tt) n (refl, tt) in
+    (refusals-zero (bakeOf three) three-fair (384 ∷ []) begun n, r .1, r .0)
+
+-- what is gathered for voxel 0 is not what it holds before: its first number is not ambient's 1
+pub gathered-differs : gatheredOf (gatherInput three) 0 ≡ ambientAt (three .ambient) (three .lights) 0 → ⊥
+unfolding gatheredOf voxelOf gatheringOf fold gatheredAlong incomingBy nearestOf nearestTo settingOf finishedOf sixteenOf addedTo irradianceOf raisedOf raisedV flooredOf luminanceOf shortfallOf blendedOf blendedV largerOf smallerOf scaleV addV mulV lerpV dotV largerV clampOf ofBits ofInt Ieee.add Ieee.sub Ieee.mul Ieee.div Ieee.neg Ieee.le Ieee.lt Ieee.eq Ieee.isNan ambientVoxel
+gathered-differs e = false≢true (ap (λ (l : List Float). Ieee.eq (getD l 0 nan) one32) e)
