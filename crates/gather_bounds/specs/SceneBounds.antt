@@ -1,0 +1,206 @@
+-- How large what a scene's surfaces send back is, where its numbers lie within document 01's limits.
+use mathlib.Core.Path.{_≡_, refl, sym, ap, _∙_, subst}
+use mathlib.Core.Bool.{Bool, true, false, cond, false≢true}
+use mathlib.Core.List.{List, [], _∷_}
+use Prim.Native.Nat.{ℕ, zero, suc, _+_, _*_, _^_, _<_, _≤_}
+use native.Mathlib.Nat.{add-zero}
+use native.Mathlib.Omega.{arith}
+use lib.Dec.{lit<, lit≤, eqb}
+use lib.ListN.{length, getD}
+use lib.Ieee as Ieee
+use lib.Ieee.{Float, nan, isNan, binary32, ofBits}
+use lib.Ieee.Scale.{finite}
+use Rattle.names.specs.Bits.{lit, zero32, one32}
+use Rattle.names.specs.Numbers.{thinLimit}
+use Rattle.names.specs.Scene.{Scene, Sound}
+use Rattle.lists.specs.Fold.{fold}
+use Rattle.floats.specs.FiniteLaws.{finite-number}
+use Rattle.floats.specs.OrderLaws.{not-lt-le}
+use Rattle.vectors.specs.declared.Vec3.{Vec3}
+use Rattle.vectors.specs.declared.Ray.{Ray}
+use Rattle.vectors.specs.declared.Triangle.{Triangle}
+use Rattle.vectors.specs.Vectors.{vec, subV, dotV, crossV, normalV}
+use Rattle.bounds.specs.Bounds.{AtMost, EachAtMost}
+use Rattle.bounds.specs.BoundsLaws.{at-most-up, at-most-finite, add-at-most, mul-at-most, zero-at-most}
+use Rattle.bounds.specs.VectorLaws.{sub-each, cross-each, dot-at-most, clamp-each}
+use Rattle.bounds.specs.NormalLaws.{thin-normal-within}
+use Rattle.triangle.specs.Places.{vecAt, triangleAt}
+use Rattle.triangle.specs.Meet.{absentOf, meetOf}
+use Rattle.triangle.specs.Laws.{hit-met}
+use Rattle.triangle.specs.declared.Meet.{Meet}
+use Rattle.triangle.specs.declared.Meet.the-variants.{Miss, Hit}
+use Rattle.scan.specs.Nearest.{nearestOf, nearestTo, nearerOf, meetAt, beats}
+use Rattle.scan.specs.declared.Nearest.{Nearest}
+use Rattle.scan.specs.declared.Nearest.the-variants.{Nothing, At}
+use Rattle.scan.specs.Hits.{hitsOf, placesOf}
+use Rattle.scan.specs.HitLaws.{places-below}
+use Rattle.scan.specs.Transmittance.{transmittanceOf, passOf, kindAt, transmissionAt, faintLimit}
+use Rattle.harmonics.specs.Harmonics.{zeroV, raisedV}
+use Rattle.bounce.specs.Light.{faceNormal, facingOf, blackOf, slantOf}
+use Rattle.surface.specs.declared.Setting.{Setting}
+use Rattle.surface.specs.declared.Surface.{Surface}
+use Rattle.surface.specs.declared.Seen.{Seen}
+use Rattle.surface.specs.declared.Traced.{Traced}
+use Rattle.surface.specs.Surface.{surfaceOf, seenBy, seenOf, sunOf, skyOf, bouncedBy, skyRay, sunRay}
+use Rattle.gather_bounds.specs.Each.{each-up, zero-each, AllAtMost, one-small}
+use Rattle.gather_bounds.specs.LightBounds.{raised-each, facing-each, skylight-each, sunlight-each, reflected-each}
+
+-- the numbers of a scene lie within the limits
+pub record Modest (s : Scene) : Type 0 where
+  pub sound : Sound s
+  pub points : (i : ℕ) → i < length (s .points) → AtMost 1 12 (getD (s .points) i nan)
+  pub colours : (m c : ℕ) → m < length (s .kinds) → c < 6 → AtMost 1 16 (getD (s .numbers) (m * 7 + c) nan)
+  pub transmissions : (m : ℕ) → m < length (s .kinds) → AtMost 1 0 (getD (s .numbers) (m * 7 + 6) nan)
+
+-- what lights a scene does
+pub record ModestSetting (s : Setting) : Type 0 where
+  pub toward : EachAtMost 1 1 (s .toward)
+  pub colour : EachAtMost 1 16 (s .colour)
+  pub ambient : AllAtMost 1 16 (s .ambient)
+
+-- ---- transmittance is at most 1
+
+abbrev Below : ℕ → List ℕ → Type 0
+Below n [] = Unit
+Below n (i ∷ is) = (i < n) × Below n is
+
+below : (n : ℕ) (is : List ℕ) → ((j : ℕ) → j < length is → getD is j 0 < n) → Below n is
+below n [] f = tt
+below n (i ∷ is) f = (f 0 (omega arith), below n is (λ j h. f (suc j) (omega arith)))
+
+-- not at most, and a number: above
+above : (x y : Float) → isNan x ≡ false → isNan y ≡ false → Ieee.le y x ≡ false → Ieee.lt x y ≡ true
+above x y p o h = go (Ieee.lt x y) refl
+  where
+    go : (b : Bool) → Ieee.lt x y ≡ b → b ≡ true
+    go true e = refl
+    go false e = absurd (false≢true (sym h ∙ not-lt-le y x o p e))
+
+thin-number : isNan thinLimit ≡ false
+unfolding isNan ofBits
+thin-number = refl
+
+number : (x : Float) → AtMost 1 16 x → isNan x ≡ false
+number x h = finite-number x (at-most-finite x 1 16 h)
+
+module _ (s : Scene) (m : Modest s) where
+  transmission-small : (i : ℕ) → i < length (s .uses) → AtMost 1 0 (transmissionAt (s .uses) (s .numbers) i)
+  transmission-small i h = m .transmissions (getD (s .uses) i 0) (m .sound .within i h)
+
+  pass-small : (w : Float) (is : List ℕ) → AtMost 1 0 w → Below (length (s .uses)) is → AtMost 1 0 (passOf (s .uses) (s .kinds) (s .numbers) w is)
+  unfolding passOf
+  pass-small w [] h b = h
+  pass-small w (i ∷ is) h b =
+      let x = mul-at-most w (transmissionAt (s .uses) (s .numbers) i) 1 0 1 0 (lit< tt) (lit< tt) h (transmission-small i (b .0)) in
+      go (eqb (kindAt (s .uses) (s .kinds) i) 0) (Ieee.le (Ieee.mul binary32 w (transmissionAt (s .uses) (s .numbers) i)) faintLimit) _ (pass-small _ is x (b .1))
+    where
+      go : (p q : Bool) (r : Float) → AtMost 1 0 r → AtMost 1 0 (cond p zero32 (cond q zero32 r))
+      go true q r k = zero-at-most 1 0
+      go false true r k = zero-at-most 1 0
+      go false false r k = k
+
+  pub transmittance-small : (ray : Ray) → AtMost 1 0 (transmittanceOf s ray)
+  unfolding transmittanceOf
+  transmittance-small ray = pass-small one32 _ one-small (below (length (s .uses)) (placesOf (hitsOf (s .points) ray (length (s .uses)))) (places-below (s .points) ray (length (s .uses))))
+
+  -- ---- the normal of a triangle that is met
+
+  -- three points of the list
+  point-small : (i c : ℕ) → i < length (s .uses) → c + 2 < 9 → EachAtMost 1 12 (vecAt (s .points) (i * 9 + c))
+  point-small i c h k =
+      let l = m .sound .points in
+      record { x = m .points (i * 9 + c) (omega arith); y = m .points (i * 9 + c + 1) (omega arith); z = m .points (i * 9 + c + 2) (omega arith) }
+
+  first-small : (i : ℕ) → i < length (s .uses) → EachAtMost 1 12 (vecAt (s .points) (i * 9))
+  first-small i h =
+      let l = m .sound .points in
+      record { x = m .points (i * 9) (omega arith); y = m .points (i * 9 + 1) (omega arith); z = m .points (i * 9 + 2) (omega arith) }
+
+  normal-small : (i : ℕ) → i < length (s .uses) → absentOf (triangleAt (s .points) i) ≡ false → EachAtMost 1 1 (faceNormal (triangleAt (s .points) i))
+  unfolding absentOf faceNormal triangleAt
+  normal-small i h a =
+      let p = vecAt (s .points) (i * 9) in
+      let one = sub-each (vecAt (s .points) (i * 9 + 3)) p 1 1 12 (lit< tt) (lit< tt) (point-small i 3 h (lit< tt)) (first-small i h) in
+      let two = sub-each (vecAt (s .points) (i * 9 + 6)) p 1 1 12 (lit< tt) (lit< tt) (point-small i 6 h (lit< tt)) (first-small i h) in
+      let cross = cross-each _ _ 2 12 2 12 (lit< tt) (lit< tt) one two in
+      let f = at-most-finite _ 192 48 (dot-at-most _ _ 8 24 8 24 (lit< tt) (lit< tt) cross cross) in
+      thin-normal-within _ (above thinLimit _ thin-number (finite-number _ f) a) f
+
+  -- ---- where a surface is met, a triangle of the scene is
+
+  abbrev pub FoundAt : Ray → ℕ → Nearest → Type 0
+  FoundAt ray n Nothing = Unit
+  FoundAt ray n (At place t u v) = (place < n) × (meetAt s ray place ≡ Hit t u v)
+
+  later : (ray : Ray) (n : ℕ) (found : Nearest) → FoundAt ray n found → FoundAt ray (suc n) found
+  later ray n Nothing h = tt
+  later ray n (At place t u v) h = (omega (arith, h .0), h .1)
+
+  nearer-found : (ray : Ray) (n : ℕ) (best : Nearest) (a : Meet) → meetAt s ray n ≡ a → FoundAt ray n best → FoundAt ray (suc n) (nearerOf best n a)
+  unfolding nearerOf
+  nearer-found ray n best Miss e h = later ray n best h
+  nearer-found ray n Nothing (Hit t u v) e h = (omega arith, e)
+  nearer-found ray n (At place r p q) (Hit t u v) e h = go (beats t n r place)
+    where
+      go : (b : Bool) → FoundAt ray (suc n) (cond b (At n t u v) (At place r p q))
+      go true = (omega arith, e)
+      go false = (omega (arith, h .0), h .1)
+
+  pub nearest-found : (ray : Ray) (n : ℕ) → FoundAt ray n (nearestTo s ray n)
+  unfolding nearestTo
+  nearest-found ray zero = tt
+  nearest-found ray (suc n) = nearer-found ray n (nearestTo s ray n) (meetAt s ray n) refl (nearest-found ray n)
+
+  -- ---- a surface
+
+  pub record ModestSurface (f : Surface) : Type 0 where
+    pub normal : EachAtMost 1 1 (f .normal)
+    pub albedo : EachAtMost 1 0 (f .albedo)
+    pub emissive : EachAtMost 1 16 (f .emissive)
+
+  colour-small : (k c : ℕ) → k < length (s .kinds) → c + 2 < 6 → EachAtMost 1 16 (vecAt (s .numbers) (k * 7 + c))
+  colour-small k c h g =
+      let p : k * 7 + c + 1 ≡ k * 7 + (c + 1) = omega arith in
+      let q : k * 7 + c + 2 ≡ k * 7 + (c + 2) = omega arith in
+      record { x = m .colours k c h (omega arith); y = rw p (m .colours k (c + 1) h (omega arith)); z = rw q (m .colours k (c + 2) h (omega arith)) }
+
+  base-small : (k : ℕ) → k < length (s .kinds) → EachAtMost 1 16 (vecAt (s .numbers) (k * 7))
+  base-small k h =
+      record { x = rw add-zero at (m .colours k 0 h (lit< tt)); y = m .colours k 1 h (lit< tt); z = m .colours k 2 h (lit< tt) }
+
+  pub surface-small : (ray : Ray) (place : ℕ) (t u v bias : Float) → place < length (s .uses) → meetAt s ray place ≡ Hit t u v → ModestSurface (surfaceOf s ray place t bias)
+  unfolding surfaceOf
+  surface-small ray place t u v bias h e =
+      let k = getD (s .uses) place 0 in
+      let g = m .sound .within place h in
+      let n = hit-met ray (triangleAt (s .points) place) t u v e .present in
+      let b = base-small k g in
+      record { normal = facing-each _ (ray .direction) 1 1 (normal-small place h n); albedo = clamp-each _ (number _ (b .x)) (number _ (b .y)) (number _ (b .z)); emissive = raised-each _ 1 16 (colour-small k 3 g (lit< tt)) }
+
+  -- ---- its light: at most 12 · 2^18
+
+  module _ (g : Setting) (h : ModestSetting g) (f : Surface) (k : ModestSurface f) where
+    seen-small : AtMost 4 0 (seenOf s g f .sum)
+    unfolding seenOf fold seenBy
+    seen-small =
+        add-at-most _ _ 3 1 0 (lit< tt) (lit< tt) (add-at-most _ _ 2 1 0 (lit< tt) (lit< tt) (add-at-most _ _ 1 1 0 (lit< tt) (lit< tt) (add-at-most zero32 _ 0 1 0 (lit< tt) (lit< tt) (zero-at-most 0 0) (transmittance-small (skyRay g f 0))) (transmittance-small (skyRay g f 1))) (transmittance-small (skyRay g f 2))) (transmittance-small (skyRay g f 3))
+
+    sky-small : EachAtMost 16 17 (skyOf s g f .light)
+    unfolding skyOf
+    sky-small = skylight-each (g .ambient) (f .normal) (seenOf s g f .sum) (h .ambient) (k .normal) seen-small
+
+    sun-small : EachAtMost 3 18 (sunOf s g f .light)
+    unfolding sunOf
+    sun-small = go (Ieee.lt zero32 (slantOf (f .normal) (g .toward))) _ _ (sunlight-each (g .colour) (f .normal) (g .toward) _ (h .colour) (k .normal) (h .toward) (transmittance-small (sunRay g f))) (zero-each 3 18)
+      where
+        go : (b : Bool) (x y : Traced) → EachAtMost 3 18 (x .light) → EachAtMost 3 18 (y .light) → EachAtMost 3 18 (cond b x y .light)
+        go true x y p q = p
+        go false x y p q = q
+
+    pub bounced-small : EachAtMost 12 18 (bouncedBy s g f .light)
+    unfolding bouncedBy
+    bounced-small = go (blackOf (f .albedo) (f .emissive)) _ _ (zero-each 12 18) (reflected-each (f .albedo) (f .emissive) _ _ (k .albedo) (k .emissive) sun-small sky-small)
+      where
+        go : (b : Bool) (x y : Traced) → EachAtMost 12 18 (x .light) → EachAtMost 12 18 (y .light) → EachAtMost 12 18 (cond b x y .light)
+        go true x y p q = p
+        go false x y p q = q
