@@ -2,20 +2,21 @@
 use mathlib.Core.Path.{_≡_, refl, sym, _∙_}
 use mathlib.Core.Bool.{false}
 use mathlib.Core.List.{List, [], _∷_}
-use Prim.Native.Nat.{ℕ, _*_}
+use Prim.Native.Nat.{ℕ, _+_, _*_, _<_}
 use native.Mathlib.Omega.{arith}
 use lib.ListN.{length}
 use lib.Ieee.{Float, ofBits, ofFields, add, div, mul, neg, le, lt, eq, ofInt, round, sum, units, odd, size, climb, span}
 use borrow.Author.Tests.{eqb-true, not-false}
 use Rattle.names.specs.Bits.{lit, half32, one32, zero32}
 use Rattle.names.specs.Refusals.{firstOf, kept, given}
-use Rattle.lists.specs.Fold.{fold, tab}
+use Rattle.lists.specs.Fold.{fold, tab, place}
 use Rattle.grid.specs.declared.Axes.{Axes}
 use Rattle.grid.specs.Grid.{voxels, AxesWithin}
 use Rattle.limits.specs.Limits.{within, badAxes, badLights, wrongLength}
 use Rattle.limits.specs.LimitsLaws.{axes-row, either}
 use Rattle.limits.specs.Some.{some}
 use Rattle.means.specs.Box.{lightBlurOf, squareAt, coefficientBlurOf, meanAt, meanIn, around, along}
+use Rattle.means.specs.BoxLaws.{Neighbour}
 use Rattle.passed.specs.Passed.{passed}
 use Rattle.blurs.specs.Blurs.{wrongLists, lightBlurRows, lightBlurRefusal, LightBlurred, coefficientBlurRows, coefficientBlurRefusal, CoefficientsBlurred}
 
@@ -67,6 +68,11 @@ unfolding coefficientBlurRefusal
 coefficient-blur-fitting axes volume scratch e =
     let p = passed (coefficientBlurRows axes volume scratch) (omega arith, (omega arith, (omega arith, tt))) e in
     fitting axes 16 volume scratch (p .0) (p .1 .0)
+
+-- ---- what a mean reads lies in the list: number c of a voxel that is in the grid
+
+pub read-within : (w h d x y z v stride c : ℕ) → Neighbour w h d x y z v → c < stride → v * stride + c < d * h * w * stride
+read-within w h d x y z v stride c o h' = place (rw (o .at) (place (place (o .in-z .0) (o .in-y .0)) (o .in-x .0))) h'
 
 -- ---- how a call meets its contract
 

@@ -3,7 +3,7 @@ use mathlib.Core.Path.{_≡_, refl, sym, _∙_}
 use mathlib.Core.Bool.{Bool, true, false, cond, not, _&&_, _||_, and-eq-true-iff}
 use mathlib.Core.Logic.{_⊎_, inl, inr}
 use mathlib.Core.List.{List}
-use Prim.Native.Nat.{ℕ, zero, suc, _+_, _-_, _/_, _<_}
+use Prim.Native.Nat.{ℕ, zero, suc, _+_, _-_, _*_, _/_, _<_}
 use native.Mathlib.Omega.{arith}
 use native.Mathlib.Nat.{zero-add}
 use lib.Dec.{eqb}
@@ -40,6 +40,10 @@ pub record Sampled (axes : Axes) (corners : Corners) (points : List Float) (i : 
       : sampleCell axes (corners .min) (edgesOf corners axes) (triangleAt points k)
       (sideOf (sampleCount (triangleAt points k) (smallestEdgeOf (edgesOf corners axes)))) iu iv
       ≡ i
+
+-- its nine numbers stand in the list
+pub points-within : (points : List Float) (k : ℕ) → k < length points / 9 → k * 9 + 8 < length points
+points-within points k h = omega arith
 
 not-in : (b : Bool) → b ≡ false → not b ≡ true
 not-in b e = rw e refl
