@@ -1,14 +1,21 @@
 -- What the lookups' definitions mean: k is refused exactly when row k holds and none before it; what stands where nothing is refused;
 -- a part is empty exactly when its companion's number is not zero.
-use mathlib.Core.Path.{_≡_, refl, sym, ap}
-use mathlib.Core.Bool.{Bool, true, false}
+use mathlib.Core.Path.{_≡_, refl, sym, ap, ap₂, _∙_}
+use mathlib.Core.Bool.{Bool, true, false, _||_}
 use mathlib.Core.Logic.{_↔_}
-use mathlib.Core.List.{List, [], _∷_}
-use Prim.Native.Nat.{ℕ, _+_, _*_, _^_, _≤_, _<_}
+use mathlib.Core.List.{List, [], _∷_, List·Memᴰ, List·Memᴰ·head, List·Memᴰ·tail}
+use Prim.Native.Nat.{ℕ, zero, suc, _+_, _*_, _^_, _≤_, _<_}
 use native.Mathlib.Omega.{arith}
 use borrow.Author.Tests.{eqb-true, leb-false, not-false}
-use lib.ListN.{length, length-take, length-drop}
-use lib.Ieee.{Float}
+use lib.ListN.{length, getD, length-take, length-drop}
+use lib.Seq.{getD-take, getD-drop}
+use lib.Ieee.{Float, nan}
+use Rattle.names.specs.Numbers.{lightLimit}
+use Rattle.lists.specs.Fold.{tab}
+use Rattle.limits.specs.Some.{some}
+use Rattle.limits.specs.Limits.{outside, badCoefficients}
+use Rattle.lookup.specs.declared.Cells.{Cells}
+use Rattle.lookup.specs.Place.{cellsOf, cellsRead, blendedOf}
 use Rattle.names.specs.Refusals.{row, firstOf, FirstIs, NoneHolds, first-given, first-found, none-given, none-found, kept, given}
 use Rattle.vectors.specs.declared.Vec3.{Vec3}
 use Rattle.grid.specs.declared.Axes.{Axes}
@@ -16,7 +23,7 @@ use Rattle.grid.specs.declared.Corners.{Corners}
 use Rattle.grid.specs.Grid.{voxels, AxesWithin}
 use Rattle.grid.specs.GridLaws.{voxels-most}
 use Rattle.limits.specs.LimitsLaws.{axes-row, either}
-use Rattle.lookup.specs.Lookup.{lightRows, lightRefusal, coefficientRows, coefficientRefusal, partRows, partRefusal, partOf, sixteen}
+use Rattle.lookup.specs.Lookup.{badLightCells, lightRows, lightRefusal, lightAtOf, badVolumeCells, coefficientRows, coefficientRefusal, numberBlend, coefficientBlend, coefficientsAtOf, partRows, partRefusal, partOf, sixteen}
 
 -- ---- the refusals
 
@@ -32,6 +39,67 @@ module _ (a : Axes) (c : Corners) (l : List Float) (p : Vec3) where
 
   pub coefficients-accepted : (coefficientRefusal a c l p ≡ 0) ↔ NoneHolds (coefficientRows a c l p)
   coefficients-accepted = (none-found (coefficientRows a c l p) (omega arith, (omega arith, (omega arith, (omega arith, (omega arith, tt))))), none-given)
+
+-- ---- no number but those of the eight cells changes an answer
+
+-- what stands at place k of the sixteen
+in-sixteen : (l m : List Float) (i k : ℕ) → k < 16 → sixteen l i ≡ sixteen m i → getD l (i * 16 + k) nan ≡ getD m (i * 16 + k) nan
+in-sixteen l m i k h e = sym (at l) ∙ ap (λ (t : List Float). getD t k nan) e ∙ at m
+  where
+    at : (t : List Float) → getD (sixteen t i) k nan ≡ getD t (i * 16 + k) nan
+    at t = rw (getD-take, getD-drop)
+
+tab-same : {A : Type 0} (f g : ℕ → A) (k i : ℕ) → ((j : ℕ) → i ≤ j → j < i + k → f j ≡ g j) → tab f k i ≡ tab g k i
+unfolding tab
+tab-same f g zero i e = refl
+tab-same f g (suc k) i e = ap₂ (λ x l. x ∷ l) (e i (omega arith) (omega arith)) (tab-same f g k (i + 1) (λ j p q. e j (omega arith) (omega arith)))
+
+some-same : (f g : ℕ → Bool) (l : List ℕ) → ((i : ℕ) → List·Memᴰ i l → f i ≡ g i) → some f l ≡ some g l
+unfolding some
+some-same f g [] e = refl
+some-same f g (x ∷ l) e =
+    ap₂ (λ (a b : Bool). a || b) (e x (List·Memᴰ·head refl)) (some-same f g l (λ i h. e i (List·Memᴰ·tail h)))
+
+blend-same : (c : Cells) (f g : ℕ → Float) → ((i : ℕ) → List·Memᴰ i (cellsRead c) → f i ≡ g i) → blendedOf c f ≡ blendedOf c g
+unfolding blendedOf
+blend-same c f g e =
+    let h0 : List·Memᴰ (c .c000) (cellsRead c) = List·Memᴰ·head refl in
+    let h1 : List·Memᴰ (c .c100) (cellsRead c) = List·Memᴰ·tail (List·Memᴰ·head refl) in
+    let h2 : List·Memᴰ (c .c010) (cellsRead c) = List·Memᴰ·tail (List·Memᴰ·tail (List·Memᴰ·head refl)) in
+    let h3 : List·Memᴰ (c .c110) (cellsRead c) = List·Memᴰ·tail (List·Memᴰ·tail (List·Memᴰ·tail (List·Memᴰ·head refl))) in
+    let h4 : List·Memᴰ (c .c001) (cellsRead c) = List·Memᴰ·tail (List·Memᴰ·tail (List·Memᴰ·tail (List·Memᴰ·tail (List·Memᴰ·head refl)))) in
+    let h5 : List·Memᴰ (c .c101) (cellsRead c) = List·Memᴰ·tail (List·Memᴰ·tail (List·Memᴰ·tail (List·Memᴰ·tail (List·Memᴰ·tail (List·Memᴰ·head refl))))) in
+    let h6 : List·Memᴰ (c .c011) (cellsRead c) = List·Memᴰ·tail (List·Memᴰ·tail (List·Memᴰ·tail (List·Memᴰ·tail (List·Memᴰ·tail (List·Memᴰ·tail (List·Memᴰ·head refl)))))) in
+    let h7 : List·Memᴰ (c .c111) (cellsRead c) = List·Memᴰ·tail (List·Memᴰ·tail (List·Memᴰ·tail (List·Memᴰ·tail (List·Memᴰ·tail (List·Memᴰ·tail (List·Memᴰ·tail (List·Memᴰ·head refl))))))) in
+    rw (e (c .c000) h0, e (c .c100) h1, e (c .c010) h2, e (c .c110) h3, e (c .c001) h4, e (c .c101) h5, e (c .c011) h6, e (c .c111) h7)
+
+bad-same : (c : Cells) (l m : List Float) → ((i : ℕ) → List·Memᴰ i (cellsRead c) → getD l i nan ≡ getD m i nan) → badLightCells l c ≡ badLightCells m c
+unfolding badLightCells
+bad-same c l m e = some-same _ _ (cellsRead c) (λ i h. ap (outside lightLimit) (e i h))
+
+pub light-reads-only : (a : Axes) (c : Corners) (l m : List Float) (p : Vec3) → length l ≡ length m
+    → ((i : ℕ) → List·Memᴰ i (cellsRead (cellsOf a c p)) → getD l i nan ≡ getD m i nan)
+    → lightAtOf a c l p ≡ lightAtOf a c m p
+unfolding lightAtOf
+light-reads-only a c l m p e r =
+    rw (e, bad-same (cellsOf a c p) l m r, blend-same (cellsOf a c p) (λ (i : ℕ). getD l i nan) (λ (i : ℕ). getD m i nan) r)
+
+bad-volume-same : (c : Cells) (l m : List Float) → ((i : ℕ) → List·Memᴰ i (cellsRead c) → sixteen l i ≡ sixteen m i) → badVolumeCells l c ≡ badVolumeCells m c
+unfolding badVolumeCells
+bad-volume-same c l m e = some-same _ _ (cellsRead c) (λ i h. ap badCoefficients (e i h))
+
+numbers-same : (c : Cells) (l m : List Float) → ((i : ℕ) → List·Memᴰ i (cellsRead c) → sixteen l i ≡ sixteen m i) → coefficientBlend l c ≡ coefficientBlend m c
+unfolding coefficientBlend
+numbers-same c l m e =
+    tab-same (numberBlend l c) (numberBlend m c) 16 0
+    (λ k p q. blend-same c (λ (i : ℕ). getD l (i * 16 + k) nan) (λ (i : ℕ). getD m (i * 16 + k) nan) (λ i h. in-sixteen l m i k (omega arith) (e i h)))
+
+pub coefficients-read-only : (a : Axes) (c : Corners) (l m : List Float) (p : Vec3) → length l ≡ length m
+    → ((i : ℕ) → List·Memᴰ i (cellsRead (cellsOf a c p)) → sixteen l i ≡ sixteen m i)
+    → coefficientsAtOf a c l p ≡ coefficientsAtOf a c m p
+unfolding coefficientsAtOf
+coefficients-read-only a c l m p e r =
+    rw (e, bad-volume-same (cellsOf a c p) l m r, numbers-same (cellsOf a c p) l m r)
 
 -- ---- one voxel's part
 

@@ -1,16 +1,24 @@
 -- What the places mean: a clamped cell is the cell itself within the axis and the last past its end; the cells read lie in the grid.
-use mathlib.Core.Path.{_≡_, refl}
-use mathlib.Core.Bool.{Bool, true, false, _||_, or-false}
+use mathlib.Core.Path.{_≡_, refl, sym, ap, _∙_}
+use mathlib.Core.Bool.{Bool, true, false, _||_, _&&_, or-false, false≢true}
 use Prim.Native.Nat.{ℕ, _+_, _-_, _*_, _≤_, _<_}
+use native.Mathlib.Nat.{not-le-of-lt, zero-mul, mul-one, mul-right-comm, mul-pos, le-min, le-div-iff-mul-le, le-of-mul-le-mul-right}
 use native.Mathlib.Omega.{arith}
-use lib.Dec.{ltb}
-use lib.Ieee.{Float, toUnsigned}
-use borrow.Author.Tests.{lt-ltb, le-ltb, ltb-true, ltb-false}
+use lib.Dec.{ltb, eqb}
+use lib.IntN.{pos}
+use lib.Ieee as Ieee
+use lib.Ieee.{Float, nan, inf, fin, up, down, binary32, lt, le, eq, toUnsigned}
+use lib.Ieee.Exact.{HasValue}
+use lib.Ieee.Back.{round-whole}
+use lib.Ieee.Fits.{down-pos}
+use Rattle.names.specs.Bits.{zero32}
+use Rattle.names.specs.Numbers.{axisLimit}
+use borrow.Author.Tests.{lt-ltb, le-ltb, ltb-true, ltb-false, eqb-true}
 use Rattle.floats.specs.Whole.{floorOf}
 use Rattle.vectors.specs.declared.Vec3.{Vec3}
 use Rattle.grid.specs.declared.Axes.{Axes}
 use Rattle.grid.specs.declared.Corners.{Corners}
-use Rattle.grid.specs.Grid.{voxels, AxesWithin}
+use Rattle.grid.specs.Grid.{voxels, floatOf, AxesWithin}
 use Rattle.lists.specs.Fold.{place}
 use Rattle.grid.specs.GridLaws.{index-within}
 use Rattle.limits.specs.Some.{some}
@@ -101,3 +109,55 @@ pub blended-same : (c : Cells) (f g : ℕ → Float) → ((i : ℕ) → f i ≡ 
 unfolding blendedOf
 blended-same c f g e =
     rw (e (c .c000), e (c .c100), e (c .c010), e (c .c110), e (c .c001), e (c .c101), e (c .c011), e (c .c111))
+
+-- ---- past the ends of an axis
+
+and-true-left : (a b : Bool) → a && b ≡ true → a ≡ true
+and-true-left true b e = refl
+and-true-left false b e = e
+
+and-true-right : (a b : Bool) → a && b ≡ true → b ≡ true
+and-true-right true b e = e
+and-true-right false b e = absurd (false≢true e)
+
+-- a floor below 0 is cell 0
+pub cell-below : (n : ℕ) (g : Float) → 1 ≤ n → lt g zero32 ≡ true → cellOf n g ≡ 0
+unfolding cellOf toUnsigned lt Ieee.ofBits
+cell-below n nan h e = absurd (false≢true e)
+cell-below n (inf true) h e = clamped-same n 0 h
+cell-below n (inf false) h e = absurd (false≢true e)
+cell-below n (fin true m d) h e = clamped-same n 0 h
+cell-below n (fin false m d) h e =
+    let p : m * up d * down (pos 0) < 0 * up (pos 0) * down d = ltb-true _ _ e in absurd (omega (arith, p, zero-mul (down d)))
+
+-- a number that is at least n holds at least n whole ones
+at-most : (a b : ℕ) (c : Bool) → (ltb a b || eqb a b && c) ≡ true → a ≤ b
+at-most a b c e = go (ltb a b) refl e
+  where
+    go : (t : Bool) → ltb a b ≡ t → (t || eqb a b && c) ≡ true → a ≤ b
+    go true p q = let r = ltb-true a b p in omega arith
+    go false p q = let r = eqb-true a b (and-true-left (eqb a b) c q) in omega arith
+
+whole-most : (n : ℕ) → 1 ≤ n → n ≤ axisLimit → (x y : Float) → HasValue x false n 1 → le x y ≡ true → n ≤ toUnsigned 64 y
+unfolding le lt eq toUnsigned
+whole-most n h k nan y v q = absurd v
+whole-most n h k (inf s) y v q = absurd v
+whole-most n h k (fin true m e) y v q = absurd (false≢true (sym (v .0)))
+whole-most n h k (fin false m e) nan v q = absurd (false≢true q)
+whole-most n h k (fin false m e) (inf true) v q = absurd (false≢true q)
+whole-most n h k (fin false m e) (inf false) v q = omega arith
+whole-most n h k (fin false m e) (fin true l d) v q =
+    let z : m * up e * down d ≡ 0 = eqb-true _ 0 (and-true-right (eqb (m * up e * down d) (l * up d * down e)) _ q) in
+    let s : m * up e ≡ n * down e = sym (mul-one (m * up e)) ∙ v .1 in
+    let t : 0 < n * down e * down d = mul-pos (mul-pos h (down-pos e)) (down-pos d) in
+    absurd (not-le-of-lt t (omega (arith, ap (λ (w : ℕ). w * down d) s, z)))
+whole-most n h k (fin false m e) (fin false l d) v q =
+    let r : m * up e * down d ≤ l * up d * down e = at-most _ _ _ q in
+    let s : m * up e ≡ n * down e = sym (mul-one (m * up e)) ∙ v .1 in
+    let t : n * down d * down e ≤ l * up d * down e = rw (mul-right-comm n (down d) (down e), ← s) r in
+    le-min (le-div-iff-mul-le (down-pos d) .1 (le-of-mul-le-mul-right t (down-pos e))) (omega arith)
+
+-- a floor at the axis' end or past it is the last cell
+pub cell-past : (n : ℕ) (g : Float) → 1 ≤ n → n ≤ axisLimit → le (floatOf n) g ≡ true → cellOf n g ≡ n - 1
+unfolding cellOf Ieee.ofInt
+cell-past n g h k e = clamped-last n _ (whole-most n h k (floatOf n) g (round-whole binary32 false n (omega arith)) e)

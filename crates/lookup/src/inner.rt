@@ -1,60 +1,20 @@
-// From a position to its eight cells, and the blend between them.
+// From a position to its eight cells, the tests of what stands in them, and the blend between them.
 ghost use mathlib.Core.Path.{_≡_};
-ghost use Prim.Native.Nat.{_<_, _≤_};
-ghost use lib.Ieee.{toUnsigned};
-ghost use Rattle.names.specs.Numbers.{axisLimit};
-ghost use Rattle.lookup.specs.Place.{clamped, Placed, Along, Found, Inside, cellsFrom, blendOf, blendedOf, Readable};
-ghost use Rattle.lookup.specs.Lookup.{badLightCells, badVolumeCells, sixteen, lightBlend, numberBlend, coefficientBlend};
-ghost use Rattle.grid.specs.Grid.{voxels, AxesWithin};
-ghost use Rattle.limits.specs.Limits.{outside, badCoefficients};
-ghost use Rattle.names.specs.Numbers.{lightLimit};
-ghost use lib.Ieee.{nan};
+ghost use Prim.Native.Nat.{_+_, _*_, _/_, _<_, _≤_};
 ghost use lib.ListN.{length, getD};
-ghost use Prim.Native.Nat.{_+_, _*_, _/_};
+ghost use lib.Ieee.{nan, toUnsigned};
+ghost use Rattle.names.specs.Numbers.{axisLimit, lightLimit};
+ghost use Rattle.grid.specs.Grid.{AxesWithin};
+ghost use Rattle.limits.specs.Limits.{outside, badCoefficients};
+ghost use Rattle.lookup.specs.Place.{clamped, Placed, Along, Found, Inside, Readable, cellsFrom, blendOf, blendedOf};
+ghost use Rattle.lookup.specs.Lookup.{badLightCells, badVolumeCells, sixteen, coefficientBlend};
 use super::Between;
 use super::Cells;
 use grid::Axes;
 use grid::Corners;
 use vectors::Vec3;
 
-// A float as a whole number, as the Rust's `as` has it: without its fraction, 0 below 0, the largest past the end.
-pub fn whole(x: f32) -> usize
-    ensures { λ r. ⌜ r ≡ toUnsigned 64 x ⌝ }
-{
-    if x > -1.0 {
-        if x < 18446744073709551616.0 {
-            return std::num::truncating_f32_to_u64(x) as usize;
-        }
-        return 18446744073709551615;
-    }
-    0
-}
-
-// Cell k of n; past the end, the last.
-pub fn clamp_cell(n: usize, k: usize) -> usize
-    requires { ⌜ 1 ≤ n ⌝ }
-    ensures { λ r. ⌜ r ≡ clamped n k ⌝ }
-{
-    if k < n {
-        return k;
-    }
-    n - 1
-}
-
-// The cell of a coordinate, the next one, and the fraction between them.
-pub fn between(n: usize, f: f32) -> Between
-    requires { ⌜ (1 ≤ n) × (n ≤ axisLimit) ⌝ }
-    ensures { λ r. ⌜ Placed n f r ⌝ }
-{
-    let floor = floats::floor(f);
-    let cell = clamp_cell(n, whole(floor));
-    let next = clamp_cell(n, cell + 1);
-    Between {
-        cell: cell,
-        next: next,
-        fraction: f - floor,
-    }
-}
+// ---- from a position to its cells
 
 // The eight cells around a position.
 pub fn cells(axes: Axes, corners: Corners, p: Vec3) -> Cells
@@ -89,57 +49,46 @@ fn cells_from(axes: Axes, x: Between, y: Between, z: Between) -> Cells
     }
 }
 
-// a·(1−t)+b·t
-pub fn blend(a: f32, b: f32, t: f32) -> f32
-    ensures { λ r. ⌜ r ≡ blendOf a b t ⌝ }
+// The cell of a coordinate, the next one, and the fraction between them.
+pub fn between(n: usize, f: f32) -> Between
+    requires { ⌜ (1 ≤ n) × (n ≤ axisLimit) ⌝ }
+    ensures { λ r. ⌜ Placed n f r ⌝ }
 {
-    a * (1.0 - t) + b * t
-}
-
-// Between the numbers at place k of cells i and j, of stride numbers a cell.
-fn pair(l: &[f32], stride: usize, k: usize, i: usize, j: usize, t: f32) -> f32
-    requires { ⌜ (i * stride + k < length (now l)) × (j * stride + k < length (now l)) ⌝ }
-    ensures { λ r. ⌜ r ≡ blendOf (getD (now (l .entry)) (i * stride + k) nan) (getD (now (l .entry)) (j * stride + k) nan) t ⌝ }
-{
-    blend(l[i * stride + k], l[j * stride + k], t)
-}
-
-// Between the numbers at place k of the eight cells: along x, then y, then z.
-pub fn blended(l: &[f32], stride: usize, k: usize, c: Cells) -> f32
-    requires { ⌜ Readable stride k (length (now l)) c ⌝ }
-    ensures { λ r. ⌜ r ≡ blendedOf c (λ i. getD (now (l .entry)) (i * stride + k) nan) ⌝ }
-{
-    let v00 = pair(l, stride, k, c.c000, c.c100, c.x);
-    let v10 = pair(l, stride, k, c.c010, c.c110, c.x);
-    let v01 = pair(l, stride, k, c.c001, c.c101, c.x);
-    let v11 = pair(l, stride, k, c.c011, c.c111, c.x);
-    let v0 = blend(v00, v10, c.y);
-    let v1 = blend(v01, v11, c.y);
-    blend(v0, v1, c.z)
-}
-
-// The sixteen numbers between those of the eight cells.
-pub fn coefficients_blended(volume: &[f32], c: Cells) -> [f32; 16]
-    requires { ⌜ Inside (length (now volume) / 16) c ⌝ }
-    ensures { λ r. ⌜ r ≡ coefficientBlend (now (volume .entry)) c ⌝ }
-{
-    let mut numbers = [0.0; 16];
-    let mut k = 0;
-    while k < 16 {
-        numbers[k] = blended(volume, 16, k, c);
-        k += 1;
+    let floor = floats::floor(f);
+    let cell = clamp_cell(n, whole(floor));
+    let next = clamp_cell(n, cell + 1);
+    Between {
+        cell: cell,
+        next: next,
+        fraction: f - floor,
     }
-    numbers
+}
+
+// Cell k of n; past the end, the last.
+pub fn clamp_cell(n: usize, k: usize) -> usize
+    requires { ⌜ 1 ≤ n ⌝ }
+    ensures { λ r. ⌜ r ≡ clamped n k ⌝ }
+{
+    if k < n {
+        return k;
+    }
+    n - 1
+}
+
+// A float as a whole number, as the Rust's `as` has it: without its fraction, 0 below 0, the largest past the end.
+pub fn whole(x: f32) -> usize
+    ensures { λ r. ⌜ r ≡ toUnsigned 64 x ⌝ }
+{
+    if x > -1.0 {
+        if x < 18446744073709551616.0 {
+            return std::num::truncating_f32_to_u64(x) as usize;
+        }
+        return 18446744073709551615;
+    }
+    0
 }
 
 // ---- 13, of the cells read
-
-fn bad_light_cell(light: &[f32], i: usize) -> bool
-    requires { ⌜ i < length (now light) ⌝ }
-    ensures { λ r. ⌜ r ≡ outside lightLimit (getD (now (light .entry)) i nan) ⌝ }
-{
-    limits::inner::bad_light_number(light[i])
-}
 
 pub fn bad_light_cells(light: &[f32], c: Cells) -> bool
     requires { ⌜ Inside (length (now light)) c ⌝ }
@@ -156,12 +105,11 @@ pub fn bad_light_cells(light: &[f32], c: Cells) -> bool
     b000 | (b100 | (b010 | (b110 | (b001 | (b101 | (b011 | b111))))))
 }
 
-fn bad_volume_cell(volume: &[f32], i: usize) -> bool
-    requires { ⌜ i < length (now volume) / 16 ⌝ }
-    ensures { λ r. ⌜ r ≡ badCoefficients (sixteen (now (volume .entry)) i) ⌝ }
+fn bad_light_cell(light: &[f32], i: usize) -> bool
+    requires { ⌜ i < length (now light) ⌝ }
+    ensures { λ r. ⌜ r ≡ outside lightLimit (getD (now (light .entry)) i nan) ⌝ }
 {
-    let at = i * 16;
-    limits::inner::bad_coefficients(&volume[at..at + 16])
+    limits::inner::bad_light_number(light[i])
 }
 
 pub fn bad_volume_cells(volume: &[f32], c: Cells) -> bool
@@ -177,4 +125,57 @@ pub fn bad_volume_cells(volume: &[f32], c: Cells) -> bool
     let b011 = bad_volume_cell(volume, c.c011);
     let b111 = bad_volume_cell(volume, c.c111);
     b000 | (b100 | (b010 | (b110 | (b001 | (b101 | (b011 | b111))))))
+}
+
+fn bad_volume_cell(volume: &[f32], i: usize) -> bool
+    requires { ⌜ i < length (now volume) / 16 ⌝ }
+    ensures { λ r. ⌜ r ≡ badCoefficients (sixteen (now (volume .entry)) i) ⌝ }
+{
+    let at = i * 16;
+    limits::inner::bad_coefficients(&volume[at..at + 16])
+}
+
+// ---- the blend
+
+// The sixteen numbers between those of the eight cells.
+pub fn coefficients_blended(volume: &[f32], c: Cells) -> [f32; 16]
+    requires { ⌜ Inside (length (now volume) / 16) c ⌝ }
+    ensures { λ r. ⌜ r ≡ coefficientBlend (now (volume .entry)) c ⌝ }
+{
+    let mut numbers = [0.0; 16];
+    let mut k = 0;
+    while k < 16 {
+        numbers[k] = blended(volume, 16, k, c);
+        k += 1;
+    }
+    numbers
+}
+
+// Between the numbers at place k of the eight cells: along x, then y, then z.
+pub fn blended(l: &[f32], stride: usize, k: usize, c: Cells) -> f32
+    requires { ⌜ Readable stride k (length (now l)) c ⌝ }
+    ensures { λ r. ⌜ r ≡ blendedOf c (λ i. getD (now (l .entry)) (i * stride + k) nan) ⌝ }
+{
+    let v00 = pair(l, stride, k, c.c000, c.c100, c.x);
+    let v10 = pair(l, stride, k, c.c010, c.c110, c.x);
+    let v01 = pair(l, stride, k, c.c001, c.c101, c.x);
+    let v11 = pair(l, stride, k, c.c011, c.c111, c.x);
+    let v0 = blend(v00, v10, c.y);
+    let v1 = blend(v01, v11, c.y);
+    blend(v0, v1, c.z)
+}
+
+// Between the numbers at place k of cells i and j, of stride numbers a cell.
+fn pair(l: &[f32], stride: usize, k: usize, i: usize, j: usize, t: f32) -> f32
+    requires { ⌜ (i * stride + k < length (now l)) × (j * stride + k < length (now l)) ⌝ }
+    ensures { λ r. ⌜ r ≡ blendOf (getD (now (l .entry)) (i * stride + k) nan) (getD (now (l .entry)) (j * stride + k) nan) t ⌝ }
+{
+    blend(l[i * stride + k], l[j * stride + k], t)
+}
+
+// a·(1−t)+b·t
+pub fn blend(a: f32, b: f32, t: f32) -> f32
+    ensures { λ r. ⌜ r ≡ blendOf a b t ⌝ }
+{
+    a * (1.0 - t) + b * t
 }

@@ -1,5 +1,4 @@
 // Lookups (module 8): the light and the four coefficients at a position, and one voxel's sixteen numbers as a part of a lent list.
-ghost use mathlib.Core.Path.{_≡_};
 ghost use Rattle.lookup.specs.Lookup.{LightLookedUp, CoefficientsLookedUp, PartLent, PartJudged};
 use grid::Axes;
 use grid::Corners;
@@ -19,6 +18,28 @@ pub struct LightAt {
 pub struct CoefficientsAt {
     pub refusal: u32,
     pub numbers: [f32; 16],
+}
+
+// A place along an axis: its cell, the next one, and how far it lies between them.
+pub struct Between {
+    pub cell: usize,
+    pub next: usize,
+    pub fraction: f32,
+}
+
+// The indices of the eight cells around a position, 0 the cell and 1 the next along x, y and z in turn, and the three fractions.
+pub struct Cells {
+    pub c000: usize,
+    pub c100: usize,
+    pub c010: usize,
+    pub c110: usize,
+    pub c001: usize,
+    pub c101: usize,
+    pub c011: usize,
+    pub c111: usize,
+    pub x: f32,
+    pub y: f32,
+    pub z: f32,
 }
 
 // The light at a position. Refused: 1, 2, 3, 11, and 13 among the eight cells read.
@@ -145,26 +166,4 @@ pub fn voxel_refusal(axes: Axes, volume: &[f32], scratch: &[f32], index: usize, 
         return 11;
     }
     0
-}
-
-// A place along an axis: its cell, the next one, and how far it lies between them.
-pub struct Between {
-    pub cell: usize,
-    pub next: usize,
-    pub fraction: f32,
-}
-
-// The indices of the eight cells around a position, 0 the cell and 1 the next along x, y and z in turn, and the three fractions.
-pub struct Cells {
-    pub c000: usize,
-    pub c100: usize,
-    pub c010: usize,
-    pub c110: usize,
-    pub c001: usize,
-    pub c101: usize,
-    pub c011: usize,
-    pub c111: usize,
-    pub x: f32,
-    pub y: f32,
-    pub z: f32,
 }
