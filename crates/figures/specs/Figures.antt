@@ -1,6 +1,6 @@
 -- Document 01's figures marked P, in one statement over a list: each applies the definitions that the public contracts cite to the figure's
 -- input, refusal included, and the answer is compared bit for bit. Assumes nothing.
-use mathlib.Core.Path.{_≡_, refl}
+use mathlib.Core.Path.{_≡_, refl, ap₂}
 use mathlib.Core.List.{List, [], _∷_, map, _++_}
 use Prim.Native.Nat.{ℕ, zero, suc}
 use lib.ListN.{replicate}
@@ -37,6 +37,10 @@ use Rattle.marks.specs.Marks.{activeCount}
 use Rattle.masks.specs.Masks.{wrongMasks, masksRefusal, activeMaskOf, markedOf}
 use Rattle.lookup.specs.Place.{clamped, betweenOf, cellsFrom, cellsOf, blendOf, blendedOf}
 use Rattle.lookup.specs.Lookup.{badLightCells, lightAtOf}
+use Rattle.spread.specs.Spread.{run}
+use Rattle.intake.specs.Three.{three, begun}
+use Rattle.demand.specs.Bake.{bakeOf}
+use Rattle.demand.specs.Figure.{figure-384, figure-448, figure-383}
 
 -- the bits of floats
 abbrev pub bits : List Float → List ℕ
@@ -119,8 +123,16 @@ looked x =
     let a = lightAtOf (axesOf 2 1 1) (upToCorner (lit 0x40000000) one32 one32) (zero32 ∷ one32 ∷ []) (vec x zero32 zero32) in
     a .refusal ∷ bits (a .light ∷ [])
 
-unfoldable pub answers : List (List ℕ)
-answers =
+-- ---- bake: "3×1×1 all active, no triangles", called with each allowance in turn: refusals, rays, then the progress at the end
+
+unfoldable pub baked : List ℕ → List ℕ
+baked allowances =
+    let r = run (bakeOf three) allowances begun in
+    r .refusals ++ (r .rays ++ (r .stage .progress ∷ []))
+
+-- those that are computed, and those that follow from the laws of a spread bake
+unfoldable pub computed : List (List ℕ)
+computed =
     met (downFrom quarter32 quarter32 one32)
     ∷ met (downFrom half32 half32 one32)
     ∷ met (downFrom half32 (lit 0x3f400000) one32)
@@ -137,7 +149,13 @@ answers =
     ∷ looked (lit 0x3fe00000)
     ∷ []
 
-pub figures : answers
+unfoldable pub bakes : List (List ℕ)
+bakes = baked (384 ∷ 384 ∷ 384 ∷ []) ∷ baked (448 ∷ 448 ∷ []) ∷ baked (383 ∷ []) ∷ []
+
+unfoldable pub answers : List (List ℕ)
+answers = computed ++ bakes
+
+computed-figures : computed
     ≡ (0 ∷ 1 ∷ 0 ∷ 0x3f800000 ∷ 0x3e800000 ∷ 0x3e800000 ∷ [])
     ∷ (0 ∷ 1 ∷ 0 ∷ 0x3f800000 ∷ 0x3f000000 ∷ 0x3f000000 ∷ [])
     ∷ (0 ∷ 0 ∷ 0 ∷ 0 ∷ 0 ∷ 0 ∷ [])
@@ -153,5 +171,45 @@ pub figures : answers
     ∷ (0 ∷ 0x3f000000 ∷ [])
     ∷ (0 ∷ 0x3f800000 ∷ [])
     ∷ []
-unfolding answers met passing sampled masked blurred looked triangleQ pointsQ downFrom stacked sheets upToCorner firstOf unlessRefused fold tab any magnitudeOf largerOf smallerOf toward rootOf addV subV scaleV dotV crossV lengthV edgesOf within upTo outsideV badAxes badCorners badEdges wrongShare wrongScene tooMany badPoints badTriangle badKinds badFrom badUses badMaterials badRay badLights some absentOf solvedOf judgedOf meetOf triangleAt before insertOf withMeet hitsOf passOf transmittanceOf meetRefusal testValues meetValues wrongScratch transmittanceRefusal lightBlurOf squareAt meanAt meanIn around along wrongLists lightBlurRefusal smallestEdgeOf targetOf countOf sideFrom sideOf shareOf pointOf cellOn indexWithin Rattle.samples.specs.Samples.cellOf sampleCell sampledIn touches occupiedIn occupiedEntry occupiedOf activeIn activeEntry activeOf activeCount wrongMasks masksRefusal clamped Rattle.lookup.specs.Place.cellOf betweenOf cellsFrom cellsOf blendOf blendedOf badLightCells lightAtOf Ieee.ofBits Ieee.ofFields Ieee.odd Ieee.toBits Ieee.neg Ieee.le Ieee.lt Ieee.eq Ieee.isNan Ieee.add Ieee.sub Ieee.mul Ieee.div Ieee.ofInt Ieee.toUnsigned Ieee.round Ieee.sum Ieee.units Ieee.size Ieee.span Ieee.climb
-figures = refl
+unfolding computed met passing sampled masked blurred looked triangleQ pointsQ downFrom stacked sheets upToCorner firstOf unlessRefused fold tab any magnitudeOf largerOf smallerOf toward rootOf addV subV scaleV dotV crossV lengthV edgesOf within upTo outsideV badAxes badCorners badEdges wrongShare wrongScene tooMany badPoints badTriangle badKinds badFrom badUses badMaterials badRay badLights some absentOf solvedOf judgedOf meetOf triangleAt before insertOf withMeet hitsOf passOf transmittanceOf meetRefusal testValues meetValues wrongScratch transmittanceRefusal lightBlurOf squareAt meanAt meanIn around along wrongLists lightBlurRefusal smallestEdgeOf targetOf countOf sideFrom sideOf shareOf pointOf cellOn indexWithin Rattle.samples.specs.Samples.cellOf sampleCell sampledIn touches occupiedIn occupiedEntry occupiedOf activeIn activeEntry activeOf activeCount wrongMasks masksRefusal clamped Rattle.lookup.specs.Place.cellOf betweenOf cellsFrom cellsOf blendOf blendedOf badLightCells lightAtOf Ieee.ofBits Ieee.ofFields Ieee.odd Ieee.toBits Ieee.neg Ieee.le Ieee.lt Ieee.eq Ieee.isNan Ieee.add Ieee.sub Ieee.mul Ieee.div Ieee.ofInt Ieee.toUnsigned Ieee.round Ieee.sum Ieee.units Ieee.size Ieee.span Ieee.climb
+computed-figures = refl
+
+bake-figures : bakes
+    ≡ (0 ∷ 0 ∷ 0 ∷ 64 ∷ 64 ∷ 64 ∷ 3 ∷ []) ∷ (0 ∷ 0 ∷ 128 ∷ 64 ∷ 3 ∷ []) ∷ (10 ∷ 0 ∷ 0 ∷ []) ∷ []
+unfolding bakes baked
+bake-figures =
+    rw (
+      figure-384 .0,
+      figure-384 .1,
+      figure-384 .2,
+      figure-448 .0,
+      figure-448 .1,
+      figure-448 .2,
+      figure-383 .0,
+      figure-383 .1,
+      figure-383 .2,
+    )
+    refl
+
+-- the figures, in document 01's order
+pub figures : answers
+    ≡ (0 ∷ 1 ∷ 0 ∷ 0x3f800000 ∷ 0x3e800000 ∷ 0x3e800000 ∷ [])
+    ∷ (0 ∷ 1 ∷ 0 ∷ 0x3f800000 ∷ 0x3f000000 ∷ 0x3f000000 ∷ [])
+    ∷ (0 ∷ 0 ∷ 0 ∷ 0 ∷ 0 ∷ 0 ∷ [])
+    ∷ (0 ∷ 0 ∷ 0 ∷ 0 ∷ 0 ∷ 0 ∷ [])
+    ∷ (0 ∷ 0x3f800000 ∷ [])
+    ∷ (0 ∷ 0x39000000 ∷ [])
+    ∷ (0 ∷ 0 ∷ [])
+    ∷ (1 ∷ 1 ∷ 0x3f000000 ∷ 0x3f000000 ∷ 0 ∷ [])
+    ∷ (0 ∷ 1 ∷ 3 ∷ 1 ∷ 0 ∷ 0 ∷ 0 ∷ 0 ∷ 0 ∷ 1 ∷ 1 ∷ 1 ∷ 0 ∷ 0 ∷ 0 ∷ [])
+    ∷ (0 ∷ 0x3e800000 ∷ [])
+    ∷ (0 ∷ 0x3e800000 ∷ 0x3e800000 ∷ [])
+    ∷ (0 ∷ 0x3f400000 ∷ [])
+    ∷ (0 ∷ 0x3f000000 ∷ [])
+    ∷ (0 ∷ 0x3f800000 ∷ [])
+    ∷ (0 ∷ 0 ∷ 0 ∷ 64 ∷ 64 ∷ 64 ∷ 3 ∷ [])
+    ∷ (0 ∷ 0 ∷ 128 ∷ 64 ∷ 3 ∷ [])
+    ∷ (10 ∷ 0 ∷ 0 ∷ [])
+    ∷ []
+unfolding answers
+figures = ap₂ (λ (a b : List (List ℕ)). a ++ b) computed-figures bake-figures
