@@ -1,0 +1,2 @@
+-- What the numbers of an accepted grid are.
+pub mod EdgeLaws
