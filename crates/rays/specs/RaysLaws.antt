@@ -1,15 +1,16 @@
 -- What the answers of the ray calls mean: each contract leaves one answer, an accepted scene's lists fit each other, and good calls are accepted.
 use mathlib.Core.Path.{_≡_, refl, sym, ap, ap₂, _∙_}
 use mathlib.Core.Bool.{Bool, true, false, cond, _||_}
+use mathlib.Core.Logic.{_↔_}
 use mathlib.Core.List.{List, [], _∷_}
-use Prim.Native.Nat.{ℕ, _≤_}
+use Prim.Native.Nat.{ℕ, _≤_, _<_}
 use native.Mathlib.Omega.{arith}
 use lib.Dec.{eqb}
 use lib.ListN.{length}
 use lib.Ieee.{Float}
 use borrow.Author.Tests.{ltb-false}
 use Rattle.names.specs.Bits.{zero32}
-use Rattle.names.specs.Refusals.{firstOf, unlessRefused}
+use Rattle.names.specs.Refusals.{firstOf, unlessRefused, FirstIs, NoneHolds, first-given, first-found, none-given, none-found}
 use Rattle.names.specs.Scene.{Scene, Sound}
 use Rattle.vectors.specs.declared.Ray.{Ray}
 use Rattle.vectors.specs.declared.Triangle.{Triangle}
@@ -23,7 +24,40 @@ use Rattle.scan.specs.declared.Nearest.{Nearest}
 use Rattle.rays.specs.declared.Met.{Met}
 use Rattle.rays.specs.declared.Found.{Found}
 use Rattle.rays.specs.declared.Transmitted.{Transmitted}
-use Rattle.rays.specs.Rays.{Values, refusedValues, metValues, foundValues, meetRefusal, metCase, testValues, metOf, meetValues, MeetAnswered, wrongLists, sceneRows, nearestRefusal, foundCase, scanValues, foundOf, nearestValues, NearestAnswered, wrongScratch, transmittanceRefusal, TransmittanceAnswered}
+use Rattle.rays.specs.Rays.{Values, refusedValues, metValues, foundValues, meetRows, meetRefusal, metCase, testValues, metOf, meetValues, MeetAnswered, wrongLists, sceneRows, nearestRefusal, foundCase, scanValues, foundOf, nearestValues, NearestAnswered, wrongScratch, transmittanceRefusal, TransmittanceAnswered}
+
+-- ---- k is refused exactly when row k holds and none before it, and a call is accepted exactly when none holds
+
+module _ (ray : Ray) (triangle : Triangle) where
+  pub meet-refused-by : (k : ℕ) → 0 < k → (meetRefusal ray triangle ≡ k) ↔ FirstIs k (meetRows ray triangle)
+  unfolding meetRefusal
+  meet-refused-by k h = (first-found k (meetRows ray triangle) h, first-given)
+
+  pub meet-passed-by : (meetRefusal ray triangle ≡ 0) ↔ NoneHolds (meetRows ray triangle)
+  unfolding meetRefusal
+  meet-passed-by = (none-found (meetRows ray triangle) (omega arith, (omega arith, tt)), none-given)
+
+module _ (scene : Scene) (ray : Ray) where
+  pub nearest-refused-by : (k : ℕ) → 0 < k → (nearestRefusal scene ray ≡ k) ↔ FirstIs k (sceneRows (wrongLists scene) scene ray)
+  unfolding nearestRefusal
+  nearest-refused-by k h = (first-found k (sceneRows (wrongLists scene) scene ray) h, first-given)
+
+  pub nearest-passed-by : (nearestRefusal scene ray ≡ 0) ↔ NoneHolds (sceneRows (wrongLists scene) scene ray)
+  unfolding nearestRefusal
+  nearest-passed-by =
+      (none-found (sceneRows (wrongLists scene) scene ray) (omega arith, (omega arith, (omega arith, (omega arith, (omega arith, tt))))), none-given)
+
+  module _ (distances : List Float) (places : List ℕ) where
+    pub transmittance-refused-by : (k : ℕ) → 0 < k
+        → (transmittanceRefusal scene ray distances places ≡ k) ↔ FirstIs k (sceneRows (wrongScratch scene (length distances) (length places)) scene ray)
+    unfolding transmittanceRefusal
+    transmittance-refused-by k h = (first-found k (sceneRows (wrongScratch scene (length distances) (length places)) scene ray) h, first-given)
+
+    pub transmittance-passed-by : (transmittanceRefusal scene ray distances places ≡ 0)
+        ↔ NoneHolds (sceneRows (wrongScratch scene (length distances) (length places)) scene ray)
+    unfolding transmittanceRefusal
+    transmittance-passed-by =
+        (none-found (sceneRows (wrongScratch scene (length distances) (length places)) scene ray) (omega arith, (omega arith, (omega arith, (omega arith, (omega arith, tt))))), none-given)
 
 -- ---- one answer
 

@@ -8,6 +8,7 @@ use native.Mathlib.Omega.{arith}
 use borrow.Author.Tests.{lt-ltb, le-ltb, ltb-true}
 use lib.Dec.{ltb}
 use lib.Ieee.{Float, lt, eq, isNan}
+use Rattle.floats.specs.OrderLaws.{lt-irreflexive, lt-transitive}
 use Rattle.vectors.specs.declared.Ray.{Ray}
 use Rattle.triangle.specs.Meet.{meetOf}
 use Rattle.triangle.specs.Places.{triangleAt}
@@ -15,7 +16,7 @@ use Rattle.triangle.specs.declared.Meet.{Meet}
 use Rattle.triangle.specs.declared.Meet.the-variants.{Miss, Hit}
 use Rattle.scan.specs.Hits.{Struck, struck, before, insertOf, withMeet, hitsOf}
 use Rattle.scan.specs.HitLaws.{Stands, hits-only, hits-all}
-use Rattle.scan_laws.specs.Order.{trichotomy, lt-irrefl-float, lt-trans-float, lt-eq-float, eq-lt-float, eq-trans-float}
+use Rattle.scan_laws.specs.Order.{otherwise-below, lt-eq, eq-lt, eq-transitive}
 use Rattle.scan_laws.specs.NearestLaws.{hit-number}
 
 pub data Sorted : List Struck → Type 0 where
@@ -50,7 +51,7 @@ either t d n p a b l e = by (lt d t) (eq d t) (lt t d) refl refl refl
     by true y z f g k = refl
     by false true z f g k = lt-ltb p n l
     by false false true f g k = absurd (false≢true (sym e ∙ rw k refl))
-    by false false false f g k = absurd (false≢true (sym k ∙ trichotomy d t b a f g))
+    by false false false f g k = absurd (false≢true (sym k ∙ otherwise-below d t b a f g))
 
 pub hits-sorted : (points : List Float) (ray : Ray) (n : ℕ) → Sorted (hitsOf points ray n)
 unfolding hitsOf withMeet
@@ -83,24 +84,20 @@ as-near : (a b c : Bool) → b ≡ true → c ≡ true → a || (b && c) ≡ tru
 as-near true b c h k = refl
 as-near false b c h k = rw (h, k) refl
 
--- a hit whose distance is no NaN
-abbrev pub Number : Struck → Type 0
-Number h = isNan (h .distance) ≡ false
-
-pub before-trans : (h g k : Struck) → Number h → Number g → Number k → before h g ≡ true → before g k ≡ true → before h k ≡ true
+pub before-trans : (h g k : Struck) → before h g ≡ true → before g k ≡ true → before h k ≡ true
 unfolding before
-before-trans h g k p q r a b =
+before-trans h g k a b =
     or-cases (lt x y) (eq x y && ltb i j) a
     (λ e. or-cases (lt y z) (eq y z && ltb j l) b
-    (λ f. nearer-first (lt x z) _ (lt-trans-float x y z e f))
-    (λ f. nearer-first (lt x z) _ (lt-eq-float x y z e (and-both _ _ f .0))))
+    (λ f. nearer-first (lt x z) _ (lt-transitive x y z e f))
+    (λ f. nearer-first (lt x z) _ (lt-eq x y z e (and-both _ _ f .0))))
     (λ e.
     let u = and-both (eq x y) (ltb i j) e in
     or-cases (lt y z) (eq y z && ltb j l) b
-    (λ f. nearer-first (lt x z) _ (eq-lt-float x y z p q r (u .0) f))
+    (λ f. nearer-first (lt x z) _ (eq-lt x y z (u .0) f))
     (λ f.
     let v = and-both (eq y z) (ltb j l) f in
-    as-near (lt x z) (eq x z) (ltb i l) (eq-trans-float x y z p q r (u .0) (v .0))
+    as-near (lt x z) (eq x z) (ltb i l) (eq-transitive x y z (u .0) (v .0))
     (lt-ltb i l (omega (arith, ltb-true i j (u .1), ltb-true j l (v .1))))))
   where
     x : Float
@@ -121,19 +118,10 @@ before-trans h g k p q r a b =
     l : ℕ
     l = k .place
 
-pub sorted-all : (h : Struck) (gs : List Struck) → ((g : Struck) → List·Memᴰ g (h ∷ gs) → Number g) → Sorted (h ∷ gs) → (k : Struck) → List·Memᴰ k gs
-    → before h k ≡ true
-sorted-all h [] n one k m = absurd (List·Memᴰ·not-nil m)
-sorted-all h (g ∷ gs) n (more e s) k m =
-    ⊎-elim (λ (f : k ≡ g). rw f e)
-    (λ f.
-    before-trans h g k (n h (List·Memᴰ·head refl)) (n g (List·Memᴰ·tail (List·Memᴰ·head refl))) (n k (List·Memᴰ·tail m)) e
-    (sorted-all g gs (λ x l. n x (List·Memᴰ·tail l)) s k f))
-    (List·Memᴰ·cases-cons m)
-
--- no hit's distance is a NaN, so of the hits each comes before all that follow
-pub hits-numbers : (points : List Float) (ray : Ray) (n : ℕ) (h : Struck) → List·Memᴰ h (hitsOf points ray n) → Number h
-hits-numbers points ray n h m = let s = hits-only points ray n m in hit-number ray _ (h .distance) (s .first) (s .second) (s .met)
+pub sorted-all : (h : Struck) (gs : List Struck) → Sorted (h ∷ gs) → (k : Struck) → List·Memᴰ k gs → before h k ≡ true
+sorted-all h [] one k m = absurd (List·Memᴰ·not-nil m)
+sorted-all h (g ∷ gs) (more e s) k m =
+    ⊎-elim (λ (f : k ≡ g). rw f e) (λ f. before-trans h g k e (sorted-all g gs s k f)) (List·Memᴰ·cases-cons m)
 
 -- ---- one list: what is sorted and holds the same hits is the same
 
@@ -143,40 +131,34 @@ tail-sorted (more e s) = s
 
 not-itself : (h : Struck) → before h h ≡ true → ⊥
 unfolding before
-not-itself h e = by (eq (h .distance) (h .distance)) (rw (lt-irrefl-float (h .distance), le-ltb (h .place) (h .place) (omega arith)) at e)
+not-itself h e = by (eq (h .distance) (h .distance)) (rw (lt-irreflexive (h .distance), le-ltb (h .place) (h .place) (omega arith)) at e)
   where
     by : (b : Bool) → b && false ≡ true → ⊥
     by true f = false≢true f
     by false f = false≢true f
 
-sorted-once : (gs hs : List Struck) → ((k : Struck) → List·Memᴰ k gs → Number k) → Sorted gs → Sorted hs
+sorted-once : (gs hs : List Struck) → Sorted gs → Sorted hs
     → ((k : Struck) → List·Memᴰ k gs → List·Memᴰ k hs) → ((k : Struck) → List·Memᴰ k hs → List·Memᴰ k gs) → gs ≡ hs
-sorted-once [] [] n s t f b = refl
-sorted-once [] (h ∷ hs) n s t f b = absurd (List·Memᴰ·not-nil (b h (List·Memᴰ·head refl)))
-sorted-once (g ∷ gs) [] n s t f b = absurd (List·Memᴰ·not-nil (f g (List·Memᴰ·head refl)))
-sorted-once (g ∷ gs) (h ∷ hs) n s t f b =
+sorted-once [] [] s t f b = refl
+sorted-once [] (h ∷ hs) s t f b = absurd (List·Memᴰ·not-nil (b h (List·Memᴰ·head refl)))
+sorted-once (g ∷ gs) [] s t f b = absurd (List·Memᴰ·not-nil (f g (List·Memᴰ·head refl)))
+sorted-once (g ∷ gs) (h ∷ hs) s t f b =
     ap₂ (λ (x : Struck) (l : List Struck). x ∷ l) heads
-    (sorted-once gs hs (λ k m. n k (List·Memᴰ·tail m)) (tail-sorted s) (tail-sorted t)
+    (sorted-once gs hs (tail-sorted s) (tail-sorted t)
     (λ k m. ⊎-elim (λ (e : k ≡ h). absurd (not-itself g (rw (e ∙ sym heads) at (after-g k m)))) (λ r. r) (List·Memᴰ·cases-cons (f k (List·Memᴰ·tail m))))
     (λ k m. ⊎-elim (λ (e : k ≡ g). absurd (not-itself h (rw (e ∙ heads) at (after-h k m)))) (λ r. r) (List·Memᴰ·cases-cons (b k (List·Memᴰ·tail m)))))
   where
-    all-h : (k : Struck) → List·Memᴰ k (h ∷ hs) → Number k
-    all-h k m = n k (b k m)
-
     after-g : (k : Struck) → List·Memᴰ k gs → before g k ≡ true
-    after-g k m = sorted-all g gs n s k m
+    after-g k m = sorted-all g gs s k m
 
     after-h : (k : Struck) → List·Memᴰ k hs → before h k ≡ true
-    after-h k m = sorted-all h hs all-h t k m
+    after-h k m = sorted-all h hs t k m
 
     heads : g ≡ h
     heads =
         ⊎-elim (λ (e : g ≡ h). e)
         (λ p. ⊎-elim (λ (e : h ≡ g). sym e)
-        (λ q.
-        absurd
-        (not-itself g
-        (before-trans g h g (n g (List·Memᴰ·head refl)) (all-h h (List·Memᴰ·head refl)) (n g (List·Memᴰ·head refl)) (after-g h q) (after-h g p))))
+        (λ q. absurd (not-itself g (before-trans g h g (after-g h q) (after-h g p))))
         (List·Memᴰ·cases-cons (b h (List·Memᴰ·head refl))))
         (List·Memᴰ·cases-cons (f g (List·Memᴰ·head refl)))
 
@@ -184,6 +166,6 @@ sorted-once (g ∷ gs) (h ∷ hs) n s t f b =
 pub hits-are : (points : List Float) (ray : Ray) (n : ℕ) (hs : List Struck) → Sorted hs → ((k : Struck) → List·Memᴰ k hs → Stands points ray n k)
     → ((k : Struck) → Stands points ray n k → List·Memᴰ k hs) → hitsOf points ray n ≡ hs
 hits-are points ray n hs s f b =
-    sorted-once (hitsOf points ray n) hs (hits-numbers points ray n) (hits-sorted points ray n) s
+    sorted-once (hitsOf points ray n) hs (hits-sorted points ray n) s
     (λ k m. b k (hits-only points ray n m))
     (λ k m. let e = f k m in hits-all points ray n (k .place) (k .distance) (e .first) (e .second) (e .within) (e .met))

@@ -3,3 +3,4 @@ pub mod Order
 pub mod NearestLaws
 pub mod HitOrder
 pub mod TransmittanceLaws
+pub mod Narrowed

@@ -11,6 +11,7 @@ use lib.Dec.{ltb}
 use lib.ListN.{length}
 use lib.Ieee.{Float, nan, inf, fin, lt, eq, le, isNan}
 use Rattle.floats.specs.Choice.{magnitudeOf}
+use Rattle.floats.specs.OrderLaws.{lt-irreflexive, lt-transitive, lt-tells-apart}
 use Rattle.names.specs.Scene.{Scene}
 use Rattle.vectors.specs.declared.Ray.{Ray}
 use Rattle.vectors.specs.declared.Triangle.{Triangle}
@@ -21,7 +22,7 @@ use Rattle.triangle.specs.declared.Meet.the-variants.{Miss, Hit}
 use Rattle.scan.specs.Nearest.{beats, nearerOf, meetAt, nearestTo, nearestOf}
 use Rattle.scan.specs.declared.Nearest.{Nearest}
 use Rattle.scan.specs.declared.Nearest.the-variants.{Nothing, At}
-use Rattle.scan_laws.specs.Order.{lt-irrefl-float, lt-trans-float, lt-eq-float, trichotomy}
+use Rattle.scan_laws.specs.Order.{lt-eq}
 
 -- a miss is no hit
 apart : {A : Type 0} (m : Meet) (t u v : Float) → m ≡ Miss → m ≡ Hit t u v → A
@@ -67,7 +68,7 @@ module _ (scene : Scene) (ray : Ray) where
         met = e;
         none-nearer =
             λ j r x y l f.
-            last-or-before n j l (λ g. rw (same-distance j n t u v r x y g e f) (lt-irrefl-float t)) (λ g. below j r x y (lt r t) refl (h .none-nearer j r x y g f));
+            last-or-before n j l (λ g. rw (same-distance j n t u v r x y g e f) (lt-irreflexive t)) (λ g. below j r x y (lt r t) refl (h .none-nearer j r x y g f));
         none-later = λ j r x y l f g. le-of-suc-le-suc l;
       }
     where
@@ -77,11 +78,11 @@ module _ (scene : Scene) (ray : Ray) where
       below j r x y true f g = by (lt t s) refl
         where
           by : (d : Bool) → lt t s ≡ d → true ≡ false
-          by true k = absurd (false≢true (sym g ∙ lt-trans-float r t s f k))
+          by true k = absurd (false≢true (sym g ∙ lt-transitive r t s f k))
           by false k = equal (eq t s) refl (rw k at b)
             where
               equal : (c : Bool) → eq t s ≡ c → eq t s && ltb i n ≡ true → true ≡ false
-              equal true m z = absurd (false≢true (sym g ∙ lt-eq-float r t s f m))
+              equal true m z = absurd (false≢true (sym g ∙ lt-eq r t s f m))
               equal false m z = absurd (false≢true (sym (rw m refl) ∙ z))
 
   worse : (n i : ℕ) (s p q t u v : Float) → meetAt scene ray n ≡ Hit t u v → IsNearest n i s p q → beats t n s i ≡ false → IsNearest (suc n) i s p q
@@ -117,7 +118,7 @@ module _ (scene : Scene) (ray : Ray) where
       record {
         within = omega arith;
         met = e;
-        none-nearer = λ j r x y l f. last-or-before n j l (λ g. rw (same-distance j n t u v r x y g e f) (lt-irrefl-float t)) (λ g. apart _ r x y (h j g) f);
+        none-nearer = λ j r x y l f. last-or-before n j l (λ g. rw (same-distance j n t u v r x y g e f) (lt-irreflexive t)) (λ g. apart _ r x y (h j g) f);
         none-later = λ j r x y l f k. le-of-suc-le-suc l;
       }
   step n (At i s p q) (Hit t u v) e h = by (beats t n s i) refl
@@ -162,15 +163,11 @@ module _ (scene : Scene) (ray : Ray) where
           let k = nearest-is-nearest j s p q e in
           let a : lt s t ≡ false = h .none-nearer j s p q (k .within) (k .met) in
           let b : lt t s ≡ false = k .none-nearer i t u v (h .within) (h .met) in
-          let st : eq s t ≡ true = equal s t (hit-number ray _ s p q (k .met)) (hit-number ray _ t u v (h .met)) a b (eq s t) refl in
-          let ts : eq t s ≡ true = equal t s (hit-number ray _ t u v (h .met)) (hit-number ray _ s p q (k .met)) b a (eq t s) refl in
+          let st : eq s t ≡ true = lt-tells-apart s t (hit-number ray _ s p q (k .met)) (hit-number ray _ t u v (h .met)) a b in
+          let ts : eq t s ≡ true = lt-tells-apart t s (hit-number ray _ t u v (h .met)) (hit-number ray _ s p q (k .met)) b a in
           let below = h .none-later j s p q (k .within) (k .met) st in
           let above = k .none-later i t u v (h .within) (h .met) ts in
           let same : j ≡ i = omega arith in
           let m : meetAt scene ray i ≡ Hit s p q = rw same at (k .met) in
           let n : meetAt scene ray i ≡ Hit t u v = h .met in
           cc
-        where
-          equal : (x y : Float) → isNan x ≡ false → isNan y ≡ false → lt x y ≡ false → lt y x ≡ false → (c : Bool) → eq x y ≡ c → eq x y ≡ true
-          equal x y nx ny f g true z = z
-          equal x y nx ny f g false z = absurd (false≢true (sym g ∙ trichotomy x y nx ny f z))

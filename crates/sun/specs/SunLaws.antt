@@ -1,6 +1,7 @@
 -- What the sun pass means: each figure before the blur, all of them 1.0 where no voxel is active; one result; and what an accepted call has.
 use mathlib.Core.Path.{_≡_, refl, sym, ap, ap₂, _∙_}
 use mathlib.Core.Bool.{Bool, true, false, cond, _||_, false≢true}
+use mathlib.Core.Logic.{_↔_}
 use mathlib.Core.List.{List, [], _∷_}
 use Prim.Native.Nat.{ℕ, zero, suc, _+_, _≤_, _<_}
 use native.Mathlib.Nat.{zero-add}
@@ -9,7 +10,7 @@ use lib.ListN.{length, getD}
 use lib.Ieee.{Float, nan}
 use borrow.Author.Tests.{ltb-false, eqb-true, not-false}
 use Rattle.names.specs.Bits.{one32}
-use Rattle.names.specs.Refusals.{unlessRefused}
+use Rattle.names.specs.Refusals.{unlessRefused, FirstIs, NoneHolds, first-given, first-found, none-given, none-found}
 use Rattle.names.specs.Scene.{Scene, Sound}
 use Rattle.lists.specs.Fold.{tab, length-tab, getD-tab}
 use Rattle.lists.specs.Any.{any}
@@ -63,6 +64,21 @@ module _ (axes : Axes) (corners : Corners) (scene : Scene) (direction : Vec3) (a
       at : (j : ℕ) (b : Bool) → isActive active j ≡ b → j < voxels axes → sunAt axes corners scene direction active j ≡ one32
       at j true e h = absurd (omega (arith, active-some active j (omega arith) e))
       at j false e h = rw e
+
+-- ---- k is refused exactly when row k holds and none before it, and a call is accepted exactly when none holds
+
+module _ (axes : Axes) (corners : Corners) (scene : Scene) (direction : Vec3) (active : List ℕ) (lights scratches distances places : ℕ) where
+  pub sun-refused-by : (k : ℕ) → 0 < k
+      → (sunRefusal axes corners scene direction active lights scratches distances places ≡ k)
+      ↔ FirstIs k (sunRows axes corners scene direction active lights scratches distances places)
+  unfolding sunRefusal
+  sun-refused-by k h = (first-found k (sunRows axes corners scene direction active lights scratches distances places) h, first-given)
+
+  pub sun-passed-by : (sunRefusal axes corners scene direction active lights scratches distances places ≡ 0)
+      ↔ NoneHolds (sunRows axes corners scene direction active lights scratches distances places)
+  unfolding sunRefusal
+  sun-passed-by =
+      (none-found (sunRows axes corners scene direction active lights scratches distances places) (omega arith, (omega arith, (omega arith, (omega arith, (omega arith, (omega arith, (omega arith, (omega arith, tt)))))))), none-given)
 
 -- ---- one result
 
