@@ -2,3 +2,4 @@
 pub mod Rays
 pub mod Hemisphere
 pub mod Light
+pub mod LightLaws

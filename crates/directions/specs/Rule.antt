@@ -43,7 +43,7 @@ abbrev pub stepOf : ℕ → ℕ → ℕ
 stepOf s i = (i + getD offsets s 0) % 64
 
 -- a and b differ by at most d
-pub record Near (d a b : ℕ) : Type 0 where
+pub record Close (d a b : ℕ) : Type 0 where
   pub low : b ≤ a + d
   pub high : a ≤ b + d
 
@@ -52,5 +52,5 @@ pub record Ruled (k : ℕ) (x y z : Float) : Type 0 where
   pub finite-x : isFinite x ≡ true
   pub finite-y : isFinite y ≡ true
   pub finite-z : isFinite z ≡ true
-  pub length : Near (2 ^ 278) (squaredLength x y z) (2 ^ 298)
-  pub height : Near (2 ^ 129) (twoAnd z) ((96 - k) * 2 ^ 144)
+  pub length : Close (2 ^ 278) (squaredLength x y z) (2 ^ 298)
+  pub height : Close (2 ^ 129) (twoAnd z) ((96 - k) * 2 ^ 144)

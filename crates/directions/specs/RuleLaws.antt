@@ -10,22 +10,22 @@ use lib.Dec.{T, leb, leb→le, lit<}
 use lib.ListN.{length, getD}
 use lib.Ieee.{Float, nan, binary32, ofBits, ofFields, odd}
 use lib.Count.{trailingZeros}
-use Rattle.directions.specs.Table.{bits, directions}
-use Rattle.directions.specs.Rule.{Near, Ruled, unitsOf, isFinite, isNegative, squaredLength, twoAnd, stepOf}
+use Rattle.directions.specs.Table.{patterns, directions}
+use Rattle.directions.specs.Rule.{Close, Ruled, unitsOf, isFinite, isNegative, squaredLength, twoAnd, stepOf}
 use Rattle.directions.specs.Triples.{both, both-left, both-right, every3, at, getD-map}
 
-pub bits-length : length bits ≡ 1728
-unfolding bits
-bits-length = refl
+pub patterns-length : length patterns ≡ 1728
+unfolding patterns
+patterns-length = refl
 
 pub directions-length : length directions ≡ 1728
-unfolding directions bits
+unfolding directions patterns
 directions-length = refl
 
 -- number n of the table is the float of its pattern
-pub number-at : (n : ℕ) → n < 1728 → getD directions n nan ≡ ofBits binary32 (getD bits n 0)
+pub number-at : (n : ℕ) → n < 1728 → getD directions n nan ≡ ofBits binary32 (getD patterns n 0)
 unfolding directions
-number-at n h = getD-map (ofBits binary32) bits n 0 nan (omega (arith, bits-length))
+number-at n h = getD-map (ofBits binary32) patterns n 0 nan (omega (arith, patterns-length))
 
 -- ---- the rule as a test
 
@@ -44,15 +44,15 @@ abbrev right : ℕ → ℕ → ℕ → ℕ → Bool
 right n x y z = ruled (stepOf (n / 64) (n % 64)) (ofBits binary32 x) (ofBits binary32 y) (ofBits binary32 z)
 
 -- the one test over the whole table, computed
-passed : T (every3 right 0 bits)
-unfolding bits ofBits ofFields odd trailingZeros unitsOf isFinite isNegative squaredLength twoAnd
+passed : T (every3 right 0 patterns)
+unfolding patterns ofBits ofFields odd trailingZeros unitsOf isFinite isNegative squaredLength twoAnd
 passed = tt
 
 holds : (b : Bool) → T b → b ≡ true
 holds true t = refl
 holds false t = absurd t
 
-near-of : (d a b : ℕ) → T (near d a b) → Near d a b
+near-of : (d a b : ℕ) → T (near d a b) → Close d a b
 near-of d a b t =
     record { low = leb→le _ _ (both-left (leb b (a + d)) (leb a (b + d)) t); high = leb→le _ _ (both-right (leb b (a + d)) (leb a (b + d)) t) }
 
@@ -74,12 +74,12 @@ rule s i hs hi =
     let n : ℕ = 64 * s + i in
     let e : n / 64 ≡ s = omega arith in
     let f : n % 64 ≡ i = omega arith in
-    let h : n * 3 + 2 < length bits = omega (arith, bits-length) in
+    let h : n * 3 + 2 < length patterns = omega (arith, patterns-length) in
     rw (number-at (n * 3) (omega arith), number-at (n * 3 + 1) (omega arith), number-at (n * 3 + 2) (omega arith))
     (ruled-of (stepOf s i) _ _ _
-    (subst (λ (m : ℕ). T (ruled (stepOf m i) (ofBits binary32 (getD bits (n * 3) 0)) (ofBits binary32 (getD bits (n * 3 + 1) 0)) (ofBits binary32 (getD bits (n * 3 + 2) 0)))) e
-    (subst (λ (m : ℕ). T (ruled (stepOf (n / 64) m) (ofBits binary32 (getD bits (n * 3) 0)) (ofBits binary32 (getD bits (n * 3 + 1) 0)) (ofBits binary32 (getD bits (n * 3 + 2) 0)))) f
-    (at right bits passed n h))))
+    (subst (λ (m : ℕ). T (ruled (stepOf m i) (ofBits binary32 (getD patterns (n * 3) 0)) (ofBits binary32 (getD patterns (n * 3 + 1) 0)) (ofBits binary32 (getD patterns (n * 3 + 2) 0)))) e
+    (subst (λ (m : ℕ). T (ruled (stepOf (n / 64) m) (ofBits binary32 (getD patterns (n * 3) 0)) (ofBits binary32 (getD patterns (n * 3 + 1) 0)) (ofBits binary32 (getD patterns (n * 3 + 2) 0)))) f
+    (at right patterns passed n h))))
 
 -- a number whose square is below another's is below it
 root-below : (a b : ℕ) → a * a < b * b → a < b

@@ -4,8 +4,8 @@ use mathlib.Core.List.{List, [], _∷_, map}
 use lib.Ieee.{Float, binary32, ofBits}
 
 -- the numbers' bit patterns: direction i of set s begins at 3 * (64 * s + i)
-unfoldable pub bits : List ℕ
-bits =
+unfoldable pub patterns : List ℕ
+patterns =
     0x3f708fb2 ∷ 0x3eaf1d44 ∷ 0x00000000 ∷ 0xbf70719d ∷ 0xbeaf0767 ∷ 0xbd000000 ∷
     0xbeaec59e ∷ 0x3f70174c ∷ 0xbd800000 ∷ 0x3eae57e1 ∷ 0xbf6f8075 ∷ 0xbdc00000 ∷
     0x3ed6aef4 ∷ 0x3f6631ef ∷ 0xbe000000 ∷ 0xbed5b90b ∷ 0xbf652a44 ∷ 0xbe200000 ∷
@@ -298,4 +298,4 @@ bits =
 
 -- the table as the bake reads it
 unfoldable pub directions : List Float
-directions = map (ofBits binary32) bits
+directions = map (ofBits binary32) patterns

@@ -1,6 +1,6 @@
 -- What a voxel's gathering means: sixteen numbers, and from 64 to 384 rays: one for each direction, and up to five more where it meets a
 -- surface. With no triangle there are 64 rays, all of which miss.
-use mathlib.Core.Path.{_≡_, refl, sym, _∙_, ap}
+use mathlib.Core.Path.{_≡_, refl, sym, _∙_}
 use mathlib.Core.List.{List, []}
 use Prim.Native.Nat.{ℕ, zero, suc, _+_, _*_, _<_, _≤_}
 use native.Mathlib.Omega.{arith}
@@ -22,7 +22,7 @@ use Rattle.surface.specs.declared.Setting.{Setting}
 use Rattle.surface.specs.Surface.{surfaceOf}
 use Rattle.surface.specs.SurfaceLaws.{extra-most}
 use Rattle.gather.specs.declared.Gathering.{Gathering}
-use Rattle.gather.specs.Gather.{GatherInput, Gathered, incomingBy, incomingOf, primaryRay, directionAt, gatheredAlong, alongFrom, gatheringOf, nothingGathered, voxelOf, costOf, gatheredOf, sixteenOf, finishedOf}
+use Rattle.gather.specs.Gather.{GatherInput, Gathered, incomingBy, primaryRay, directionAt, gatheredAlong, alongFrom, gatheringOf, nothingGathered, voxelOf, costOf, gatheredOf, sixteenOf}
 
 -- ---- two results of a call are the same
 
@@ -93,33 +93,33 @@ misses-most g i = gathering-costs _ _ _ _ _ .2
 -- ---- where a surface is met, it is one of the scene's
 
 -- the place of a hit is below n
-unfoldable pub Below : ℕ → Nearest → Type 0
-Below n Nothing = Unit
-Below n (At place t u v) = place < n
+unfoldable pub PlaceBelow : ℕ → Nearest → Type 0
+PlaceBelow n Nothing = Unit
+PlaceBelow n (At place t u v) = place < n
 
-later : (n : ℕ) (found : Nearest) → Below n found → Below (suc n) found
-unfolding Below
+later : (n : ℕ) (found : Nearest) → PlaceBelow n found → PlaceBelow (suc n) found
+unfolding PlaceBelow
 later n Nothing h = tt
 later n (At place t u v) h = omega arith
 
-nearer-below : (n : ℕ) (best : Nearest) (m : Meet) → Below n best → Below (suc n) (nearerOf best n m)
-unfolding Below nearerOf
+nearer-below : (n : ℕ) (best : Nearest) (m : Meet) → PlaceBelow n best → PlaceBelow (suc n) (nearerOf best n m)
+unfolding PlaceBelow nearerOf
 nearer-below n best Miss h = later n best h
 nearer-below n Nothing (Hit t u v) h = omega arith
 nearer-below n (At place s p q) (Hit t u v) h = go (beats t n s place)
   where
-    go : (b : Bool) → Below (suc n) (cond b (At n t u v) (At place s p q))
+    go : (b : Bool) → PlaceBelow (suc n) (cond b (At n t u v) (At place s p q))
     go true = omega arith
     go false = omega arith
 
-pub nearest-below : (scene : Scene) (ray : Ray) (n : ℕ) → Below n (nearestTo scene ray n)
-unfolding nearestTo Below
+pub nearest-below : (scene : Scene) (ray : Ray) (n : ℕ) → PlaceBelow n (nearestTo scene ray n)
+unfolding nearestTo PlaceBelow
 nearest-below scene ray zero = tt
 nearest-below scene ray (suc n) = nearer-below n (nearestTo scene ray n) (meetAt scene ray n) (nearest-below scene ray n)
 
 -- so a hit's place is one of the scene's triangles
 pub place-below : (scene : Scene) (ray : Ray) (place : ℕ) (t u v : Float) → nearestOf scene ray ≡ At place t u v → place < length (scene .uses)
-unfolding nearestOf Below
+unfolding nearestOf PlaceBelow
 place-below scene ray place t u v e = rw e at (nearest-below scene ray (length (scene .uses)))
 
 -- ---- with no triangle every ray misses

@@ -1,11 +1,9 @@
 -- Bounds of vectors and of four coefficients, and of the constants by which gather multiplies.
-use mathlib.Core.Path.{_≡_, refl, subst}
 use mathlib.Core.Bool.{Bool, true, false, cond}
 use Prim.Native.Nat.{ℕ, _+_, _*_, _^_, _<_, _≤_}
-use lib.Dec.{lit<, lit≤}
-use lib.Ieee as Ieee
-use lib.Ieee.{Float, ofBits, binary32}
-use Rattle.names.specs.Bits.{lit, zero32, one32}
+use lib.Dec.{lit≤}
+use lib.Ieee.{Float, ofBits}
+use Rattle.names.specs.Bits.{lit, one32}
 use Rattle.vectors.specs.declared.Vec3.{Vec3}
 use Rattle.vectors.specs.Vectors.{divV}
 use Rattle.bounds.specs.Bounds.{AtMost, AtLeast, EachAtMost}
@@ -47,25 +45,25 @@ taken-all false p q n k h g = g
 
 -- ---- constants
 
-pub constant-basis : AtMost 1 0 (lit 0x3e906ec1)
+pub constant-basis-small : AtMost 1 0 (lit 0x3e906ec1)
 unfolding AtMost ofBits
-constant-basis = lit≤ tt
+constant-basis-small = lit≤ tt
 
-pub linear-basis : AtMost 1 0 (lit 0x3efa2a2c)
+pub linear-basis-small : AtMost 1 0 (lit 0x3efa2a2c)
 unfolding AtMost ofBits
-linear-basis = lit≤ tt
+linear-basis-small = lit≤ tt
 
-pub primary-weight : AtMost 1 0 (lit 0x3e490fdb)
+pub primary-weight-small : AtMost 1 0 (lit 0x3e490fdb)
 unfolding AtMost ofBits
-primary-weight = lit≤ tt
+primary-weight-small = lit≤ tt
 
-pub constant-irradiance : AtMost 1 0 (lit 0x3f62dfcf)
+pub constant-irradiance-small : AtMost 1 0 (lit 0x3f62dfcf)
 unfolding AtMost ofBits
-constant-irradiance = lit≤ tt
+constant-irradiance-small = lit≤ tt
 
-pub linear-irradiance : AtMost 2 0 (lit 0x3f82fc67)
+pub linear-irradiance-small : AtMost 2 0 (lit 0x3f82fc67)
 unfolding AtMost ofBits
-linear-irradiance = lit≤ tt
+linear-irradiance-small = lit≤ tt
 
 pub floor-small : AtMost 1 0 (lit 0x3ba3d70a)
 unfolding AtMost ofBits

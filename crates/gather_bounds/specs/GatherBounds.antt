@@ -1,25 +1,25 @@
 -- What gather writes stays within ±2^64, where the rows of the public call have passed: so a resumed call is never refused for it. A ray
 -- brings at most 12 · 2^18, so that 64 of them sum to at most 1536 · 2^18 in each coefficient; irradiance at most doubles that, and the floor
 -- at most doubles it again.
-use mathlib.Core.Path.{_≡_, refl, sym, ap, _∙_, subst}
-use mathlib.Core.Bool.{Bool, true, false, cond, _&&_, _||_, false≢true}
+use mathlib.Core.Path.{_≡_, refl, sym}
+use mathlib.Core.Bool.{Bool, true, false, _&&_, _||_, false≢true}
 use mathlib.Core.List.{List, [], _∷_}
 use Prim.Native.Nat.{ℕ, zero, suc, _+_, _*_, _/_, _%_, _^_, _<_, _≤_}
-use native.Mathlib.Nat.{le-of-lt, le-trans, le-of-eq, lt-of-lt-of-le, le-of-mul-le-mul-right, mul-le-mul-right, mul-right-comm, div-lt-iff-lt-mul, add-zero}
+use native.Mathlib.Nat.{le-of-lt, le-trans, le-of-eq, le-of-mul-le-mul-right, mul-le-mul-right, mul-right-comm, div-lt-iff-lt-mul, add-zero}
 use native.Mathlib.Omega.{arith}
 use lib.Dec.{lit<, lit≤}
 use lib.ListN.{length, getD}
 use lib.Ieee as Ieee
-use lib.Ieee.{Float, nan, inf, fin, up, down, binary32, ofBits}
+use lib.Ieee.{Float, nan, inf, fin, down, ofBits}
 use lib.Ieee.Fits.{down-pos}
 use Rattle.names.specs.Bits.{lit, zero32, one32}
-use Rattle.names.specs.Numbers.{primaryRays, pointLimit, colourLimit, thinLimit, lightLimit, coefficientLimit}
-use Rattle.names.specs.Scene.{Scene, sceneOf}
+use Rattle.names.specs.Numbers.{primaryRays, pointLimit, colourLimit, lightLimit, coefficientLimit}
+use Rattle.names.specs.Scene.{Scene}
 use Rattle.lists.specs.Fold.{fold}
 use Rattle.floats.specs.OrderLaws.{le-transitive}
 use Rattle.vectors.specs.declared.Vec3.{Vec3}
 use Rattle.vectors.specs.declared.Ray.{Ray}
-use Rattle.vectors.specs.Vectors.{dotV, normalV}
+use Rattle.vectors.specs.Vectors.{normalV}
 use Rattle.bounds.specs.Bounds.{AtMost, EachAtMost}
 use Rattle.bounds.specs.BoundsLaws.{at-most-up, at-most-finite, at-most-of-test, test-of-at-most, div-at-most, int-at-most, zero-at-most, one-value, point-value, colour-value, light-value, coefficient-value}
 use Rattle.bounds.specs.VectorLaws.{dot-at-most}
@@ -29,7 +29,7 @@ use Rattle.directions.specs.Sets.{set-below}
 use Rattle.directions.specs.Rule.{unitsOf, isFinite}
 use Rattle.directions.specs.RuleLaws.{Small, number-small}
 use Rattle.grid.specs.Grid.{xOf, yOf, zOf, floatOf, edgesOf}
-use Rattle.limits.specs.Limits.{within, outsideV, upTo, wrongScene, tooMany, badPoints, badNumbers, badMaterials, badDirection, badColour, badLight, badAmbient, badSky, badLights}
+use Rattle.limits.specs.Limits.{within, upTo, wrongScene, tooMany, badPoints, badMaterials, badDirection, badColour, badLight, badAmbient, badSky, badLights}
 use Rattle.limits.specs.LimitsLaws.{within-between, vector-row, either, three, points-row, materials-row, transmission-within, colour-within, sound, direction-row, sky-row, lights-row}
 use Rattle.limits.specs.declared.Light.{Light}
 use Rattle.limits.specs.declared.Ambient.{Ambient}
@@ -38,7 +38,6 @@ use Rattle.scan.specs.Nearest.{nearestOf, nearestTo}
 use Rattle.scan.specs.declared.Nearest.{Nearest}
 use Rattle.scan.specs.declared.Nearest.the-variants.{Nothing, At}
 use Rattle.harmonics.specs.declared.Coefficients.{Coefficients}
-use Rattle.harmonics.specs.Harmonics.{zeroV}
 use Rattle.surface.specs.declared.Setting.{Setting}
 use Rattle.gather.specs.declared.Gathering.{Gathering}
 use Rattle.gather.specs.Gather.{GatherInput, ambientOf, settingOf, directionAt, primaryRay, incomingBy, gatheredAlong, alongFrom, nothingGathered, gatheringOf, setAt, voxelOf, finishedOf, sixteenOf, skySeen, gatheredOf}

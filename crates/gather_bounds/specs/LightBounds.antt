@@ -1,7 +1,7 @@
 -- How large the light of a surface and its projection are, from colours up to 2^16 and normals whose components are at most 2.
-use mathlib.Core.Path.{_≡_, refl, sym, ap, _∙_}
+use mathlib.Core.Path.{_≡_, refl, sym, _∙_}
 use mathlib.Core.Bool.{Bool, true, false, cond, false≢true}
-use Prim.Native.Nat.{ℕ, zero, suc, _+_, _-_, _*_, _/_, _%_, _^_, _<_, _≤_, compare}
+use Prim.Native.Nat.{ℕ, zero, suc, _+_, _-_, _*_, _/_, _%_, _^_, _≤_, compare}
 use native.Mathlib.Nat.{zero-mul, mul-le-mul-right, lt-of-le-of-lt}
 use native.Mathlib.Omega.{arith}
 use lib.Dec.{lit<, lit≤, eqb, ltb}
@@ -11,16 +11,15 @@ use lib.Ieee as Ieee
 use lib.Ieee.{Float, nan, inf, fin, isNan, ofBits, odd, units, round, nearest, size, up, down, binary32}
 use lib.Ieee.Scale.{finite}
 use Rattle.names.specs.Bits.{lit, zero32, one32}
-use Rattle.floats.specs.FiniteLaws.{finite-number}
 use Rattle.vectors.specs.declared.Vec3.{Vec3}
-use Rattle.vectors.specs.Vectors.{negV, addV, scaleV, mulV, divV, dotV, clampOf, lerpV}
+use Rattle.vectors.specs.Vectors.{negV, addV, scaleV, dotV, lerpV}
 use Rattle.bounds.specs.Bounds.{AtMost, EachAtMost}
 use Rattle.bounds.specs.BoundsLaws.{at-most-up, at-most-finite, add-at-most, sub-at-most, mul-at-most, larger-at-most, clamp-at-most, zero-at-most}
 use Rattle.bounds.specs.VectorLaws.{neg-each, add-each, mul-each, scale-each, larger-each, dot-at-most}
 use Rattle.harmonics.specs.declared.Coefficients.{Coefficients}
-use Rattle.harmonics.specs.Harmonics.{zeroV, constantBasis, linearBasis, primaryWeight, addWeighted, projected, addedTo, irradianceOf, evaluatedAt, raisedV, raisedOf, floor32, luminanceOf, blendedV, blendedOf, shortfallOf, flooredOf}
+use Rattle.harmonics.specs.Harmonics.{zeroV, linearBasis, primaryWeight, addWeighted, projected, addedTo, irradianceOf, evaluatedAt, raisedV, raisedOf, floor32, luminanceOf, blendedV, blendedOf, shortfallOf, flooredOf}
 use Rattle.bounce.specs.Light.{facingOf, slantOf, sunlightOf, skylightOf, bouncedOf, reflectedOf}
-use Rattle.gather_bounds.specs.Each.{each-up, div-each, zero-each, taken-each, AllAtMost, all-up, taken-all, constant-basis, linear-basis, primary-weight, constant-irradiance, linear-irradiance, floor-small, red-small, green-small, blue-small, quarter-small, one-small, pi-least}
+use Rattle.gather_bounds.specs.Each.{each-up, div-each, zero-each, taken-each, AllAtMost, all-up, taken-all, constant-basis-small, linear-basis-small, primary-weight-small, constant-irradiance-small, linear-irradiance-small, floor-small, red-small, green-small, blue-small, quarter-small, one-small, pi-least}
 
 -- ---- light on a surface
 
@@ -72,17 +71,17 @@ weighted-each : (sum r : Vec3) (b : Float) (n : ℕ) → n ≤ 1536 → EachAtMo
     → EachAtMost (n + 24) 18 (addWeighted sum r b)
 unfolding addWeighted
 weighted-each sum r b n N h g k =
-    let w = mul-at-most b primaryWeight 2 0 1 0 (lit< tt) (lit< tt) k primary-weight in
+    let w = mul-at-most b primaryWeight 2 0 1 0 (lit< tt) (lit< tt) k primary-weight-small in
     add-each sum _ n 24 18 (omega arith) (lt-of-le-of-lt (mul-le-mul-right {m = n + 24} {n = 1560} (2 ^ 18) (omega arith)) (lit< tt)) h (scale-each r _ 12 18 2 0 (lit< tt) (lit< tt) g w)
 
 linear-each : (x : Float) → AtMost 2 0 x → AtMost 2 0 (Ieee.mul binary32 linearBasis x)
-linear-each x h = mul-at-most linearBasis x 1 0 2 0 (lit< tt) (lit< tt) linear-basis h
+linear-each x h = mul-at-most linearBasis x 1 0 2 0 (lit< tt) (lit< tt) linear-basis-small h
 
 pub projected-all : (s : Coefficients) (d r : Vec3) (n : ℕ) → n ≤ 1536 → AllAtMost n 18 s → EachAtMost 2 0 d → EachAtMost 12 18 r
     → AllAtMost (n + 24) 18 (projected s d r)
 unfolding projected
 projected-all s d r n N h g k =
-    record { c0 = weighted-each (s .c0) r _ n N (h .c0) k (at-most-up _ 1 0 2 0 (lit≤ tt) constant-basis); c1 = weighted-each (s .c1) r _ n N (h .c1) k (linear-each (d .y) (g .y)); c2 = weighted-each (s .c2) r _ n N (h .c2) k (linear-each (d .z) (g .z)); c3 = weighted-each (s .c3) r _ n N (h .c3) k (linear-each (d .x) (g .x)) }
+    record { c0 = weighted-each (s .c0) r _ n N (h .c0) k (at-most-up _ 1 0 2 0 (lit≤ tt) constant-basis-small); c1 = weighted-each (s .c1) r _ n N (h .c1) k (linear-each (d .y) (g .y)); c2 = weighted-each (s .c2) r _ n N (h .c2) k (linear-each (d .z) (g .z)); c3 = weighted-each (s .c3) r _ n N (h .c3) k (linear-each (d .x) (g .x)) }
 
 pub added-all : (s : Coefficients) (d r : Vec3) (n : ℕ) → n ≤ 1536 → AllAtMost n 18 s → EachAtMost 2 0 d → EachAtMost 12 18 r
     → AllAtMost (n + 24) 18 (addedTo s d r)
@@ -94,7 +93,7 @@ added-all s d r n N h g k = taken-all (Ieee.le (dotV r r) zero32) s _ (n + 24) 1
 pub irradiance-all : (c : Coefficients) → AllAtMost 1536 18 c → AllAtMost 3072 18 (irradianceOf c)
 unfolding irradianceOf
 irradiance-all c h =
-    record { c0 = each-up _ 1536 18 3072 18 (lit≤ tt) (scale-each (c .c0) _ 1536 18 1 0 (lit< tt) (lit< tt) (h .c0) constant-irradiance); c1 = scale-each (c .c1) _ 1536 18 2 0 (lit< tt) (lit< tt) (h .c1) linear-irradiance; c2 = scale-each (c .c2) _ 1536 18 2 0 (lit< tt) (lit< tt) (h .c2) linear-irradiance; c3 = scale-each (c .c3) _ 1536 18 2 0 (lit< tt) (lit< tt) (h .c3) linear-irradiance }
+    record { c0 = each-up _ 1536 18 3072 18 (lit≤ tt) (scale-each (c .c0) _ 1536 18 1 0 (lit< tt) (lit< tt) (h .c0) constant-irradiance-small); c1 = scale-each (c .c1) _ 1536 18 2 0 (lit< tt) (lit< tt) (h .c1) linear-irradiance-small; c2 = scale-each (c .c2) _ 1536 18 2 0 (lit< tt) (lit< tt) (h .c2) linear-irradiance-small; c3 = scale-each (c .c3) _ 1536 18 2 0 (lit< tt) (lit< tt) (h .c3) linear-irradiance-small }
 
 pub raised-all : (c : Coefficients) (n k : ℕ) → AllAtMost n k c → AllAtMost n k (raisedOf c)
 unfolding raisedOf

@@ -1,48 +1,42 @@
 -- How large what a scene's surfaces send back is, where its numbers lie within document 01's limits.
-use mathlib.Core.Path.{_≡_, refl, sym, ap, _∙_, subst}
+use mathlib.Core.Path.{_≡_, refl, sym, _∙_}
 use mathlib.Core.Bool.{Bool, true, false, cond, false≢true}
 use mathlib.Core.List.{List, [], _∷_}
-use Prim.Native.Nat.{ℕ, zero, suc, _+_, _*_, _^_, _<_, _≤_}
+use Prim.Native.Nat.{ℕ, zero, suc, _+_, _*_, _<_}
 use native.Mathlib.Nat.{add-zero}
 use native.Mathlib.Omega.{arith}
-use lib.Dec.{lit<, lit≤, eqb}
+use lib.Dec.{lit<, eqb}
 use lib.ListN.{length, getD}
 use lib.Ieee as Ieee
 use lib.Ieee.{Float, nan, isNan, binary32, ofBits}
-use lib.Ieee.Scale.{finite}
-use Rattle.names.specs.Bits.{lit, zero32, one32}
+use Rattle.names.specs.Bits.{zero32, one32}
 use Rattle.names.specs.Numbers.{thinLimit}
 use Rattle.names.specs.Scene.{Scene, Sound}
 use Rattle.lists.specs.Fold.{fold}
 use Rattle.floats.specs.FiniteLaws.{finite-number}
 use Rattle.floats.specs.OrderLaws.{not-lt-le}
-use Rattle.vectors.specs.declared.Vec3.{Vec3}
 use Rattle.vectors.specs.declared.Ray.{Ray}
-use Rattle.vectors.specs.declared.Triangle.{Triangle}
-use Rattle.vectors.specs.Vectors.{vec, subV, dotV, crossV, normalV}
 use Rattle.bounds.specs.Bounds.{AtMost, EachAtMost}
-use Rattle.bounds.specs.BoundsLaws.{at-most-up, at-most-finite, add-at-most, mul-at-most, zero-at-most}
+use Rattle.bounds.specs.BoundsLaws.{at-most-finite, add-at-most, mul-at-most, zero-at-most}
 use Rattle.bounds.specs.VectorLaws.{sub-each, cross-each, dot-at-most, clamp-each}
 use Rattle.bounds.specs.NormalLaws.{thin-normal-within}
 use Rattle.triangle.specs.Places.{vecAt, triangleAt}
-use Rattle.triangle.specs.Meet.{absentOf, meetOf}
+use Rattle.triangle.specs.Meet.{absentOf}
 use Rattle.triangle.specs.Laws.{hit-met}
 use Rattle.triangle.specs.declared.Meet.{Meet}
 use Rattle.triangle.specs.declared.Meet.the-variants.{Miss, Hit}
-use Rattle.scan.specs.Nearest.{nearestOf, nearestTo, nearerOf, meetAt, beats}
+use Rattle.scan.specs.Nearest.{nearestTo, nearerOf, meetAt, beats}
 use Rattle.scan.specs.declared.Nearest.{Nearest}
 use Rattle.scan.specs.declared.Nearest.the-variants.{Nothing, At}
 use Rattle.scan.specs.Hits.{hitsOf, placesOf}
 use Rattle.scan.specs.HitLaws.{places-below}
 use Rattle.scan.specs.Transmittance.{transmittanceOf, passOf, kindAt, transmissionAt, faintLimit}
-use Rattle.harmonics.specs.Harmonics.{zeroV, raisedV}
-use Rattle.bounce.specs.Light.{faceNormal, facingOf, blackOf, slantOf}
+use Rattle.bounce.specs.Light.{faceNormal, blackOf, slantOf}
 use Rattle.surface.specs.declared.Setting.{Setting}
 use Rattle.surface.specs.declared.Surface.{Surface}
-use Rattle.surface.specs.declared.Seen.{Seen}
 use Rattle.surface.specs.declared.Traced.{Traced}
-use Rattle.surface.specs.Surface.{surfaceOf, seenBy, seenOf, sunOf, skyOf, bouncedBy, skyRay, sunRay}
-use Rattle.gather_bounds.specs.Each.{each-up, zero-each, AllAtMost, one-small}
+use Rattle.surface.specs.Surface.{surfaceOf, seenBy, seenOf, sunOf, skyOf, bouncedBy, skyRay, shadowRay}
+use Rattle.gather_bounds.specs.Each.{zero-each, AllAtMost, one-small}
 use Rattle.gather_bounds.specs.LightBounds.{raised-each, facing-each, skylight-each, sunlight-each, reflected-each}
 
 -- the numbers of a scene lie within the limits
@@ -60,11 +54,11 @@ pub record ModestSetting (s : Setting) : Type 0 where
 
 -- ---- transmittance is at most 1
 
-abbrev Below : ℕ → List ℕ → Type 0
-Below n [] = Unit
-Below n (i ∷ is) = (i < n) × Below n is
+abbrev EachBelow : ℕ → List ℕ → Type 0
+EachBelow n [] = Unit
+EachBelow n (i ∷ is) = (i < n) × EachBelow n is
 
-below : (n : ℕ) (is : List ℕ) → ((j : ℕ) → j < length is → getD is j 0 < n) → Below n is
+below : (n : ℕ) (is : List ℕ) → ((j : ℕ) → j < length is → getD is j 0 < n) → EachBelow n is
 below n [] f = tt
 below n (i ∷ is) f = (f 0 (omega arith), below n is (λ j h. f (suc j) (omega arith)))
 
@@ -87,7 +81,7 @@ module _ (s : Scene) (m : Modest s) where
   transmission-small : (i : ℕ) → i < length (s .uses) → AtMost 1 0 (transmissionAt (s .uses) (s .numbers) i)
   transmission-small i h = m .transmissions (getD (s .uses) i 0) (m .sound .within i h)
 
-  pass-small : (w : Float) (is : List ℕ) → AtMost 1 0 w → Below (length (s .uses)) is → AtMost 1 0 (passOf (s .uses) (s .kinds) (s .numbers) w is)
+  pass-small : (w : Float) (is : List ℕ) → AtMost 1 0 w → EachBelow (length (s .uses)) is → AtMost 1 0 (passOf (s .uses) (s .kinds) (s .numbers) w is)
   unfolding passOf
   pass-small w [] h b = h
   pass-small w (i ∷ is) h b =
@@ -191,7 +185,7 @@ module _ (s : Scene) (m : Modest s) where
 
     sun-small : EachAtMost 3 18 (sunOf s g f .light)
     unfolding sunOf
-    sun-small = go (Ieee.lt zero32 (slantOf (f .normal) (g .toward))) _ _ (sunlight-each (g .colour) (f .normal) (g .toward) _ (h .colour) (k .normal) (h .toward) (transmittance-small (sunRay g f))) (zero-each 3 18)
+    sun-small = go (Ieee.lt zero32 (slantOf (f .normal) (g .toward))) _ _ (sunlight-each (g .colour) (f .normal) (g .toward) _ (h .colour) (k .normal) (h .toward) (transmittance-small (shadowRay g f))) (zero-each 3 18)
       where
         go : (b : Bool) (x y : Traced) → EachAtMost 3 18 (x .light) → EachAtMost 3 18 (y .light) → EachAtMost 3 18 (cond b x y .light)
         go true x y p q = p

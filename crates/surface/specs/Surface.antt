@@ -55,8 +55,8 @@ surfaceOf scene ray place distance hit =
 -- ---- its rays
 
 -- to the sun
-unfoldable pub sunRay : Setting → Surface → Ray
-sunRay setting surface = rayFrom (surface .point) (setting .toward) (setting .biases .step) (setting .biases .shortest)
+unfoldable pub shadowRay : Setting → Surface → Ray
+shadowRay setting surface = rayFrom (surface .point) (setting .toward) (setting .biases .step) (setting .biases .shortest)
 
 -- along hemisphere direction j of a frame
 unfoldable pub skyRayIn : Setting → Surface → Frame → ℕ → Ray
@@ -91,7 +91,7 @@ skyOf scene setting surface =
 unfoldable pub sunOf : Scene → Setting → Surface → Traced
 sunOf scene setting surface =
     let slant = slantOf (surface .normal) (setting .toward) in
-    cond (Ieee.lt zero32 slant) (traced (sunlightOf (setting .colour) slant (transmittanceOf scene (sunRay setting surface))) 1) (traced zeroV 0)
+    cond (Ieee.lt zero32 slant) (traced (sunlightOf (setting .colour) slant (transmittanceOf scene (shadowRay setting surface))) 1) (traced zeroV 0)
 
 -- what it sends back, and the rays that this takes
 unfoldable pub bouncedBy : Scene → Setting → Surface → Traced

@@ -1,8 +1,8 @@
 -- What the count of a surface's rays is, in document 01's words: "Extra rays for a hit: 0 if albedo and emissive both have squared length
 -- ≤0, else 4, and one more if n·l>0."
 use mathlib.Core.Path.{_≡_, refl}
-use mathlib.Core.Bool.{Bool, true, false, cond, _||_}
-use Prim.Native.Nat.{ℕ, _+_, _≤_}
+use mathlib.Core.Bool.{Bool, true, false, cond}
+use Prim.Native.Nat.{_+_, _≤_}
 use native.Mathlib.Omega.{arith}
 use lib.Ieee as Ieee
 use lib.Ieee.{Float, nan, inf, fin, isNan, ofBits}
@@ -10,7 +10,6 @@ use Rattle.names.specs.Bits.{zero32}
 use Rattle.names.specs.Scene.{Scene}
 use Rattle.lists.specs.Fold.{fold}
 use Rattle.floats.specs.Choice.{largerOf}
-use Rattle.vectors.specs.declared.Vec3.{Vec3}
 use Rattle.vectors.specs.Vectors.{dotV}
 use Rattle.bounce.specs.Light.{blackOf, slantOf}
 use Rattle.surface.specs.declared.Setting.{Setting}

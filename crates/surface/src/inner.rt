@@ -6,7 +6,7 @@ ghost use lib.ListN.{length, getD};
 ghost use Rattle.names.specs.Scene.{Sound, sceneOf};
 ghost use Rattle.triangle.specs.Places.{vecAt};
 ghost use Rattle.bounce.specs.Hemisphere.{hemisphere};
-ghost use Rattle.surface.specs.Surface.{surfaceOf, sunRay, skyRayIn, seenBy, seenOf, sunOf, skyOf, bouncedBy};
+ghost use Rattle.surface.specs.Surface.{surfaceOf, shadowRay, skyRayIn, seenBy, seenOf, sunOf, skyOf, bouncedBy};
 use super::Seen;
 use super::Setting;
 use super::Surface;
@@ -76,8 +76,8 @@ pub fn surface_at(
 // ---- the rays of a surface
 
 // To the sun.
-pub fn sun_ray(setting: Setting, surface: Surface) -> Ray
-    ensures { λ r. ⌜ r ≡ sunRay setting surface ⌝ }
+pub fn shadow_ray(setting: Setting, surface: Surface) -> Ray
+    ensures { λ r. ⌜ r ≡ shadowRay setting surface ⌝ }
 {
     bounce::ray_from(
         surface.point,
@@ -203,7 +203,7 @@ fn light_sun(
 {
     let slant = bounce::slant(surface.normal, setting.toward);
     if slant > 0.0 {
-        let ray = sun_ray(setting, surface);
+        let ray = shadow_ray(setting, surface);
         let passed = scan::inner::transmittance(
             points,
             uses,

@@ -1,6 +1,6 @@
 -- `direction_table::print_number` reads within the table, and takes the pattern only of what the test found to be no NaN.
 use mathlib.Core.Path.{_≡_, sym}
-use mathlib.Core.Bool.{true, false, not, false≢true}
+use mathlib.Core.Bool.{false, not, false≢true}
 use lib.Dec.{T}
 use lib.Ieee.{Float, nan, inf, fin, isNan, eq, ne}
 use borrow.Author.Needs.{needs}

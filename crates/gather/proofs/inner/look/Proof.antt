@@ -1,5 +1,5 @@
 -- `gather::inner::look` meets its contract: each arm is a clause of the definition, and the place of what is met is one of the scene's.
-use mathlib.Core.Path.{_≡_, sym, _∙_}
+use mathlib.Core.Path.{sym, _∙_}
 use Prim.Native.Nat.{_≤_}
 use native.Mathlib.Omega.{arith}
 use borrow.Author.Needs.{needs}
