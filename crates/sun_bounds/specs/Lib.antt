@@ -1,0 +1,3 @@
+-- How large the light is that a sun pass writes.
+pub mod BlurBounds
+pub mod LightBounds

@@ -1,0 +1,87 @@
+-- What an accepted sun pass writes is never refused as light: before the blur each number lies from 0 to 1, and after it within ±1.
+use mathlib.Core.Path.{_≡_, refl, sym, ap, _∙_}
+use mathlib.Core.Bool.{Bool, true, false, cond, _&&_, false≢true}
+use mathlib.Core.List.{List}
+use Prim.Native.Nat.{ℕ, _<_, _*_, _^_}
+use native.Mathlib.Omega.{arith}
+use lib.Dec.{lit≤}
+use lib.ListN.{length, getD}
+use lib.Ieee.{Float, nan, neg, le, lt, eq, ofBits}
+use Rattle.names.specs.Bits.{zero32, one32}
+use Rattle.names.specs.Numbers.{lightLimit}
+use Rattle.names.specs.Scene.{Scene}
+use Rattle.lists.specs.Fold.{tab, length-tab, getD-tab}
+use Rattle.floats.specs.OrderLaws.{le-transitive}
+use Rattle.vectors.specs.declared.Vec3.{Vec3}
+use Rattle.grid.specs.Grid.{voxels}
+use Rattle.grid.specs.declared.Axes.{Axes}
+use Rattle.grid.specs.declared.Corners.{Corners}
+use Rattle.limits.specs.Limits.{within, upTo, badLights}
+use Rattle.limits.specs.LimitsLaws.{within-between, lights-row}
+use Rattle.bounds.specs.Bounds.{AtMost}
+use Rattle.bounds.specs.BoundsLaws.{at-most-up, at-most-of-test, test-of-at-most, one-value, light-value}
+use Rattle.means.specs.Box.{lightBlurOf, squareAt}
+use Rattle.scan_laws.specs.TransmittanceLaws.{one-is-within}
+use Rattle.sun.specs.Sun.{sunBefore, sunLight, sunRefusal, noneActive, allOnes}
+use Rattle.sun.specs.SunLaws.{length-before, sun-ready}
+use Rattle.sun.specs.SunBounds.{before-within}
+use Rattle.sun_bounds.specs.BlurBounds.{blurred-at-most}
+
+below-zero : le (neg one32) zero32 ≡ true
+unfolding le lt eq neg ofBits
+below-zero = refl
+
+and-both : (a b : Bool) → a && b ≡ true → (a ≡ true) × (b ≡ true)
+and-both true b h = (refl, h)
+and-both false b h = absurd (false≢true h)
+
+-- from 0 to 1, so within ±1
+unit-at-most : (x : Float) → upTo one32 x ≡ true → AtMost 1 0 x
+unfolding upTo
+unit-at-most x h =
+    let p = and-both (le zero32 x) (le x one32) h in
+    at-most-of-test x one32 1 0 one-value (le-transitive (neg one32) zero32 x below-zero (p .0)) (p .1)
+
+-- within ±1, so within the light's limit
+at-most-light : (x : Float) → AtMost 1 0 x → within lightLimit x ≡ true
+at-most-light x h =
+    let t = test-of-at-most x lightLimit 1 64 light-value (at-most-up x 1 0 1 64 (lit≤ tt) h) in
+    within-between lightLimit x .1 t
+
+units-accepted : (l : List Float) → ((i : ℕ) → i < length l → AtMost 1 0 (getD l i nan)) → badLights l ≡ false
+units-accepted l h = lights-row l .1 (λ i p. at-most-light _ (h i p))
+
+module _ (axes : Axes) (corners : Corners) (scene : Scene) (direction : Vec3) (active : List ℕ) (lights scratches distances places : ℕ)
+    (accepted : sunRefusal axes corners scene direction active lights scratches distances places ≡ 0) where
+  before-units : (i : ℕ) → i < length (sunBefore axes corners scene direction active) → AtMost 1 0 (getD (sunBefore axes corners scene direction active) i nan)
+  before-units i h =
+      unit-at-most _
+      (before-within axes corners scene direction active lights scratches distances places accepted i
+      (omega (arith, length-before axes corners scene direction active)))
+
+  -- what the light's scratch list holds
+  pub before-accepted : badLights (sunBefore axes corners scene direction active) ≡ false
+  before-accepted = units-accepted _ before-units
+
+  -- what the light holds
+  pub light-accepted : badLights (sunLight axes corners scene direction active) ≡ false
+  unfolding sunLight lightBlurOf
+  light-accepted = by (noneActive active)
+    where
+      ones : (i : ℕ) → i < length (allOnes axes) → AtMost 1 0 (getD (allOnes axes) i nan)
+      ones i h =
+          let l = length-tab (λ (j : ℕ). one32) (voxels axes) 0 in
+          rw (getD-tab (λ (j : ℕ). one32) (voxels axes) 0 i nan (omega arith)) (unit-at-most one32 one-is-within)
+
+      blurred : (i : ℕ) → i < length (lightBlurOf (sunBefore axes corners scene direction active) (axes .width) (axes .height) (axes .depth))
+          → AtMost 1 0 (getD (lightBlurOf (sunBefore axes corners scene direction active) (axes .width) (axes .height) (axes .depth)) i nan)
+      blurred i h =
+          let r = sun-ready axes corners scene direction active lights scratches distances places accepted .traceable .axes-fit in
+          let b = sunBefore axes corners scene direction active in
+          let l = length-tab (squareAt b (axes .width) (axes .height) (axes .depth)) (length b) 0 in
+          blurred-at-most axes b (r .width) (r .height) (length-before axes corners scene direction active) before-units i (omega arith)
+
+      by : (c : Bool)
+          → badLights (cond c (allOnes axes) (lightBlurOf (sunBefore axes corners scene direction active) (axes .width) (axes .height) (axes .depth))) ≡ false
+      by true = units-accepted _ ones
+      by false = units-accepted _ blurred
