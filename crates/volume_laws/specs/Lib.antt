@@ -2,4 +2,5 @@
 pub mod Written
 pub mod Kept
 pub mod RoundTrip
+pub mod InWords
 pub mod Smallest
