@@ -2,3 +2,4 @@
 pub mod Baked
 pub mod BakedLaws
 pub mod ShutOut
+pub mod GoesOn
