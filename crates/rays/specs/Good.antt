@@ -1,7 +1,6 @@
 -- Good calls are accepted: the ray down on triangle Q, alone and as a scene of one opaque triangle.
 use mathlib.Core.Path.{_≡_, refl}
-use mathlib.Core.List.{List, [], _∷_}
-use Prim.Native.Nat.{ℕ}
+use mathlib.Core.List.{[], _∷_}
 use lib.Ieee.{Float, ofBits, ofFields, odd, neg, le, lt, eq, isNan}
 use Rattle.names.specs.Bits.{lit, zero32, one32, inf32}
 use Rattle.names.specs.Refusals.{firstOf}

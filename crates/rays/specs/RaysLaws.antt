@@ -1,15 +1,14 @@
 -- What the answers of the ray calls mean: each contract leaves one answer, an accepted scene's lists fit each other, and good calls are accepted.
 use mathlib.Core.Path.{_≡_, refl, sym, ap, ap₂, _∙_}
-use mathlib.Core.Bool.{Bool, true, false, cond, _||_}
+use mathlib.Core.Bool.{Bool, true, false, cond}
 use mathlib.Core.Logic.{_↔_}
-use mathlib.Core.List.{List, [], _∷_}
+use mathlib.Core.List.{List}
 use Prim.Native.Nat.{ℕ, _≤_, _<_}
 use native.Mathlib.Omega.{arith}
 use lib.Dec.{eqb}
 use lib.ListN.{length}
 use lib.Ieee.{Float}
 use borrow.Author.Tests.{ltb-false}
-use Rattle.names.specs.Bits.{zero32}
 use Rattle.names.specs.Refusals.{firstOf, unlessRefused, FirstIs, NoneHolds, first-given, first-found, none-given, none-found}
 use Rattle.names.specs.Scene.{Scene, Sound}
 use Rattle.vectors.specs.declared.Ray.{Ray}
@@ -24,7 +23,7 @@ use Rattle.scan.specs.declared.Nearest.{Nearest}
 use Rattle.rays.specs.declared.Met.{Met}
 use Rattle.rays.specs.declared.Found.{Found}
 use Rattle.rays.specs.declared.Transmitted.{Transmitted}
-use Rattle.rays.specs.Rays.{Values, refusedValues, metValues, foundValues, meetRows, meetRefusal, metCase, testValues, metOf, meetValues, MeetAnswered, wrongLists, sceneRows, nearestRefusal, foundCase, scanValues, foundOf, nearestValues, NearestAnswered, wrongScratch, transmittanceRefusal, TransmittanceAnswered}
+use Rattle.rays.specs.Rays.{Values, metValues, foundValues, meetRows, meetRefusal, metCase, testValues, metOf, meetValues, MeetAnswered, wrongLists, sceneRows, nearestRefusal, foundCase, scanValues, foundOf, nearestValues, NearestAnswered, wrongScratch, transmittanceRefusal, TransmittanceAnswered}
 
 -- ---- k is refused exactly when row k holds and none before it, and a call is accepted exactly when none holds
 

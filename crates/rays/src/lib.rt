@@ -1,7 +1,6 @@
 // The public calls over rays: the test of one triangle, the nearest hit, and how much light passes. Each tests its input first; a refusal answers
 // its number and writes nothing.
 ghost use mathlib.Core.Path.{_≡_};
-ghost use mathlib.Core.Bool.{_||_};
 ghost use lib.ListN.{length};
 ghost use Rattle.names.specs.Refusals.{firstOf};
 ghost use Rattle.names.specs.Scene.{sceneOf};

@@ -1,11 +1,10 @@
 -- The Rust's own scan for the nearest hit: each hit's distance becomes the longest of what follows, and a later hit takes the place of what is held
 -- (raytracer.rs, trace_nearest). It answers what `nearestOf` answers, which tests every triangle over the whole ray and keeps the better.
-use mathlib.Core.Path.{_≡_, refl, sym, ap, _∙_}
-use mathlib.Core.Bool.{Bool, true, false, cond, _||_, _&&_, false≢true}
+use mathlib.Core.Path.{_≡_, refl, sym, _∙_}
+use mathlib.Core.Bool.{Bool, true, false, cond, false≢true}
 use Prim.Native.Nat.{ℕ, zero, suc, _<_}
 use native.Mathlib.Omega.{arith}
 use borrow.Author.Tests.{lt-ltb}
-use lib.Dec.{ltb}
 use lib.ListN.{length}
 use lib.Ieee.{Float, binary32, add, lt, eq, le, isNan}
 use Rattle.floats.specs.Choice.{magnitudeOf}
@@ -18,7 +17,6 @@ use Rattle.triangle.specs.Meet.{flatLimit, largest32, absentOf, solvedOf, judge
 use Rattle.triangle.specs.Laws.{hit-met}
 use Rattle.triangle.specs.declared.Meet.{Meet}
 use Rattle.triangle.specs.declared.Meet.the-variants.{Miss, Hit}
-use Rattle.triangle.specs.declared.Solved.{Solved}
 use Rattle.scan.specs.Nearest.{beats, nearerOf, meetAt, nearestTo, nearestOf}
 use Rattle.scan.specs.declared.Nearest.{Nearest}
 use Rattle.scan.specs.declared.Nearest.the-variants.{Nothing, At}

@@ -1,6 +1,6 @@
 -- Consequences of the order of floats (floats' OrderLaws) in the form that the scans ask for.
 use mathlib.Core.Path.{_≡_, refl, sym, _∙_}
-use mathlib.Core.Bool.{Bool, true, false, _||_, false≢true}
+use mathlib.Core.Bool.{Bool, true, false, false≢true}
 use lib.Ieee.{Float, lt, eq, le, isNan}
 use Rattle.floats.specs.OrderLaws.{lt-tells-apart, eq-symmetric, eq-not-lt, le-not-lt, le-transitive, lt-le-transitive, le-lt-transitive, eq-numbers}
 

@@ -1,16 +1,15 @@
 -- What a transmittance is: 0 where the ray hits an opaque triangle, wherever it stands, and always from 0 to 1.
 use mathlib.Core.Path.{_≡_, refl, sym, ap, _∙_}
 use mathlib.Core.Bool.{Bool, true, false, cond, _||_, _&&_, false≢true}
-use mathlib.Core.Logic.{_⊎_, inl, inr, ⊎-elim}
+use mathlib.Core.Logic.{_⊎_, ⊎-elim}
 use mathlib.Core.List.{List, [], _∷_, List·Memᴰ, List·Memᴰ·head, List·Memᴰ·tail, List·Memᴰ·cases-cons, List·Memᴰ·not-nil}
-use Prim.Native.Nat.{ℕ, zero, suc, _+_, _*_, _%_, _≤_, _<_, suc-le-suc, zero-le}
+use Prim.Native.Nat.{ℕ, zero, suc, _+_, _*_, _≤_, _<_, suc-le-suc, zero-le}
 use native.Mathlib.Nat.{mul-le-mul, mul-one, one-mul, zero-mul, mul-zero, mul-pos}
 use native.Mathlib.Omega.{arith}
 use borrow.Author.Tests.{ltb-true, eqb-true}
 use lib.Dec.{T, ltb, eqb}
-use lib.IntN.{ℤ, pos}
+use lib.IntN.{ℤ}
 use lib.ListN.{length, getD}
-use lib.Ieee as Ieee
 use lib.Ieee.{Float, nan, inf, fin, binary32, ofBits, up, down, round, units, odd, size, climb, span, lt, eq, le, mul}
 use lib.Ieee.Fits.{up-pos, down-pos}
 use lib.Ieee.Order.{round-mono}
@@ -22,7 +21,7 @@ use Rattle.limits.specs.Limits.{upTo, badNumbers}
 use Rattle.limits.specs.LimitsLaws.{transmission-within}
 use Rattle.triangle.specs.declared.Meet.the-variants.{Hit}
 use Rattle.scan.specs.Nearest.{meetAt}
-use Rattle.scan.specs.Hits.{Struck, struck, hitsOf, placesOf}
+use Rattle.scan.specs.Hits.{Struck, hitsOf, placesOf}
 use Rattle.scan.specs.HitLaws.{hits-all, places-below}
 use Rattle.scan.specs.Transmittance.{faintLimit, kindAt, transmissionAt, passOf, transmittanceOf}
 

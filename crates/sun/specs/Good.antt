@@ -1,6 +1,6 @@
 -- A good call is accepted: one active voxel, no triangles, the light straight up.
 use mathlib.Core.Path.{_≡_, refl}
-use mathlib.Core.List.{List, [], _∷_}
+use mathlib.Core.List.{[], _∷_}
 use lib.Ieee.{ofBits, ofFields, odd, neg, le, lt, eq, add, sub, mul, div, ofInt, round, sum, units, size, climb, span}
 use Rattle.names.specs.Bits.{zero32, one32}
 use Rattle.names.specs.Refusals.{firstOf}

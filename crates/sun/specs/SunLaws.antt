@@ -1,8 +1,8 @@
 -- What the sun pass means: each figure before the blur, all of them 1.0 where no voxel is active; one result; and what an accepted call has.
 use mathlib.Core.Path.{_≡_, refl, sym, ap, ap₂, _∙_}
-use mathlib.Core.Bool.{Bool, true, false, cond, _||_, false≢true}
+use mathlib.Core.Bool.{Bool, true, false}
 use mathlib.Core.Logic.{_↔_}
-use mathlib.Core.List.{List, [], _∷_}
+use mathlib.Core.List.{List, _∷_}
 use Prim.Native.Nat.{ℕ, zero, suc, _+_, _≤_, _<_}
 use native.Mathlib.Nat.{zero-add}
 use native.Mathlib.Omega.{arith}
@@ -10,16 +10,15 @@ use lib.ListN.{length, getD}
 use lib.Ieee.{Float, nan}
 use borrow.Author.Tests.{ltb-false, eqb-true, not-false}
 use Rattle.names.specs.Bits.{one32}
-use Rattle.names.specs.Refusals.{unlessRefused, FirstIs, NoneHolds, first-given, first-found, none-given, none-found}
-use Rattle.names.specs.Scene.{Scene, Sound}
+use Rattle.names.specs.Refusals.{FirstIs, NoneHolds, first-given, first-found, none-given, none-found}
+use Rattle.names.specs.Scene.{Scene}
 use Rattle.lists.specs.Fold.{tab, length-tab, getD-tab}
-use Rattle.lists.specs.Any.{any}
 use Rattle.vectors.specs.Vectors.{normalV}
 use Rattle.vectors.specs.declared.Vec3.{Vec3}
-use Rattle.grid.specs.Grid.{voxels, xOf, yOf, zOf, edgesOf, centreOf, AxesWithin}
+use Rattle.grid.specs.Grid.{voxels, xOf, yOf, zOf, edgesOf, centreOf}
 use Rattle.grid.specs.declared.Axes.{Axes}
 use Rattle.grid.specs.declared.Corners.{Corners}
-use Rattle.limits.specs.Limits.{wrongScene, wrongLength, tooShort}
+use Rattle.limits.specs.Limits.{wrongLength}
 use Rattle.limits.specs.LimitsLaws.{either, axes-row, sound}
 use Rattle.passed.specs.Passed.{passed}
 use Rattle.marks.specs.Marks.{isActive, activeCount}

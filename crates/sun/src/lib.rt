@@ -1,7 +1,6 @@
 // The sun pass: how much of the sun each voxel sees. Document 01, module 5; the Rust's compute_sun_visibility.
 ghost use mathlib.Core.Path.{_≡_};
-ghost use mathlib.Core.Bool.{cond};
-ghost use Prim.Native.Nat.{_≤_, _<_};
+ghost use Prim.Native.Nat.{_<_};
 ghost use lib.ListN.{length};
 ghost use Rattle.names.specs.Bits.{one32, inf32};
 ghost use Rattle.names.specs.Scene.{sceneOf};

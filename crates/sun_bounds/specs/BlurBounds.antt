@@ -1,13 +1,12 @@
 -- The light's blur of numbers within ±1 stays within ±1: the sum of as many numbers as are counted is at most the count, so the mean is at most 1.
-use mathlib.Core.Path.{_≡_, refl, sym, ap, _∙_}
+use mathlib.Core.Path.{_≡_, sym, ap}
 use mathlib.Core.List.{List}
-use Prim.Native.Nat.{ℕ, zero, suc, _+_, _-_, _*_, _/_, _%_, _^_, min, _≤_, _<_, suc-le-suc, zero-le}
-use native.Mathlib.Nat.{min-le-left, min-le-right, le-min, mul-pos, mul-le-mul, mul-one, one-mul, suc-mul, zero-add, add-zero, zero-mul, div-one, mod-one, lt-of-le-of-lt}
+use Prim.Native.Nat.{ℕ, zero, suc, _+_, _-_, _*_, _^_, _≤_, _<_}
+use native.Mathlib.Nat.{min-le-left, min-le-right, le-min, mul-pos, mul-le-mul, mul-one, one-mul, suc-mul, zero-add, zero-mul, div-one, mod-one, lt-of-le-of-lt}
 use native.Mathlib.Omega.{arith}
-use lib.IntN.{pos}
 use lib.Dec.{lit<}
 use lib.ListN.{length, getD}
-use lib.Ieee.{Float, nan, binary32, add, div, mul, ofInt}
+use lib.Ieee.{Float, nan}
 use Rattle.names.specs.Bits.{zero32}
 use Rattle.lists.specs.Fold.{fold, place, getD-tab}
 use Rattle.grid.specs.Grid.{voxels, xOf, yOf, zOf}
@@ -15,7 +14,7 @@ use Rattle.grid.specs.GridLaws.{x-within, y-within, z-within}
 use Rattle.grid.specs.declared.Axes.{Axes}
 use Rattle.bounds.specs.Bounds.{AtMost}
 use Rattle.bounds.specs.BoundsLaws.{add-at-most, mul-at-most, div-at-most, int-at-least, zero-at-most}
-use Rattle.means.specs.Box.{firstNear, pastNear, near, along, around, plus, meanIn, meanAt, squareAt, lightBlurOf}
+use Rattle.means.specs.Box.{firstNear, near, along, around, plus, meanIn, meanAt, squareAt, lightBlurOf}
 use Rattle.means.specs.BoxLaws.{box-count}
 
 -- a sum of at most 27 parts

@@ -1,8 +1,8 @@
 -- What an accepted sun pass writes is never refused as light: before the blur each number lies from 0 to 1, and after it within ±1.
-use mathlib.Core.Path.{_≡_, refl, sym, ap, _∙_}
+use mathlib.Core.Path.{_≡_, refl}
 use mathlib.Core.Bool.{Bool, true, false, cond, _&&_, false≢true}
 use mathlib.Core.List.{List}
-use Prim.Native.Nat.{ℕ, _<_, _*_, _^_}
+use Prim.Native.Nat.{ℕ, _<_}
 use native.Mathlib.Omega.{arith}
 use lib.Dec.{lit≤}
 use lib.ListN.{length, getD}
@@ -10,7 +10,7 @@ use lib.Ieee.{Float, nan, neg, le, lt, eq, ofBits}
 use Rattle.names.specs.Bits.{zero32, one32}
 use Rattle.names.specs.Numbers.{lightLimit}
 use Rattle.names.specs.Scene.{Scene}
-use Rattle.lists.specs.Fold.{tab, length-tab, getD-tab}
+use Rattle.lists.specs.Fold.{length-tab, getD-tab}
 use Rattle.floats.specs.OrderLaws.{le-transitive}
 use Rattle.vectors.specs.declared.Vec3.{Vec3}
 use Rattle.grid.specs.Grid.{voxels}

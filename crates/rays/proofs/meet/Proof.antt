@@ -1,8 +1,6 @@
 -- `rays::meet` meets its contract: an accepted call answers the test's case, a refused one its number.
-use mathlib.Core.Path.{_≡_, sym, _∙_}
-use Prim.Native.Nat.{ℕ}
 use Rattle.names.specs.Refusals.{kept, given}
-use Rattle.rays.specs.Rays.{meetRefusal, metOf}
+use Rattle.rays.specs.Rays.{metOf}
 use Rattle.rays.specs.RaysLaws.{meet-answered}
 use borrow.Author.Needs.{needs}
 use Rattle.rays.proofs.meet.Statement.{statement}

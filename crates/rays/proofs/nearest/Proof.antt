@@ -1,8 +1,7 @@
 -- `rays::nearest` meets its contract: the rows that passed show that the lists fit each other, and the scan answers; a refused call answers its
 -- number.
 use mathlib.Core.Path.{_≡_, sym, _∙_}
-use Prim.Native.Nat.{ℕ}
-use Rattle.names.specs.Scene.{Scene, sceneOf}
+use Rattle.names.specs.Scene.{sceneOf}
 use Rattle.names.specs.Refusals.{kept, given}
 use Rattle.rays.specs.Rays.{nearestRefusal, foundOf}
 use Rattle.rays.specs.RaysLaws.{nearest-sound, nearest-answered}

@@ -1,6 +1,6 @@
 -- `sun::sun` meets its contract: what is not refused fits the grid; with no active voxel the light is all 1.0, and with one the light is the blur of
 -- the traced figures, which scratch holds.
-use mathlib.Core.Path.{_≡_, refl, sym, _∙_}
+use mathlib.Core.Path.{refl, sym, _∙_}
 use lib.ListN.{length}
 use borrow.Author.Tests.{eq-eqb, ne-eqb}
 use Rattle.names.specs.Scene.{sceneOf}

@@ -1,5 +1,5 @@
 -- `sun::trace` meets its contract. The loop's invariant: the figures written, and the definition's for the rest, are the whole list.
-use mathlib.Core.Path.{_≡_, refl, sym, ap, _∙_}
+use mathlib.Core.Path.{_≡_, refl, sym, _∙_}
 use mathlib.Core.List.{_++_}
 use Prim.Native.Nat.{_≤_, _-_}
 use native.Mathlib.Nat.{sub-zero}
@@ -8,7 +8,6 @@ use lib.ListN.{length, take, length-set}
 use Rattle.names.specs.Scene.{sceneOf}
 use Rattle.lists.specs.Fold.{tab, tab-step, tab-end}
 use Rattle.names.specs.Numbers.{voxelLimit}
-use Rattle.grid.specs.Grid.{voxels}
 use Rattle.grid.specs.GridLaws.{voxels-most}
 use Rattle.sun.specs.Sun.{figureOf, sunBefore}
 use borrow.Author.Needs.{needs}
