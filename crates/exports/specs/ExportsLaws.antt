@@ -1,0 +1,58 @@
+-- What the answers over C mean: each contract leaves one answer, and the sixteen numbers from the start on are the part that the public call lends.
+use mathlib.Core.Path.{_≡_, refl, sym, ap, ap₂, _∙_}
+use mathlib.Core.Bool.{Bool, true, false, cond}
+use mathlib.Core.List.{List, []}
+use Prim.Native.Nat.{ℕ, _*_}
+use lib.Dec.{eqb}
+use lib.ListN.{take, drop}
+use lib.Ieee.{Float}
+use Rattle.names.specs.Refusals.{unlessRefused}
+use Rattle.names.specs.Scene.{Scene}
+use Rattle.vectors.specs.declared.Ray.{Ray}
+use Rattle.vectors.specs.declared.Triangle.{Triangle}
+use Rattle.grid.specs.declared.Axes.{Axes}
+use Rattle.rays.specs.Rays.{Values}
+use Rattle.lookup.specs.Lookup.{sixteen, partRefusal, partOf}
+use Rattle.exports.specs.declared.RayHit.{RayHit}
+use Rattle.exports.specs.declared.PartStart.{PartStart}
+use Rattle.exports.specs.Exports.{valuesOf, MeetTold, NearestTold, chosen, PartTold}
+
+-- ---- one answer
+
+-- the struct that holds the values, and that it holds no others
+abbrev hitOf : Values → RayHit
+hitOf w = record { refusal = w .number; hit = w .hit; place = w .place; t = w .t; u = w .u; v = w .v }
+
+pub values-once : (r s : RayHit) → valuesOf r ≡ valuesOf s → r ≡ s
+values-once r s e = ap hitOf e
+
+pub meet-told-once : (ray : Ray) (triangle : Triangle) (r s : RayHit) → MeetTold ray triangle r → MeetTold ray triangle s → r ≡ s
+meet-told-once ray triangle r s a b = values-once r s (a .values ∙ sym (b .values))
+
+pub nearest-told-once : (scene : Scene) (ray : Ray) (r s : RayHit) → NearestTold scene ray r → NearestTold scene ray s → r ≡ s
+nearest-told-once scene ray r s a b = values-once r s (a .values ∙ sym (b .values))
+
+pub part-told-once : (axes : Axes) (volume scratch : List Float) (index second : ℕ) (r s : PartStart)
+    → PartTold axes volume scratch index second r → PartTold axes volume scratch index second s → r ≡ s
+part-told-once axes volume scratch index second r s a b =
+    let f : r .refusal ≡ s .refusal = a .refusal ∙ sym (b .refusal) in
+    same r s f (a .start ∙ rw f (sym (b .start)))
+  where
+    same : (x y : PartStart) → x .refusal ≡ y .refusal → x .start ≡ y .start → x ≡ y
+    same x y h k = ap₂ (λ (n m : ℕ). record { refusal = n; start = m }) h k
+
+-- ---- the part
+
+-- the part that the public call lends is the sixteen numbers from the start on, of the list chosen
+pub part-told : (axes : Axes) (volume scratch : List Float) (index second : ℕ) (r : PartStart) → PartTold axes volume scratch index second r
+    → partOf axes volume scratch index (chosen second)
+    ≡ unlessRefused (r .refusal) (take 16 (drop (r .start) (cond (chosen second) scratch volume))) []
+unfolding partOf unlessRefused
+part-told axes volume scratch index second r h =
+    let n = partRefusal axes volume scratch index (chosen second) in
+    let l = cond (chosen second) scratch volume in
+    rw (h .start, h .refusal) (by (eqb n 0) l)
+  where
+    by : (b : Bool) (l : List Float) → cond b (sixteen l index) [] ≡ cond b (take 16 (drop (cond b (index * 16) 0) l)) []
+    by true l = refl
+    by false l = refl

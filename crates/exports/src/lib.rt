@@ -1,0 +1,372 @@
+// The public calls for C, and for Rust through C's interface: include/geaidnosa.h says each in one sentence. A list is lent as its pointer and its
+// length, a struct goes by value, and no call keeps a pointer. Each hands on the public call's own contract; where that call answers an enum or a
+// part of a list, specs/Exports.antt says what stands for it.
+ghost use Rattle.names.specs.Scene.{sceneOf};
+ghost use lib.ListN.{length};
+ghost use mathlib.Core.Path.{_≡_};
+ghost use Rattle.directions.specs.Sets.{setOf};
+ghost use Rattle.rays.specs.Rays.{refusedValues, hitValues, metValues, foundValues, TransmittanceAnswered};
+ghost use Rattle.masks.specs.Masks.{MasksFilled};
+ghost use Rattle.blurs.specs.Blurs.{LightBlurred, CoefficientsBlurred};
+ghost use Rattle.sun.specs.Sun.{SunAnswered};
+ghost use Rattle.spread.specs.Spread.{stage};
+ghost use Rattle.intake.specs.Intake.{inputOf};
+ghost use Rattle.bake.specs.Baked.{Baked};
+ghost use Rattle.lookup.specs.Lookup.{LightLookedUp, CoefficientsLookedUp, PartJudged};
+ghost use Rattle.volume.specs.Volume.{FileAxes, VolumeBytes, VolumeRead, VolumeWritten, FileFigures};
+ghost use Rattle.exports.specs.Exports.{valuesOf, chosen, MeetTold, NearestTold, PartTold};
+use bake::BakeAnswer;
+use grid::Axes;
+use grid::Corners;
+use limits::Ambient;
+use limits::Light;
+use lookup::CoefficientsAt;
+use lookup::LightAt;
+use masks::Marked;
+use rays::Found;
+use rays::Met;
+use rays::Transmitted;
+use sun::Sunned;
+use vectors::Ray;
+use vectors::Triangle;
+use vectors::Vec3;
+use volume::Figures;
+use volume::Head;
+use volume::Needed;
+
+// A refusal's number, or 0; 1 for a hit, else 0; the hit's place in the list, its distance, u and v, and zeros where there is no hit.
+#[repr(C)]
+pub struct RayHit {
+    pub refusal: u32,
+    pub hit: u32,
+    pub place: usize,
+    pub t: f32,
+    pub u: f32,
+    pub v: f32,
+}
+
+// A refusal's number, or 0 and the place in the list where the voxel's sixteen numbers start.
+#[repr(C)]
+pub struct PartStart {
+    pub refusal: u32,
+    pub start: usize,
+}
+
+// ---- rays
+
+#[no_mangle]
+pub extern "C" fn geaidnosa_meet(ray: Ray, triangle: Triangle) -> RayHit
+    ensures { λ r. ⌜ MeetTold ray triangle r ⌝ }
+{
+    met_told(rays::meet(ray, triangle))
+}
+
+#[no_mangle]
+pub extern "C" fn geaidnosa_nearest(
+    points: &[f32],
+    uses: &[u32],
+    kinds: &[u8],
+    numbers: &[f32],
+    ray: Ray,
+) -> RayHit
+    ensures { λ r. ⌜ NearestTold (sceneOf (now (points .entry)) (now (uses .entry)) (now (kinds .entry)) (now (numbers .entry))) ray r ⌝ }
+{
+    found_told(rays::nearest(points, uses, kinds, numbers, ray))
+}
+
+#[no_mangle]
+pub extern "C" fn geaidnosa_transmittance(
+    points: &[f32],
+    uses: &[u32],
+    kinds: &[u8],
+    numbers: &[f32],
+    ray: Ray,
+    distances: &mut [f32],
+    places: &mut [usize],
+) -> Transmitted
+    ensures { λ r. ⌜ TransmittanceAnswered (sceneOf (now (points .entry)) (now (uses .entry)) (now (kinds .entry)) (now (numbers .entry))) ray (now (distances .entry)) (now (places .entry)) r (now (distances .exit)) (now (places .exit)) ⌝ }
+{
+    rays::transmittance(points, uses, kinds, numbers, ray, distances, places)
+}
+
+// ---- masks, blurs and the sun
+
+#[no_mangle]
+pub extern "C" fn geaidnosa_masks(
+    axes: Axes,
+    corners: Corners,
+    points: &[f32],
+    occupied: &mut [u8],
+    active: &mut [u8],
+) -> Marked
+    ensures { λ r. ⌜ MasksFilled axes corners (now (points .entry)) (now (occupied .entry)) (now (active .entry)) r (now (occupied .exit)) (now (active .exit)) ⌝ }
+{
+    masks::masks(axes, corners, points, occupied, active)
+}
+
+#[no_mangle]
+pub extern "C" fn geaidnosa_light_blur(axes: Axes, light: &mut [f32], scratch: &mut [f32]) -> u32
+    ensures { λ r. ⌜ LightBlurred axes (now (light .entry)) (now (scratch .entry)) r (now (light .exit)) (now (scratch .exit)) ⌝ }
+{
+    blurs::light_blur(axes, light, scratch)
+}
+
+#[no_mangle]
+pub extern "C" fn geaidnosa_coefficient_blur(
+    axes: Axes,
+    volume: &mut [f32],
+    scratch: &mut [f32],
+) -> u32
+    ensures { λ r. ⌜ CoefficientsBlurred axes (now (volume .entry)) (now (scratch .entry)) r (now (volume .exit)) (now (scratch .exit)) ⌝ }
+{
+    blurs::coefficient_blur(axes, volume, scratch)
+}
+
+#[no_mangle]
+pub extern "C" fn geaidnosa_sun(
+    axes: Axes,
+    corners: Corners,
+    points: &[f32],
+    uses: &[u32],
+    kinds: &[u8],
+    numbers: &[f32],
+    direction: Vec3,
+    active: &[u8],
+    light: &mut [f32],
+    scratch: &mut [f32],
+    distances: &mut [f32],
+    places: &mut [usize],
+) -> Sunned
+    ensures { λ r. ⌜ SunAnswered axes corners (sceneOf (now (points .entry)) (now (uses .entry)) (now (kinds .entry)) (now (numbers .entry))) direction (now (active .entry)) (now (light .entry)) (now (scratch .entry)) (now (distances .entry)) (now (places .entry)) r (now (light .exit)) (now (scratch .exit)) (now (distances .exit)) (now (places .exit)) ⌝ }
+{
+    sun::sun(
+        axes,
+        corners,
+        points,
+        uses,
+        kinds,
+        numbers,
+        direction,
+        active,
+        light,
+        scratch,
+        distances,
+        places,
+    )
+}
+
+// ---- the bake
+
+#[no_mangle]
+pub extern "C" fn geaidnosa_bake(
+    axes: Axes,
+    corners: Corners,
+    points: &[f32],
+    uses: &[u32],
+    kinds: &[u8],
+    numbers: &[f32],
+    light: Light,
+    ambient: Ambient,
+    sky: &[f32],
+    active: &[u8],
+    lights: &[f32],
+    volume: &mut [f32],
+    scratch: &mut [f32],
+    distances: &mut [f32],
+    places: &mut [usize],
+    progress: usize,
+    allowance: u64,
+) -> BakeAnswer
+    ensures { λ r. ⌜ Baked
+        (inputOf axes corners (sceneOf (now (points .entry)) (now (uses .entry)) (now (kinds .entry)) (now (numbers .entry)))
+        light ambient (now (sky .entry)) (now (active .entry)) (now (lights .entry))
+        (length (now (distances .entry))) (length (now (places .entry))))
+        (stage progress (now (volume .entry)) (now (scratch .entry))) allowance
+        r (now (volume .exit)) (now (scratch .exit)) (now (distances .entry)) (now (distances .exit)) (now (places .entry)) (now (places .exit)) ⌝ }
+{
+    bake::bake(
+        axes,
+        corners,
+        points,
+        uses,
+        kinds,
+        numbers,
+        light,
+        ambient,
+        sky,
+        active,
+        lights,
+        volume,
+        scratch,
+        distances,
+        places,
+        progress,
+        allowance,
+    )
+}
+
+#[no_mangle]
+pub extern "C" fn geaidnosa_set_of_voxel(x: usize, y: usize, z: usize) -> usize
+    ensures { λ r. ⌜ r ≡ setOf x y z ⌝ }
+{
+    directions::set_of_voxel(x, y, z)
+}
+
+// ---- lookups
+
+#[no_mangle]
+pub extern "C" fn geaidnosa_light_at(
+    axes: Axes,
+    corners: Corners,
+    light: &[f32],
+    position: Vec3,
+) -> LightAt
+    ensures { λ r. ⌜ LightLookedUp axes corners (now (light .entry)) position r ⌝ }
+{
+    lookup::light_at(axes, corners, light, position)
+}
+
+#[no_mangle]
+pub extern "C" fn geaidnosa_coefficients_at(
+    axes: Axes,
+    corners: Corners,
+    volume: &[f32],
+    position: Vec3,
+) -> CoefficientsAt
+    ensures { λ r. ⌜ CoefficientsLookedUp axes corners (now (volume .entry)) position r ⌝ }
+{
+    lookup::coefficients_at(axes, corners, volume, position)
+}
+
+// The part itself cannot be handed back over C: the caller reads sixteen numbers from the start on, in the list that it chose, and copies none.
+#[no_mangle]
+pub extern "C" fn geaidnosa_voxel_part(
+    axes: Axes,
+    volume: &[f32],
+    scratch: &[f32],
+    index: usize,
+    second: u8,
+) -> PartStart
+    ensures { λ r. ⌜ PartTold axes (now (volume .entry)) (now (scratch .entry)) index second r ⌝ }
+{
+    let refusal = lookup::voxel_refusal(axes, volume, scratch, index, second != 0);
+    if refusal != 0 {
+        return PartStart { refusal, start: 0 };
+    }
+    PartStart {
+        refusal: 0,
+        start: index * 16,
+    }
+}
+
+#[no_mangle]
+pub extern "C" fn geaidnosa_voxel_refusal(
+    axes: Axes,
+    volume: &[f32],
+    scratch: &[f32],
+    index: usize,
+    second: u8,
+) -> u32
+    ensures { λ r. ⌜ PartJudged axes (now (volume .entry)) (now (scratch .entry)) index (chosen second) r ⌝ }
+{
+    lookup::voxel_refusal(axes, volume, scratch, index, second != 0)
+}
+
+// ---- the volume file
+
+#[no_mangle]
+pub extern "C" fn geaidnosa_file_axes(bytes: &[u8]) -> Head
+    ensures { λ r. ⌜ FileAxes (now (bytes .entry)) r ⌝ }
+{
+    volume::file_axes(bytes)
+}
+
+#[no_mangle]
+pub extern "C" fn geaidnosa_volume_bytes(axes: Axes) -> Needed
+    ensures { λ r. ⌜ VolumeBytes axes r ⌝ }
+{
+    volume::volume_bytes(axes)
+}
+
+#[no_mangle]
+pub extern "C" fn geaidnosa_read_volume(
+    bytes: &[u8],
+    light: &mut [f32],
+    volume: &mut [f32],
+    active: &mut [u8],
+    occupied: &mut [u8],
+) -> Head
+    ensures { λ r. ⌜ VolumeRead (now (bytes .entry)) (now (light .entry)) (now (volume .entry)) (now (active .entry)) (now (occupied .entry)) r (now (light .exit)) (now (volume .exit)) (now (active .exit)) (now (occupied .exit)) ⌝ }
+{
+    volume::read_volume(bytes, light, volume, active, occupied)
+}
+
+#[no_mangle]
+pub extern "C" fn geaidnosa_write_volume(
+    axes: Axes,
+    corners: Corners,
+    light: &[f32],
+    volume: &[f32],
+    active: &[u8],
+    occupied: &[u8],
+    bytes: &mut [u8],
+) -> u32
+    ensures { λ r. ⌜ VolumeWritten axes corners (now (light .entry)) (now (volume .entry)) (now (active .entry)) (now (occupied .entry)) (now (bytes .entry)) r (now (bytes .exit)) ⌝ }
+{
+    volume::write_volume(axes, corners, light, volume, active, occupied, bytes)
+}
+
+#[no_mangle]
+pub extern "C" fn geaidnosa_file_figures(bytes: &[u8]) -> Figures
+    ensures { λ r. ⌜ FileFigures (now (bytes .entry)) r ⌝ }
+{
+    volume::file_figures(bytes)
+}
+
+// ---- what stands for an enum
+
+fn met_told(m: Met) -> RayHit
+    ensures { λ r. ⌜ valuesOf r ≡ metValues m ⌝ }
+{
+    match m {
+        Met::Refused(refusal) => no_hit(refusal),
+        Met::Miss => no_hit(0),
+        Met::Hit(t, u, v) => hit_at(0, t, u, v),
+    }
+}
+
+fn found_told(f: Found) -> RayHit
+    ensures { λ r. ⌜ valuesOf r ≡ foundValues f ⌝ }
+{
+    match f {
+        Found::Refused(refusal) => no_hit(refusal),
+        Found::Nothing => no_hit(0),
+        Found::Hit(place, t, u, v) => hit_at(place, t, u, v),
+    }
+}
+
+fn no_hit(refusal: u32) -> RayHit
+    ensures { λ r. ⌜ valuesOf r ≡ refusedValues refusal ⌝ }
+{
+    RayHit {
+        refusal,
+        hit: 0,
+        place: 0,
+        t: 0.0,
+        u: 0.0,
+        v: 0.0,
+    }
+}
+
+fn hit_at(place: usize, t: f32, u: f32, v: f32) -> RayHit
+    ensures { λ r. ⌜ valuesOf r ≡ hitValues place t u v ⌝ }
+{
+    RayHit {
+        refusal: 0,
+        hit: 1,
+        place,
+        t,
+        u,
+        v,
+    }
+}
