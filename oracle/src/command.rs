@@ -164,13 +164,13 @@ fn report() -> Result<bool, String> {
 /// The recorded answers: which seeds each module's program replays.
 fn recorded(name: &str) -> Vec<Item> {
     let (seeds, bases): (u64, u64) = match name {
-        "rays" => (80, 3),
+        "rays" => (60, 2),
         "masks" => (100, 3),
         "blurs" => (40, 2),
         "sun" => (80, 2),
-        "bake" => (60, 1),
+        "bake" => (40, 1),
         "lookup" => (60, 2),
-        "fired" => (20, 0),
+        "fired" => (8, 0),
         _ => (0, 0),
     };
     let mut out = Vec::new();

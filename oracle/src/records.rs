@@ -2,7 +2,7 @@
 //!
 //! A list is: its length, the length k of a pattern, the pattern's k words (entry i is word i mod k), the count of exceptions, and for
 //! each its place and its word. A list of u64 has two words an entry, low first, and its length counts words. The first word of a
-//! record is its kind.
+//! record is its kind; then stand the numbers passed by value, the lists in the order of the call's arguments, and the answer.
 use crate::answers::{self, bake_call, baked, bake_answer};
 use crate::calls::{bits, bytes, halves, Answer, Bake, Call, Grid, Lists, Ray, Scratch};
 use crate::table;
@@ -31,7 +31,7 @@ impl Writer {
         for k in [1, 2, 3, 7, 9, 16, 18, 192] {
             if k < n {
                 let odd = (0..n).filter(|i| l[*i] != l[*i % k]).count();
-                if k + 3 + 2 * odd < best.0 {
+                if odd <= 40 && k + 3 + 2 * odd < best.0 {
                     best = (k + 3 + 2 * odd, k);
                 }
             }
@@ -149,8 +149,8 @@ fn plain(call: &Call) -> Vec<u8> {
         Call::Sun { grid, lists, direction, active, light, scratch, hits } => {
             w.word(SUN);
             w.grid(grid);
-            w.lists(lists);
             w.floats(direction);
+            w.lists(lists);
             w.list(&bytes(active));
             w.list(&bits(light));
             w.list(&bits(scratch));
@@ -223,9 +223,9 @@ pub fn coefficient_lookups(grid: &Grid, volume: &[f32], positions: &[[f32; 3]]) 
 
 fn bake_arguments(w: &mut Writer, b: &Bake) {
     w.grid(&b.grid);
-    w.lists(&b.lists);
     w.floats(&b.sunlight);
     w.floats(&b.ambient);
+    w.lists(&b.lists);
     w.list(&bits(&b.sky));
     w.list(&bytes(&b.active));
     w.list(&bits(&b.light));

@@ -52,6 +52,11 @@ pub fn whole(s: &[u8], at: usize) -> usize {
     small(s, at) + small(s, further(at, 1)) * 4294967296
 }
 
+// A word as a count of 64 bits.
+pub fn half(s: &[u8], at: usize) -> u64 {
+    word(s, at) as u64
+}
+
 // A word as the number whose bits it is.
 pub fn number(s: &[u8], at: usize) -> f32 {
     float(word(s, at))
@@ -86,11 +91,6 @@ pub fn further(at: usize, by: usize) -> usize {
 
 // ---- lists
 
-// The length of the list that begins at `at`.
-pub fn count(s: &[u8], at: usize) -> usize {
-    small(s, at)
-}
-
 // The length of the list at `at`, cut to what a lent list of length `most` holds. The records fit; `fits` says so.
 pub fn fit(s: &[u8], at: usize, most: usize) -> usize
     ensures { λ r. ⌜ r ≤ most ⌝ }
@@ -102,7 +102,7 @@ pub fn fit(s: &[u8], at: usize, most: usize) -> usize
     most
 }
 
-// Whether the list at `at` is no longer than `most`.
+// Whether the list at `at` is no longer than `most`; a list of places has two words an entry.
 pub fn fits(s: &[u8], at: usize, most: usize) -> bool {
     small(s, at) <= most
 }
@@ -112,6 +112,17 @@ pub fn past(s: &[u8], at: usize) -> usize {
     let k = small(s, further(at, 1));
     let odd = further(further(at, 2), k);
     further(odd, small(s, odd) * 2 + 1)
+}
+
+// The place of list `k`, counted from 0, of the lists that begin at `from`.
+pub fn nth(s: &[u8], from: usize, k: usize) -> usize {
+    let mut at = from;
+    let mut i: usize = 0;
+    while i < k {
+        at = past(s, at);
+        i += 1;
+    }
+    at
 }
 
 // Entry `i` of the list at `at`.
@@ -166,13 +177,34 @@ pub fn places(s: &[u8], at: usize, out: &mut [usize]) {
     }
 }
 
+// Fills a scene's four lists, which stand one after another from `from` on.
+pub fn scene(
+    s: &[u8],
+    from: usize,
+    points: &mut [f32],
+    uses: &mut [u32],
+    kinds: &mut [u8],
+    numbers: &mut [f32],
+) {
+    floats(s, from, points);
+    words(s, nth(s, from, 1), uses);
+    bytes(s, nth(s, from, 2), kinds);
+    floats(s, nth(s, from, 3), numbers);
+}
+
+// Fills the two lists of hit scratch, the first of which stands at `at`.
+pub fn hits(s: &[u8], at: usize, distances: &mut [f32], spots: &mut [usize]) {
+    floats(s, at, distances);
+    places(s, past(s, at), spots);
+}
+
 // Entry `i` of a list of places.
 fn pair(s: &[u8], at: usize, i: usize) -> usize {
     let k = further(i, i);
     (entry(s, at, k) as usize) + (entry(s, at, further(k, 1)) as usize) * 4294967296
 }
 
-// How many entries a list of places has.
+// How many entries the list of places at `at` has, cut to what a lent list of length `most` holds.
 pub fn pairs(s: &[u8], at: usize, most: usize) -> usize
     ensures { λ r. ⌜ r ≤ most ⌝ }
 {
@@ -228,6 +260,11 @@ pub fn same_places(s: &[u8], at: usize, list: &[usize]) -> bool {
     true
 }
 
+// Whether both lists of hit scratch, the first of which stands at `at`, are as they were lent.
+pub fn same_hits(s: &[u8], at: usize, distances: &[f32], spots: &[usize]) -> bool {
+    same_floats(s, at, distances) & same_places(s, past(s, at), spots)
+}
+
 // Whether a number has the recorded bits.
 pub fn same_number(s: &[u8], at: usize, x: f32) -> bool {
     bits(x) == word(s, at)
@@ -257,6 +294,14 @@ pub fn held(t: Tally, same: bool) -> Tally {
     }
 }
 
+// One more thing compared, where it is to be.
+pub fn held_if(t: Tally, asked: bool, same: bool) -> Tally {
+    if asked {
+        return held(t, same);
+    }
+    t
+}
+
 // One more record read.
 pub fn begun(t: Tally) -> Tally {
     Tally {
@@ -277,9 +322,49 @@ pub fn ended(t: Tally) -> Tally {
     }
 }
 
-// Room for a record.
+// Room for a record, and for each list that a call is lent: one triangle and one material more than are accepted, and 512 voxels.
 pub fn buffer() -> [u8; 1048576] {
     [0u8; 1048576]
+}
+
+pub fn room_for_points() -> [f32; 36900] {
+    [0.0f32; 36900]
+}
+
+pub fn room_for_uses() -> [u32; 4100] {
+    [0u32; 4100]
+}
+
+pub fn room_for_kinds() -> [u8; 260] {
+    [0u8; 260]
+}
+
+pub fn room_for_numbers() -> [f32; 1820] {
+    [0.0f32; 1820]
+}
+
+pub fn room_for_sky() -> [f32; 1740] {
+    [0.0f32; 1740]
+}
+
+pub fn room_for_distances() -> [f32; 4100] {
+    [0.0f32; 4100]
+}
+
+pub fn room_for_places() -> [usize; 4100] {
+    [0usize; 4100]
+}
+
+pub fn room_for_mask() -> [u8; 520] {
+    [0u8; 520]
+}
+
+pub fn room_for_light() -> [f32; 520] {
+    [0.0f32; 520]
+}
+
+pub fn room_for_volume() -> [f32; 8320] {
+    [0.0f32; 8320]
 }
 
 // The next record of standard input: its length, 0 at the input's end or where it does not fit.
