@@ -19,7 +19,11 @@ bad-mask-requires-2 c κs = search needs
 
 returns : tie.Need-returns
 unfolding badLists
-returns c = rw (c .before .before .before .bad-lights .ensures, c .before .before .bad-coefficients .ensures, c .before .bad-mask .ensures, c .bad-mask2 .ensures)
+returns c =
+    let bad-lights = c .before .before .before .bad-lights in
+    let bad-coefficients = c .before .before .bad-coefficients in
+    let bad-mask = c .before .bad-mask in
+    rw (bad-lights .ensures, bad-coefficients .ensures, bad-mask .ensures, c .bad-mask2 .ensures)
 
 pub bad-lists-spec : {M : Type 1} → statement M
 bad-lists-spec =

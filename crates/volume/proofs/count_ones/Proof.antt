@@ -22,7 +22,9 @@ count-requires : tie.Need-count-requires
 count-requires c κs = search needs
 
 returns : tie.Need-returns
-returns c = let e : c .before .before .before .args .at + c .before .before .before .args .n - c .before .before .before .args .at ≡ c .before .before .before .args .n = omega arith in c .count .ensures ∙ rw e
+returns c =
+    let args = c .before .before .before .args in
+    let e : args .at + args .n - args .at ≡ args .n = omega arith in c .count .ensures ∙ rw e
 
 pub count-ones-spec : {M : Type 1} → statement M
 count-ones-spec =

@@ -41,10 +41,18 @@ loop-less : tie.Need-loop-less Inv-loop μ-loop
 loop-less c = search needs
 
 loop-again : tie.Need-loop-again Inv-loop μ-loop
-loop-again c = (one-more (λ i. f32At (c .before .before .before .before .before .args .bytes .now) (c .before .before .before .before .before .args .at + i * 4)) (c .before .before .before .before .before .args .n) (c .before .before .before .loop .i) (c .before .before .before .loop .count) _ _ (c .before .before .loop-test .taken) (c .before .f32-at .ensures) (c .zero .ensures) (c .before .before .before .loop .inv .0), omega arith, omega (arith, at-most (isZero (c .before .f32-at .result)) _ (c .zero .ensures)))
+loop-again c =
+    let args = c .before .before .before .before .before .args in
+    let loop = c .before .before .before .loop in
+    let loop-test = c .before .before .loop-test in
+    let f32-at = c .before .f32-at in
+    (one-more (λ i. f32At (args .bytes .now) (args .at + i * 4)) (args .n) (loop .i) (loop .count) _ _ (loop-test .taken) (f32-at .ensures) (c .zero .ensures) (loop .inv .0), omega arith, omega (arith, at-most (isZero (f32-at .result)) _ (c .zero .ensures)))
 
 returns : tie.Need-returns Inv-loop μ-loop
-returns c = at-end (λ i. f32At (c .before .before .before .args .bytes .now) (c .before .before .before .args .at + i * 4)) (c .before .before .before .args .n) (c .before .loop .i) (c .before .loop .count) (c .loop-test .left) (c .before .loop .inv .0)
+returns c =
+    let args = c .before .before .before .args in
+    let loop = c .before .loop in
+    at-end (λ i. f32At (args .bytes .now) (args .at + i * 4)) (args .n) (loop .i) (loop .count) (c .loop-test .left) (loop .inv .0)
 
 pub count-zeros-spec : {M : Type 1} → statement M
 count-zeros-spec =

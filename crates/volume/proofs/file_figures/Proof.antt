@@ -18,13 +18,23 @@ no-figures-requires-2 : tie.Need-no-figures-requires-2
 no-figures-requires-2 c κs = search needs
 
 returns-2 : tie.Need-returns-2
-returns-2 c = figures-12 (c .before .before .before .before .before .args .bytes .now) _ _ (le-ltb _ _ (c .before .before .before .if1 .left)) (c .before .before .is-faulty .ensures) (c .before .if2 .taken) (c .no-figures2 .ensures)
+returns-2 c =
+    let args = c .before .before .before .before .before .args in
+    let if1 = c .before .before .before .if1 in
+    let is-faulty = c .before .before .is-faulty in
+    let if2 = c .before .if2 in
+    figures-12 (args .bytes .now) _ _ (le-ltb _ _ (if1 .left)) (is-faulty .ensures) (if2 .taken) (c .no-figures2 .ensures)
 
 figures-of-requires : tie.Need-figures-of-requires
 figures-of-requires c κs = accepted (c .before .before .before .before .args .bytes .now) _ (c .before .is-faulty .ensures) (c .if2 .left)
 
 returns-3 : tie.Need-returns-3
-returns-3 c = figures-0 (c .before .before .before .before .before .args .bytes .now) _ _ (le-ltb _ _ (c .before .before .before .if1 .left)) (c .before .before .is-faulty .ensures) (c .before .if2 .left) (c .figures-of .ensures)
+returns-3 c =
+    let args = c .before .before .before .before .before .args in
+    let if1 = c .before .before .before .if1 in
+    let is-faulty = c .before .before .is-faulty in
+    let if2 = c .before .if2 in
+    figures-0 (args .bytes .now) _ _ (le-ltb _ _ (if1 .left)) (is-faulty .ensures) (if2 .left) (c .figures-of .ensures)
 
 pub file-figures-spec : {M : Type 1} → statement M
 file-figures-spec =

@@ -10,7 +10,10 @@ axes-at-requires : tie.Need-axes-at-requires
 axes-at-requires c κs = c .before .pre .headed .long
 
 corners-at-requires : tie.Need-corners-at-requires
-corners-at-requires c κs = let d = accepted-laid (c .before .before .args .bytes .now) (c .before .before .pre) in (omega (arith, c .before .before .pre .headed .contents, c .before .before .pre .headed .least), omega (arith, d .corners, d .within))
+corners-at-requires c κs =
+    let args = c .before .before .args in
+    let pre = c .before .before .pre in
+    let d = accepted-laid (args .bytes .now) (pre) in (omega (arith, pre .headed .contents, pre .headed .least), omega (arith, d .corners, d .within))
 
 returns : tie.Need-returns
 unfolding headAnswer

@@ -44,7 +44,18 @@ same-length-4 : tie.Need-same-length-4
 same-length-4 c = search needs
 
 returns : tie.Need-returns
-returns c = record { light = placed-floats (c .before .before .before .before .before .before .before .before .before .before .before .before .before .before .before .before .before .before .before .before .before .before .before .before .before .args .bytes .now) _ _ (offsetAt (c .before .before .before .before .before .before .before .before .before .before .before .before .before .before .before .before .before .before .before .before .before .before .before .before .before .args .bytes .now) 0) _ _ (c .before .before .before .before .before .before .before .before .before .before .before .before .before .before .before .before .before .floats-into .ensures) (c .before .before .before .before .before .before .before .before .before .before .before .before .before .before .before .before .before .before .before .offset-at .ensures) (c .before .before .before .before .before .before .before .before .before .before .before .before .before .before .before .before .before .before .before .before .before .before .before .before .before .pre .lights); volume = placed-floats (c .before .before .before .before .before .before .before .before .before .before .before .before .before .before .before .before .before .before .before .before .before .before .before .before .before .args .bytes .now) _ _ (offsetAt (c .before .before .before .before .before .before .before .before .before .before .before .before .before .before .before .before .before .before .before .before .before .before .before .before .before .args .bytes .now) 1) _ _ (c .before .before .before .before .before .before .before .before .before .before .before .before .floats-into2 .ensures) (c .before .before .before .before .before .before .before .before .before .before .before .before .before .before .offset-at2 .ensures) (c .before .before .before .before .before .before .before .before .before .before .before .before .before .before .before .before .before .before .before .before .before .before .before .before .before .pre .coefficients); active = placed-bytes (c .before .before .before .before .before .before .before .before .before .before .before .before .before .before .before .before .before .before .before .before .before .before .before .before .before .args .bytes .now) _ _ (offsetAt (c .before .before .before .before .before .before .before .before .before .before .before .before .before .before .before .before .before .before .before .before .before .before .before .before .before .args .bytes .now) 2) _ _ (c .before .before .before .before .before .before .before .bytes-into .ensures) (c .before .before .before .before .before .before .before .before .before .offset-at3 .ensures) (c .before .before .before .before .before .before .before .before .before .before .before .before .before .before .before .before .before .before .before .before .before .before .before .before .before .pre .actives); occupied = placed-bytes (c .before .before .before .before .before .before .before .before .before .before .before .before .before .before .before .before .before .before .before .before .before .before .before .before .before .args .bytes .now) _ _ (offsetAt (c .before .before .before .before .before .before .before .before .before .before .before .before .before .before .before .before .before .before .before .before .before .before .before .before .before .args .bytes .now) 3) _ _ (c .before .before .bytes-into2 .ensures) (c .before .before .before .before .offset-at4 .ensures) (c .before .before .before .before .before .before .before .before .before .before .before .before .before .before .before .before .before .before .before .before .before .before .before .before .before .pre .occupieds) }
+returns c =
+    let args = c .before .before .before .before .before .before .before .before .before .before .before .before .before .before .before .before .before .before .before .before .before .before .before .before .before .args in
+    let pre = c .before .before .before .before .before .before .before .before .before .before .before .before .before .before .before .before .before .before .before .before .before .before .before .before .before .pre in
+    let offset-at = c .before .before .before .before .before .before .before .before .before .before .before .before .before .before .before .before .before .before .before .offset-at in
+    let floats-into = c .before .before .before .before .before .before .before .before .before .before .before .before .before .before .before .before .before .floats-into in
+    let offset-at2 = c .before .before .before .before .before .before .before .before .before .before .before .before .before .before .offset-at2 in
+    let floats-into2 = c .before .before .before .before .before .before .before .before .before .before .before .before .floats-into2 in
+    let offset-at3 = c .before .before .before .before .before .before .before .before .before .offset-at3 in
+    let bytes-into = c .before .before .before .before .before .before .before .bytes-into in
+    let offset-at4 = c .before .before .before .before .offset-at4 in
+    let bytes-into2 = c .before .before .bytes-into2 in
+    record { light = placed-floats (args .bytes .now) _ _ (offsetAt (args .bytes .now) 0) _ _ (floats-into .ensures) (offset-at .ensures) (pre .lights); volume = placed-floats (args .bytes .now) _ _ (offsetAt (args .bytes .now) 1) _ _ (floats-into2 .ensures) (offset-at2 .ensures) (pre .coefficients); active = placed-bytes (args .bytes .now) _ _ (offsetAt (args .bytes .now) 2) _ _ (bytes-into .ensures) (offset-at3 .ensures) (pre .actives); occupied = placed-bytes (args .bytes .now) _ _ (offsetAt (args .bytes .now) 3) _ _ (bytes-into2 .ensures) (offset-at4 .ensures) (pre .occupieds) }
 
 pub read-bodies-spec : {M : Type 1} → statement M
 read-bodies-spec =

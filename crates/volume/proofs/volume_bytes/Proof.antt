@@ -18,13 +18,25 @@ voxel-count-requires : tie.Need-voxel-count-requires
 voxel-count-requires c κs = axes-row (c .before .before .args .axes) .0 (sym (c .before .bad-axes .ensures) ∙ c .if1 .left)
 
 mul-t4 : tie.Need-mul-t4
-mul-t4 c = omega (arith, c .voxel-count .ensures, voxels-most (c .before .before .before .args .axes) (axes-row (c .before .before .before .args .axes) .0 (sym (c .before .before .bad-axes .ensures) ∙ c .before .if1 .left)))
+mul-t4 c =
+    let args = c .before .before .before .args in
+    let bad-axes = c .before .before .bad-axes in
+    let if1 = c .before .if1 in
+    omega (arith, c .voxel-count .ensures, voxels-most (args .axes) (axes-row (args .axes) .0 (sym (bad-axes .ensures) ∙ if1 .left)))
 
 add-t5 : tie.Need-add-t5
-add-t5 c = omega (arith, c .voxel-count .ensures, voxels-most (c .before .before .before .args .axes) (axes-row (c .before .before .before .args .axes) .0 (sym (c .before .before .bad-axes .ensures) ∙ c .before .if1 .left)))
+add-t5 c =
+    let args = c .before .before .before .args in
+    let bad-axes = c .before .before .bad-axes in
+    let if1 = c .before .if1 in
+    omega (arith, c .voxel-count .ensures, voxels-most (args .axes) (axes-row (args .axes) .0 (sym (bad-axes .ensures) ∙ if1 .left)))
 
 returns-2 : tie.Need-returns-2
-returns-2 c = bytes-0 (c .before .before .before .args .axes) _ _ (c .before .before .bad-axes .ensures) (c .before .if1 .left) (c .voxel-count .ensures)
+returns-2 c =
+    let args = c .before .before .before .args in
+    let bad-axes = c .before .before .bad-axes in
+    let if1 = c .before .if1 in
+    bytes-0 (args .axes) _ _ (bad-axes .ensures) (if1 .left) (c .voxel-count .ensures)
 
 pub volume-bytes-spec : {M : Type 1} → statement M
 volume-bytes-spec =

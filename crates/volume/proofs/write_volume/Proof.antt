@@ -10,43 +10,136 @@ bad-axes-requires : tie.Need-bad-axes-requires
 bad-axes-requires c κs = search needs
 
 returns : tie.Need-returns
-returns c = write-1 (c .before .before .before .before .before .before .before .args .axes) (c .before .before .before .before .before .before .before .args .corners) (c .before .before .before .before .before .before .before .args .light .now) (c .before .before .before .before .before .before .before .args .volume .now) (c .before .before .before .before .before .before .before .args .active .now) (c .before .before .before .before .before .before .before .args .occupied .now) (c .before .before .before .before .before .before .before .args .bytes .now) (sym (c .before .bad-axes .ensures) ∙ c .if1 .taken)
+returns c =
+    let args = c .before .before .before .before .before .before .before .args in
+    let bad-axes = c .before .bad-axes in
+    write-1 (args .axes) (args .corners) (args .light .now) (args .volume .now) (args .active .now) (args .occupied .now) (args .bytes .now)
+    (sym (bad-axes .ensures) ∙ c .if1 .taken)
 
 bad-grid-requires : tie.Need-bad-grid-requires
-bad-grid-requires c κs = axes-row (c .before .before .before .before .before .before .before .args .axes) .0 (sym (c .before .bad-axes .ensures) ∙ c .if1 .left)
+bad-grid-requires c κs =
+    let args = c .before .before .before .before .before .before .before .args in
+    let bad-axes = c .before .bad-axes in
+    axes-row (args .axes) .0 (sym (bad-axes .ensures) ∙ c .if1 .left)
 
 returns-2 : tie.Need-returns-2
-returns-2 c = write-2 (c .before .before .before .before .before .before .before .before .before .args .axes) (c .before .before .before .before .before .before .before .before .before .args .corners) (c .before .before .before .before .before .before .before .before .before .args .light .now) (c .before .before .before .before .before .before .before .before .before .args .volume .now) (c .before .before .before .before .before .before .before .before .before .args .active .now) (c .before .before .before .before .before .before .before .before .before .args .occupied .now) (c .before .before .before .before .before .before .before .before .before .args .bytes .now) (sym (c .before .before .before .bad-axes .ensures) ∙ c .before .before .if1 .left) (sym (c .before .bad-grid .ensures) ∙ c .if2 .taken)
+returns-2 c =
+    let args = c .before .before .before .before .before .before .before .before .before .args in
+    let bad-axes = c .before .before .before .bad-axes in
+    let if1 = c .before .before .if1 in
+    let bad-grid = c .before .bad-grid in
+    write-2 (args .axes) (args .corners) (args .light .now) (args .volume .now) (args .active .now) (args .occupied .now) (args .bytes .now)
+    (sym (bad-axes .ensures) ∙ if1 .left) (sym (bad-grid .ensures) ∙ c .if2 .taken)
 
 voxel-count-requires : tie.Need-voxel-count-requires
-voxel-count-requires c κs = axes-row (c .before .before .before .before .before .before .before .before .before .args .axes) .0 (sym (c .before .before .before .bad-axes .ensures) ∙ c .before .before .if1 .left)
+voxel-count-requires c κs =
+    let args = c .before .before .before .before .before .before .before .before .before .args in
+    let bad-axes = c .before .before .before .bad-axes in
+    let if1 = c .before .before .if1 in
+    axes-row (args .axes) .0 (sym (bad-axes .ensures) ∙ if1 .left)
 
 wrong-lists-requires : tie.Need-wrong-lists-requires
-wrong-lists-requires c κs = few (c .before .before .before .before .before .before .before .before .before .before .args .axes) (c .voxel-count .result) (axes-row (c .before .before .before .before .before .before .before .before .before .before .args .axes) .0 (sym (c .before .before .before .before .bad-axes .ensures) ∙ c .before .before .before .if1 .left)) (c .voxel-count .ensures)
+wrong-lists-requires c κs =
+    let args = c .before .before .before .before .before .before .before .before .before .before .args in
+    let bad-axes = c .before .before .before .before .bad-axes in
+    let if1 = c .before .before .before .if1 in
+    few (args .axes) (c .voxel-count .result) (axes-row (args .axes) .0 (sym (bad-axes .ensures) ∙ if1 .left)) (c .voxel-count .ensures)
 
 returns-3 : tie.Need-returns-3
-returns-3 c = write-lists (c .before .before .before .before .before .before .before .before .before .before .before .before .args .axes) (c .before .before .before .before .before .before .before .before .before .before .before .before .args .corners) (c .before .before .before .before .before .before .before .before .before .before .before .before .args .light .now) (c .before .before .before .before .before .before .before .before .before .before .before .before .args .volume .now) (c .before .before .before .before .before .before .before .before .before .before .before .before .args .active .now) (c .before .before .before .before .before .before .before .before .before .before .before .before .args .occupied .now) (c .before .before .before .before .before .before .before .before .before .before .before .before .args .bytes .now) (sym (c .before .before .before .before .before .before .bad-axes .ensures) ∙ c .before .before .before .before .before .if1 .left) (sym (c .before .before .before .before .bad-grid .ensures) ∙ c .before .before .before .if2 .left) (of-lists (c .before .before .before .before .before .before .before .before .before .before .before .before .args .axes) (c .before .before .voxel-count .result) _ _ _ _ _ _ (c .before .before .voxel-count .ensures) (c .before .wrong-lists .ensures) (c .if3 .taken))
+returns-3 c =
+    let args = c .before .before .before .before .before .before .before .before .before .before .before .before .args in
+    let bad-axes = c .before .before .before .before .before .before .bad-axes in
+    let if1 = c .before .before .before .before .before .if1 in
+    let bad-grid = c .before .before .before .before .bad-grid in
+    let if2 = c .before .before .before .if2 in
+    let voxel-count = c .before .before .voxel-count in
+    let wrong-lists = c .before .wrong-lists in
+    write-lists (args .axes) (args .corners) (args .light .now) (args .volume .now) (args .active .now) (args .occupied .now) (args .bytes .now)
+    (sym (bad-axes .ensures) ∙ if1 .left) (sym (bad-grid .ensures) ∙ if2 .left)
+    (of-lists (args .axes) (voxel-count .result) _ _ _ _ _ _ (voxel-count .ensures) (wrong-lists .ensures) (c .if3 .taken))
 
 wrong-bytes-requires : tie.Need-wrong-bytes-requires
-wrong-bytes-requires c κs = few (c .before .before .before .before .before .before .before .before .before .before .before .before .args .axes) (c .before .before .voxel-count .result) (axes-row (c .before .before .before .before .before .before .before .before .before .before .before .before .args .axes) .0 (sym (c .before .before .before .before .before .before .bad-axes .ensures) ∙ c .before .before .before .before .before .if1 .left)) (c .before .before .voxel-count .ensures)
+wrong-bytes-requires c κs =
+    let args = c .before .before .before .before .before .before .before .before .before .before .before .before .args in
+    let bad-axes = c .before .before .before .before .before .before .bad-axes in
+    let if1 = c .before .before .before .before .before .if1 in
+    let voxel-count = c .before .before .voxel-count in
+    few (args .axes) (voxel-count .result) (axes-row (args .axes) .0 (sym (bad-axes .ensures) ∙ if1 .left)) (voxel-count .ensures)
 
 returns-4 : tie.Need-returns-4
-returns-4 c = write-bytes (c .before .before .before .before .before .before .before .before .before .before .before .before .before .before .args .axes) (c .before .before .before .before .before .before .before .before .before .before .before .before .before .before .args .corners) (c .before .before .before .before .before .before .before .before .before .before .before .before .before .before .args .light .now) (c .before .before .before .before .before .before .before .before .before .before .before .before .before .before .args .volume .now) (c .before .before .before .before .before .before .before .before .before .before .before .before .before .before .args .active .now) (c .before .before .before .before .before .before .before .before .before .before .before .before .before .before .args .occupied .now) (c .before .before .before .before .before .before .before .before .before .before .before .before .before .before .args .bytes .now) (sym (c .before .before .before .before .before .before .before .before .bad-axes .ensures) ∙ c .before .before .before .before .before .before .before .if1 .left) (sym (c .before .before .before .before .before .before .bad-grid .ensures) ∙ c .before .before .before .before .before .if2 .left) (of-lists (c .before .before .before .before .before .before .before .before .before .before .before .before .before .before .args .axes) (c .before .before .before .before .voxel-count .result) _ _ _ _ _ _ (c .before .before .before .before .voxel-count .ensures) (c .before .before .before .wrong-lists .ensures) (c .before .before .if3 .left)) (of-bytes (c .before .before .before .before .before .before .before .before .before .before .before .before .before .before .args .axes) (c .before .before .before .before .voxel-count .result) _ _ _ (c .before .before .before .before .voxel-count .ensures) (c .before .wrong-bytes .ensures) (c .if4 .taken))
+returns-4 c =
+    let args = c .before .before .before .before .before .before .before .before .before .before .before .before .before .before .args in
+    let bad-axes = c .before .before .before .before .before .before .before .before .bad-axes in
+    let if1 = c .before .before .before .before .before .before .before .if1 in
+    let bad-grid = c .before .before .before .before .before .before .bad-grid in
+    let if2 = c .before .before .before .before .before .if2 in
+    let voxel-count = c .before .before .before .before .voxel-count in
+    let wrong-lists = c .before .before .before .wrong-lists in
+    let if3 = c .before .before .if3 in
+    let wrong-bytes = c .before .wrong-bytes in
+    write-bytes (args .axes) (args .corners) (args .light .now) (args .volume .now) (args .active .now) (args .occupied .now) (args .bytes .now)
+    (sym (bad-axes .ensures) ∙ if1 .left) (sym (bad-grid .ensures) ∙ if2 .left)
+    (of-lists (args .axes) (voxel-count .result) _ _ _ _ _ _ (voxel-count .ensures) (wrong-lists .ensures) (if3 .left))
+    (of-bytes (args .axes) (voxel-count .result) _ _ _ (voxel-count .ensures) (wrong-bytes .ensures) (c .if4 .taken))
 
 bad-lists-requires : tie.Need-bad-lists-requires
 bad-lists-requires c κs = search needs
 
 returns-5 : tie.Need-returns-5
-returns-5 c = write-13 (c .before .before .before .before .before .before .before .before .before .before .before .before .before .before .before .before .args .axes) (c .before .before .before .before .before .before .before .before .before .before .before .before .before .before .before .before .args .corners) (c .before .before .before .before .before .before .before .before .before .before .before .before .before .before .before .before .args .light .now) (c .before .before .before .before .before .before .before .before .before .before .before .before .before .before .before .before .args .volume .now) (c .before .before .before .before .before .before .before .before .before .before .before .before .before .before .before .before .args .active .now) (c .before .before .before .before .before .before .before .before .before .before .before .before .before .before .before .before .args .occupied .now) (c .before .before .before .before .before .before .before .before .before .before .before .before .before .before .before .before .args .bytes .now) (sym (c .before .before .before .before .before .before .before .before .before .before .bad-axes .ensures) ∙ c .before .before .before .before .before .before .before .before .before .if1 .left) (sym (c .before .before .before .before .before .before .before .before .bad-grid .ensures) ∙ c .before .before .before .before .before .before .before .if2 .left) (of-lists (c .before .before .before .before .before .before .before .before .before .before .before .before .before .before .before .before .args .axes) (c .before .before .before .before .before .before .voxel-count .result) _ _ _ _ _ _ (c .before .before .before .before .before .before .voxel-count .ensures) (c .before .before .before .before .before .wrong-lists .ensures) (c .before .before .before .before .if3 .left)) (of-bytes (c .before .before .before .before .before .before .before .before .before .before .before .before .before .before .before .before .args .axes) (c .before .before .before .before .before .before .voxel-count .result) _ _ _ (c .before .before .before .before .before .before .voxel-count .ensures) (c .before .before .before .wrong-bytes .ensures) (c .before .before .if4 .left)) (sym (c .before .bad-lists .ensures) ∙ c .if5 .taken)
+returns-5 c =
+    let args = c .before .before .before .before .before .before .before .before .before .before .before .before .before .before .before .before .args in
+    let bad-axes = c .before .before .before .before .before .before .before .before .before .before .bad-axes in
+    let if1 = c .before .before .before .before .before .before .before .before .before .if1 in
+    let bad-grid = c .before .before .before .before .before .before .before .before .bad-grid in
+    let if2 = c .before .before .before .before .before .before .before .if2 in
+    let voxel-count = c .before .before .before .before .before .before .voxel-count in
+    let wrong-lists = c .before .before .before .before .before .wrong-lists in
+    let if3 = c .before .before .before .before .if3 in
+    let wrong-bytes = c .before .before .before .wrong-bytes in
+    let if4 = c .before .before .if4 in
+    let bad-lists = c .before .bad-lists in
+    write-13 (args .axes) (args .corners) (args .light .now) (args .volume .now) (args .active .now) (args .occupied .now) (args .bytes .now)
+    (sym (bad-axes .ensures) ∙ if1 .left) (sym (bad-grid .ensures) ∙ if2 .left)
+    (of-lists (args .axes) (voxel-count .result) _ _ _ _ _ _ (voxel-count .ensures) (wrong-lists .ensures) (if3 .left))
+    (of-bytes (args .axes) (voxel-count .result) _ _ _ (voxel-count .ensures) (wrong-bytes .ensures) (if4 .left))
+    (sym (bad-lists .ensures) ∙ c .if5 .taken)
 
 put-file-requires : tie.Need-put-file-requires
-put-file-requires c κs = lent (c .before .before .before .before .before .before .before .before .before .before .before .before .before .before .before .before .before .args .axes) (c .before .before .before .before .before .before .before .voxel-count .result) _ _ _ _ _ (sym (c .before .before .before .before .before .before .before .before .before .before .before .bad-axes .ensures) ∙ c .before .before .before .before .before .before .before .before .before .before .if1 .left) (c .before .before .before .before .before .before .before .voxel-count .ensures) (sym (c .before .before .before .before .before .before .wrong-lists .ensures) ∙ c .before .before .before .before .before .if3 .left) (sym (c .before .before .before .before .wrong-bytes .ensures) ∙ c .before .before .before .if4 .left)
+put-file-requires c κs =
+    let args = c .before .before .before .before .before .before .before .before .before .before .before .before .before .before .before .before .before .args in
+    let bad-axes = c .before .before .before .before .before .before .before .before .before .before .before .bad-axes in
+    let if1 = c .before .before .before .before .before .before .before .before .before .before .if1 in
+    let voxel-count = c .before .before .before .before .before .before .before .voxel-count in
+    let wrong-lists = c .before .before .before .before .before .before .wrong-lists in
+    let if3 = c .before .before .before .before .before .if3 in
+    let wrong-bytes = c .before .before .before .before .wrong-bytes in
+    let if4 = c .before .before .before .if4 in
+    lent (args .axes) (voxel-count .result) _ _ _ _ _ (sym (bad-axes .ensures) ∙ if1 .left) (voxel-count .ensures)
+    (sym (wrong-lists .ensures) ∙ if3 .left) (sym (wrong-bytes .ensures) ∙ if4 .left)
 
 same-length : tie.Need-same-length
 same-length c = search needs
 
 returns-6 : tie.Need-returns-6
-returns-6 c = write-0 (c .before .before .before .before .before .before .before .before .before .before .before .before .before .before .before .before .before .before .before .before .args .axes) (c .before .before .before .before .before .before .before .before .before .before .before .before .before .before .before .before .before .before .before .before .args .corners) (c .before .before .before .before .before .before .before .before .before .before .before .before .before .before .before .before .before .before .before .before .args .light .now) (c .before .before .before .before .before .before .before .before .before .before .before .before .before .before .before .before .before .before .before .before .args .volume .now) (c .before .before .before .before .before .before .before .before .before .before .before .before .before .before .before .before .before .before .before .before .args .active .now) (c .before .before .before .before .before .before .before .before .before .before .before .before .before .before .before .before .before .before .before .before .args .occupied .now) (c .before .before .before .before .before .before .before .before .before .before .before .before .before .before .before .before .before .before .before .before .args .bytes .now) _ (sym (c .before .before .before .before .before .before .before .before .before .before .before .before .before .before .bad-axes .ensures) ∙ c .before .before .before .before .before .before .before .before .before .before .before .before .before .if1 .left) (sym (c .before .before .before .before .before .before .before .before .before .before .before .before .bad-grid .ensures) ∙ c .before .before .before .before .before .before .before .before .before .before .before .if2 .left) (of-lists (c .before .before .before .before .before .before .before .before .before .before .before .before .before .before .before .before .before .before .before .before .args .axes) (c .before .before .before .before .before .before .before .before .before .before .voxel-count .result) _ _ _ _ _ _ (c .before .before .before .before .before .before .before .before .before .before .voxel-count .ensures) (c .before .before .before .before .before .before .before .before .before .wrong-lists .ensures) (c .before .before .before .before .before .before .before .before .if3 .left)) (of-bytes (c .before .before .before .before .before .before .before .before .before .before .before .before .before .before .before .before .before .before .before .before .args .axes) (c .before .before .before .before .before .before .before .before .before .before .voxel-count .result) _ _ _ (c .before .before .before .before .before .before .before .before .before .before .voxel-count .ensures) (c .before .before .before .before .before .before .before .wrong-bytes .ensures) (c .before .before .before .before .before .before .if4 .left)) (sym (c .before .before .before .before .before .bad-lists .ensures) ∙ c .before .before .before .before .if5 .left) (c .before .before .put-file .ensures)
+returns-6 c =
+    let args = c .before .before .before .before .before .before .before .before .before .before .before .before .before .before .before .before .before .before .before .before .args in
+    let bad-axes = c .before .before .before .before .before .before .before .before .before .before .before .before .before .before .bad-axes in
+    let if1 = c .before .before .before .before .before .before .before .before .before .before .before .before .before .if1 in
+    let bad-grid = c .before .before .before .before .before .before .before .before .before .before .before .before .bad-grid in
+    let if2 = c .before .before .before .before .before .before .before .before .before .before .before .if2 in
+    let voxel-count = c .before .before .before .before .before .before .before .before .before .before .voxel-count in
+    let wrong-lists = c .before .before .before .before .before .before .before .before .before .wrong-lists in
+    let if3 = c .before .before .before .before .before .before .before .before .if3 in
+    let wrong-bytes = c .before .before .before .before .before .before .before .wrong-bytes in
+    let if4 = c .before .before .before .before .before .before .if4 in
+    let bad-lists = c .before .before .before .before .before .bad-lists in
+    let if5 = c .before .before .before .before .if5 in
+    let put-file = c .before .before .put-file in
+    write-0 (args .axes) (args .corners) (args .light .now) (args .volume .now) (args .active .now) (args .occupied .now) (args .bytes .now) _
+    (sym (bad-axes .ensures) ∙ if1 .left) (sym (bad-grid .ensures) ∙ if2 .left)
+    (of-lists (args .axes) (voxel-count .result) _ _ _ _ _ _ (voxel-count .ensures) (wrong-lists .ensures) (if3 .left))
+    (of-bytes (args .axes) (voxel-count .result) _ _ _ (voxel-count .ensures) (wrong-bytes .ensures) (if4 .left))
+    (sym (bad-lists .ensures) ∙ if5 .left) (put-file .ensures)
 
 pub write-volume-spec : {M : Type 1} → statement M
 write-volume-spec =

@@ -43,13 +43,19 @@ loop-less : tie.Need-loop-less Inv-loop μ-loop
 loop-less c = search needs
 
 loop-again : tie.Need-loop-again Inv-loop μ-loop
-loop-again c = (simp length-set (c .before .before .loop .inv .0), one-more _ _ (c .before .before .before .args .at) (c .before .before .loop .i) (omega arith) (omega arith) (c .before .before .loop .inv .1), omega arith)
+loop-again c =
+    let args = c .before .before .before .args in
+    let loop = c .before .before .loop in
+    (simp length-set (loop .inv .0), one-more _ _ (args .at) (loop .i) (omega arith) (omega arith) (loop .inv .1), omega arith)
 
 same-length : tie.Need-same-length Inv-loop μ-loop
 same-length c = search needs
 
 returns : tie.Need-returns Inv-loop μ-loop
-returns c = all (c .before .before .args .s .now) (c .before .loop .out) (c .before .before .args .at) (c .before .loop .i) (length (c .before .before .args .out .now)) (c .before .loop .inv .1) (c .loop-test .left) (omega arith)
+returns c =
+    let args = c .before .before .args in
+    let loop = c .before .loop in
+    all (args .s .now) (loop .out) (args .at) (loop .i) (length (args .out .now)) (loop .inv .1) (c .loop-test .left) (omega arith)
 
 pub bytes-into-spec : {M : Type 1} → statement M
 bytes-into-spec =

@@ -48,7 +48,10 @@ loop-less : tie.Need-loop-less Inv-loop μ-loop
 loop-less c = search needs
 
 loop-again : tie.Need-loop-again Inv-loop μ-loop
-loop-again c = (simp length-set (c .before .before .loop .inv .0), one-more _ _ _ _ _ _ (c .before .loop-test .taken) (c .f32-at .ensures) (c .before .before .loop .inv .1), omega arith)
+loop-again c =
+    let loop = c .before .before .loop in
+    let loop-test = c .before .loop-test in
+    (simp length-set (loop .inv .0), one-more _ _ _ _ _ _ (loop-test .taken) (c .f32-at .ensures) (loop .inv .1), omega arith)
 
 same-length : tie.Need-same-length Inv-loop μ-loop
 same-length c = search needs

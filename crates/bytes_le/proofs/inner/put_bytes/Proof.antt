@@ -35,7 +35,10 @@ loop-less : tie.Need-loop-less Inv-loop μ-loop
 loop-less c = search needs
 
 loop-again : tie.Need-loop-again Inv-loop μ-loop
-loop-again c = (rw (c .before .before .loop .inv .0) (sets-one-more _ _ _ _ 0 (c .before .loop-test .taken)), simp length-set (c .before .before .loop .inv .1), omega arith)
+loop-again c =
+    let loop = c .before .before .loop in
+    let loop-test = c .before .loop-test in
+    (rw (loop .inv .0) (sets-one-more _ _ _ _ 0 (loop-test .taken)), simp length-set (loop .inv .1), omega arith)
 
 same-length : tie.Need-same-length Inv-loop μ-loop
 same-length c = search needs

@@ -17,7 +17,11 @@ same-length : tie.Need-same-length
 same-length c = search needs
 
 returns : tie.Need-returns
-returns c = c .before .before .put-u32 .ensures ∙ ap (λ (n : ℕ). sets (c .before .before .before .before .before .before .args .s .now) (c .before .before .before .before .before .before .args .at) (bytes4 n)) (c .before .before .before .bits-of .ensures)
+returns c =
+    let args = c .before .before .before .before .before .before .args in
+    let bits-of = c .before .before .before .bits-of in
+    let put-u32 = c .before .before .put-u32 in
+    put-u32 .ensures ∙ ap (λ (n : ℕ). sets (args .s .now) (args .at) (bytes4 n)) (bits-of .ensures)
 
 pub put-f32-spec : {M : Type 1} → statement M
 put-f32-spec = tie.close (tie.spec bits-of-requires put-u32-requires same-length returns)

@@ -48,7 +48,11 @@ loop-less : tie.Need-loop-less Inv-loop μ-loop
 loop-less c = search needs
 
 loop-again : tie.Need-loop-again Inv-loop μ-loop
-loop-again c = (again _ _ _ _ _ (c .before .before .before .before .before .before .loop .i) (c .before .before .before .before .before .loop-test .taken) (c .before .before .before .before .before .before .loop .inv .0) (c .before .before .put-f32 .ensures), ap length (c .before .before .put-f32 .ensures) ∙ simp length-sets (c .before .before .before .before .before .before .loop .inv .1), omega arith)
+loop-again c =
+    let loop = c .before .before .before .before .before .before .loop in
+    let loop-test = c .before .before .before .before .before .loop-test in
+    let put-f32 = c .before .before .put-f32 in
+    (again _ _ _ _ _ (loop .i) (loop-test .taken) (loop .inv .0) (put-f32 .ensures), ap length (put-f32 .ensures) ∙ simp length-sets (loop .inv .1), omega arith)
 
 same-length : tie.Need-same-length Inv-loop μ-loop
 same-length c = search needs

@@ -44,7 +44,8 @@ same-length : tie.Need-same-length
 same-length c = search needs
 
 returns : tie.Need-returns
-returns c = four-stores (c .args .s .now) (c .args .at) (c .args .n % 256) (c .args .n / 256 % 256) (c .args .n / 65536 % 256) (c .args .n / 16777216 % 256)
+returns c =
+    four-stores (c .args .s .now) (c .args .at) (c .args .n % 256) (c .args .n / 256 % 256) (c .args .n / 65536 % 256) (c .args .n / 16777216 % 256)
 
 pub put-u32-spec : {M : Type 1} → statement M
 put-u32-spec =

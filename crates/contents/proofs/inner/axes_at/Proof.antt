@@ -23,7 +23,13 @@ size-requires-3 : tie.Need-size-requires-3
 size-requires-3 c κs = search needs
 
 returns : tie.Need-returns
-returns c = cc (c .before .before .before .before .size .ensures .0, c .before .before .before .before .before .u16-at .ensures .0, c .before .before .size2 .ensures .0, c .before .before .before .u16-at2 .ensures .0, c .size3 .ensures .0, c .before .u16-at3 .ensures .0)
+returns c =
+    let u16-at = c .before .before .before .before .before .u16-at in
+    let size = c .before .before .before .before .size in
+    let u16-at2 = c .before .before .before .u16-at2 in
+    let size2 = c .before .before .size2 in
+    let u16-at3 = c .before .u16-at3 in
+    cc (size .ensures .0, u16-at .ensures .0, size2 .ensures .0, u16-at2 .ensures .0, c .size3 .ensures .0, u16-at3 .ensures .0)
 
 pub axes-at-spec : {M : Type 1} → statement M
 axes-at-spec =

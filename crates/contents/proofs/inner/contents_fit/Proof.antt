@@ -60,7 +60,18 @@ entry-fits-requires : tie.Need-entry-fits-requires Inv-loop μ-loop
 entry-fits-requires c κs = search needs
 
 returns : tie.Need-returns Inv-loop μ-loop
-returns c = none (c .before .before .before .before .before .before .before .before .before .before .args .s .now) (c .before .before .before .before .before .before .before .before .before .before .args .voxels) (c .before .before .before .before .before .before .before .before .before .before .args .entries) (c .before .before .before .before .before .before .before .before .loop .i) (c .before .before .before .before .before .before .before .before .loop .previous) (c .before .before .before .before .before .before .before .before .loop .start) _ _ _ _ (c .before .before .before .before .before .before .before .loop-test .taken) (c .before .before .before .before .before .before .u32-at .ensures) (c .before .before .before .before .size .ensures .0 ∙ c .before .before .before .before .before .u32-at2 .ensures) (c .before .before .size2 .ensures .0 ∙ c .before .before .before .u32-at3 .ensures) (failed _ _ (c .before .entry-fits .ensures) (c .if1 .taken)) (c .before .before .before .before .before .before .before .before .loop .inv .0)
+returns c =
+    let args = c .before .before .before .before .before .before .before .before .before .before .args in
+    let loop = c .before .before .before .before .before .before .before .before .loop in
+    let loop-test = c .before .before .before .before .before .before .before .loop-test in
+    let u32-at = c .before .before .before .before .before .before .u32-at in
+    let u32-at2 = c .before .before .before .before .before .u32-at2 in
+    let size = c .before .before .before .before .size in
+    let u32-at3 = c .before .before .before .u32-at3 in
+    let size2 = c .before .before .size2 in
+    let entry-fits = c .before .entry-fits in
+    none (args .s .now) (args .voxels) (args .entries) (loop .i) (loop .previous) (loop .start) _ _ _ _ (loop-test .taken) (u32-at .ensures)
+    (size .ensures .0 ∙ u32-at2 .ensures) (size2 .ensures .0 ∙ u32-at3 .ensures) (failed _ _ (entry-fits .ensures) (c .if1 .taken)) (loop .inv .0)
 
 add-start-2 : tie.Need-add-start-2 Inv-loop μ-loop
 add-start-2 c = search needs
@@ -72,10 +83,23 @@ loop-less : tie.Need-loop-less Inv-loop μ-loop
 loop-less c = search needs
 
 loop-again : tie.Need-loop-again Inv-loop μ-loop
-loop-again c = (more (c .before .before .before .before .before .before .before .before .before .before .args .s .now) (c .before .before .before .before .before .before .before .before .before .before .args .voxels) (c .before .before .before .before .before .before .before .before .before .before .args .entries) (c .before .before .before .before .before .before .before .before .loop .i) (c .before .before .before .before .before .before .before .before .loop .previous) (c .before .before .before .before .before .before .before .before .loop .start) _ _ _ _ (c .before .before .before .before .before .before .before .loop-test .taken) (c .before .before .before .before .before .before .u32-at .ensures) (c .before .before .before .before .size .ensures .0 ∙ c .before .before .before .before .before .u32-at2 .ensures) (c .before .before .size2 .ensures .0 ∙ c .before .before .before .u32-at3 .ensures) (held _ _ (c .before .entry-fits .ensures) (c .if1 .left)) (c .before .before .before .before .before .before .before .before .loop .inv .0), omega arith, omega (arith, c .before .before .size2 .ensures .1))
+loop-again c =
+    let args = c .before .before .before .before .before .before .before .before .before .before .args in
+    let loop = c .before .before .before .before .before .before .before .before .loop in
+    let loop-test = c .before .before .before .before .before .before .before .loop-test in
+    let u32-at = c .before .before .before .before .before .before .u32-at in
+    let u32-at2 = c .before .before .before .before .before .u32-at2 in
+    let size = c .before .before .before .before .size in
+    let u32-at3 = c .before .before .before .u32-at3 in
+    let size2 = c .before .before .size2 in
+    let entry-fits = c .before .entry-fits in
+    (more (args .s .now) (args .voxels) (args .entries) (loop .i) (loop .previous) (loop .start) _ _ _ _ (loop-test .taken) (u32-at .ensures) (size .ensures .0 ∙ u32-at2 .ensures) (size2 .ensures .0 ∙ u32-at3 .ensures) (held _ _ (entry-fits .ensures) (c .if1 .left)) (loop .inv .0), omega arith, omega (arith, size2 .ensures .1))
 
 returns-2 : tie.Need-returns-2 Inv-loop μ-loop
-returns-2 c = done (c .before .before .before .args .s .now) (c .before .before .before .args .voxels) (c .before .before .before .args .entries) (c .before .loop .i) (c .before .loop .previous) (c .before .loop .start) _ (c .loop-test .left) (c .before .loop .inv .0)
+returns-2 c =
+    let args = c .before .before .before .args in
+    let loop = c .before .loop in
+    done (args .s .now) (args .voxels) (args .entries) (loop .i) (loop .previous) (loop .start) _ (c .loop-test .left) (loop .inv .0)
 
 pub contents-fit-spec : {M : Type 1} → statement M
 contents-fit-spec =

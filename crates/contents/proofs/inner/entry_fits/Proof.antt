@@ -22,7 +22,11 @@ body-fits-requires c κs = search needs
 
 returns-3 : tie.Need-returns-3
 unfolding entryGood
-returns-3 c = c .body-fits .ensures ∙ simp (c .before .kind-of .ensures, lt-ltb _ _ (c .before .before .before .if1 .left), eq-eqb _ _ (c .before .before .if2 .left))
+returns-3 c =
+    let if1 = c .before .before .before .if1 in
+    let if2 = c .before .before .if2 in
+    let kind-of = c .before .kind-of in
+    c .body-fits .ensures ∙ simp (kind-of .ensures, lt-ltb _ _ (if1 .left), eq-eqb _ _ (if2 .left))
 
 pub entry-fits-spec : {M : Type 1} → statement M
 entry-fits-spec =

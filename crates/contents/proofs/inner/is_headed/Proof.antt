@@ -23,10 +23,22 @@ u16-at-requires : tie.Need-u16-at-requires
 u16-at-requires c κs = search needs
 
 returns-3 : tie.Need-returns-3
-returns-3 c = few _ (c .before .before .before .before .if1 .left) (held _ _ (c .before .before .before .is-marked .ensures) (c .before .before .if2 .left)) (subst (λ (n : ℕ). n < 5) (c .before .u16-at .ensures .0) (c .if3 .taken))
+returns-3 c =
+    let if1 = c .before .before .before .before .if1 in
+    let is-marked = c .before .before .before .is-marked in
+    let if2 = c .before .before .if2 in
+    let u16-at = c .before .u16-at in
+    few _ (if1 .left) (held _ _ (is-marked .ensures) (if2 .left)) (subst (λ (n : ℕ). n < 5) (u16-at .ensures .0) (c .if3 .taken))
 
 returns-4 : tie.Need-returns-4
-returns-4 c = many _ (c .before .before .before .before .before .if1 .left) (held _ _ (c .before .before .before .before .is-marked .ensures) (c .before .before .before .if2 .left)) (subst (λ (n : ℕ). 5 ≤ n) (c .before .before .u16-at .ensures .0) (c .before .if3 .left)) (subst (λ (n : ℕ). 16 < n) (c .before .before .u16-at .ensures .0) (c .if4 .taken))
+returns-4 c =
+    let if1 = c .before .before .before .before .before .if1 in
+    let is-marked = c .before .before .before .before .is-marked in
+    let if2 = c .before .before .before .if2 in
+    let u16-at = c .before .before .u16-at in
+    let if3 = c .before .if3 in
+    many _ (if1 .left) (held _ _ (is-marked .ensures) (if2 .left)) (subst (λ (n : ℕ). 5 ≤ n) (u16-at .ensures .0) (if3 .left))
+    (subst (λ (n : ℕ). 16 < n) (u16-at .ensures .0) (c .if4 .taken))
 
 size-requires : tie.Need-size-requires
 size-requires c κs = search needs
@@ -38,7 +50,15 @@ add-result : tie.Need-add-result
 add-result c = search needs
 
 returns-5 : tie.Need-returns-5
-returns-5 c = sized _ _ (c .before .before .before .before .before .before .if1 .left) (held _ _ (c .before .before .before .before .before .is-marked .ensures) (c .before .before .before .before .if2 .left)) (subst (λ (n : ℕ). 5 ≤ n) (c .before .before .before .u16-at .ensures .0) (c .before .before .if3 .left)) (subst (λ (n : ℕ). n ≤ 16) (c .before .before .before .u16-at .ensures .0) (c .before .if4 .left)) (c .size .ensures .0 ∙ c .before .before .before .u16-at .ensures .0)
+returns-5 c =
+    let if1 = c .before .before .before .before .before .before .if1 in
+    let is-marked = c .before .before .before .before .before .is-marked in
+    let if2 = c .before .before .before .before .if2 in
+    let u16-at = c .before .before .before .u16-at in
+    let if3 = c .before .before .if3 in
+    let if4 = c .before .if4 in
+    sized _ _ (if1 .left) (held _ _ (is-marked .ensures) (if2 .left)) (subst (λ (n : ℕ). 5 ≤ n) (u16-at .ensures .0) (if3 .left))
+    (subst (λ (n : ℕ). n ≤ 16) (u16-at .ensures .0) (if4 .left)) (c .size .ensures .0 ∙ u16-at .ensures .0)
 
 pub is-headed-spec : {M : Type 1} → statement M
 is-headed-spec =

@@ -33,7 +33,14 @@ same-length : tie.Need-same-length
 same-length c = search needs
 
 returns : tie.Need-returns
-returns c = sets-after (c .before .before .before .before .before .before .before .before .before .before .before .before .before .args .s .now) (c .before .before .before .before .before .before .before .before .before .before .before .before .before .args .at) (c .before .before .before .before .before .before .before .before .before .before .before .before .before .args .at + 8) (bytes4 (c .before .before .before .before .before .before .before .before .before .before .before .before .before .args .kind) ++ bytes4 (c .before .before .before .before .before .before .before .before .before .before .before .before .before .args .offset)) (bytes4 (c .before .before .before .before .before .before .before .before .before .before .before .before .before .args .long)) refl (sets-after (c .before .before .before .before .before .before .before .before .before .before .before .before .before .args .s .now) (c .before .before .before .before .before .before .before .before .before .before .before .before .before .args .at) (c .before .before .before .before .before .before .before .before .before .before .before .before .before .args .at + 4) (bytes4 (c .before .before .before .before .before .before .before .before .before .before .before .before .before .args .kind)) (bytes4 (c .before .before .before .before .before .before .before .before .before .before .before .before .before .args .offset)) refl (c .before .before .before .before .before .before .before .before .before .before .put-u32 .ensures) (c .before .before .before .before .before .before .put-u322 .ensures)) (c .before .before .put-u323 .ensures)
+returns c =
+    let args = c .before .before .before .before .before .before .before .before .before .before .before .before .before .args in
+    let put-u32 = c .before .before .before .before .before .before .before .before .before .before .put-u32 in
+    let put-u322 = c .before .before .before .before .before .before .put-u322 in
+    let put-u323 = c .before .before .put-u323 in
+    sets-after (args .s .now) (args .at) (args .at + 8) (bytes4 (args .kind) ++ bytes4 (args .offset)) (bytes4 (args .long)) refl
+    (sets-after (args .s .now) (args .at) (args .at + 4) (bytes4 (args .kind)) (bytes4 (args .offset)) refl (put-u32 .ensures) (put-u322 .ensures))
+    (put-u323 .ensures)
 
 pub put-entry-spec : {M : Type 1} → statement M
 put-entry-spec =

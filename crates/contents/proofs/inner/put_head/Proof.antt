@@ -36,7 +36,16 @@ same-length : tie.Need-same-length
 same-length c = search needs
 
 returns : tie.Need-returns
-returns c = sets-after (c .before .before .before .before .before .before .before .before .before .before .before .before .before .before .before .before .before .before .before .before .before .before .before .before .args .s .now) 0 10 (mark ++ bytes2 (c .before .before .before .before .before .before .before .before .before .before .before .before .before .before .before .before .before .before .before .before .before .before .before .before .args .axes .width) ++ bytes2 (c .before .before .before .before .before .before .before .before .before .before .before .before .before .before .before .before .before .before .before .before .before .before .before .before .args .axes .height) ++ bytes2 (c .before .before .before .before .before .before .before .before .before .before .before .before .before .before .before .before .before .before .before .before .before .before .before .before .args .axes .depth)) (bytes2 5) refl (sets-after (c .before .before .before .before .before .before .before .before .before .before .before .before .before .before .before .before .before .before .before .before .before .before .before .before .args .s .now) 0 8 (mark ++ bytes2 (c .before .before .before .before .before .before .before .before .before .before .before .before .before .before .before .before .before .before .before .before .before .before .before .before .args .axes .width) ++ bytes2 (c .before .before .before .before .before .before .before .before .before .before .before .before .before .before .before .before .before .before .before .before .before .before .before .before .args .axes .height)) (bytes2 (c .before .before .before .before .before .before .before .before .before .before .before .before .before .before .before .before .before .before .before .before .before .before .before .before .args .axes .depth)) refl (sets-after (c .before .before .before .before .before .before .before .before .before .before .before .before .before .before .before .before .before .before .before .before .before .before .before .before .args .s .now) 0 6 (mark ++ bytes2 (c .before .before .before .before .before .before .before .before .before .before .before .before .before .before .before .before .before .before .before .before .before .before .before .before .args .axes .width)) (bytes2 (c .before .before .before .before .before .before .before .before .before .before .before .before .before .before .before .before .before .before .before .before .before .before .before .before .args .axes .height)) refl (sets-after (c .before .before .before .before .before .before .before .before .before .before .before .before .before .before .before .before .before .before .before .before .before .before .before .before .args .s .now) 0 4 mark (bytes2 (c .before .before .before .before .before .before .before .before .before .before .before .before .before .before .before .before .before .before .before .before .before .before .before .before .args .axes .width)) refl (c .before .before .before .before .before .before .before .before .before .before .before .before .before .before .before .before .before .before .before .before .before .put-mark .ensures) (c .before .before .before .before .before .before .before .before .before .before .before .before .before .before .before .before .put-u16 .ensures)) (c .before .before .before .before .before .before .before .before .before .before .before .put-u162 .ensures)) (c .before .before .before .before .before .before .put-u163 .ensures)) (c .before .before .put-u164 .ensures)
+returns c =
+    let args = c .before .before .before .before .before .before .before .before .before .before .before .before .before .before .before .before .before .before .before .before .before .before .before .before .args in
+    let put-mark = c .before .before .before .before .before .before .before .before .before .before .before .before .before .before .before .before .before .before .before .before .before .put-mark in
+    let put-u16 = c .before .before .before .before .before .before .before .before .before .before .before .before .before .before .before .before .put-u16 in
+    let put-u162 = c .before .before .before .before .before .before .before .before .before .before .before .put-u162 in
+    let put-u163 = c .before .before .before .before .before .before .put-u163 in
+    let put-u164 = c .before .before .put-u164 in
+    sets-after (args .s .now) 0 10 (mark ++ bytes2 (args .axes .width) ++ bytes2 (args .axes .height) ++ bytes2 (args .axes .depth)) (bytes2 5) refl
+    (sets-after (args .s .now) 0 8 (mark ++ bytes2 (args .axes .width) ++ bytes2 (args .axes .height)) (bytes2 (args .axes .depth)) refl (sets-after (args .s .now) 0 6 (mark ++ bytes2 (args .axes .width)) (bytes2 (args .axes .height)) refl (sets-after (args .s .now) 0 4 mark (bytes2 (args .axes .width)) refl (put-mark .ensures) (put-u16 .ensures)) (put-u162 .ensures)) (put-u163 .ensures))
+    (put-u164 .ensures)
 
 pub put-head-spec : {M : Type 1} → statement M
 put-head-spec =

@@ -41,7 +41,17 @@ bad-mask-requires-2 c κs = search needs
 
 returns : tie.Need-returns
 unfolding badBodies badLights badCoefficients
-returns c = rw (c .before .before .before .before .before .before .before .before .bad-grid .ensures, c .before .before .before .before .before .before .before .before .before .corners-at .ensures, c .before .before .before .before .before .before .bad-floats .ensures, c .before .before .before .before .before .before .before .offset-at .ensures, c .before .before .before .before .bad-floats2 .ensures, c .before .before .before .before .before .offset-at2 .ensures, c .before .before .bad-mask .ensures, c .before .before .before .offset-at3 .ensures, c .bad-mask2 .ensures, c .before .offset-at4 .ensures)
+returns c =
+    let corners-at = c .before .before .before .before .before .before .before .before .before .corners-at in
+    let bad-grid = c .before .before .before .before .before .before .before .before .bad-grid in
+    let offset-at = c .before .before .before .before .before .before .before .offset-at in
+    let bad-floats = c .before .before .before .before .before .before .bad-floats in
+    let offset-at2 = c .before .before .before .before .before .offset-at2 in
+    let bad-floats2 = c .before .before .before .before .bad-floats2 in
+    let offset-at3 = c .before .before .before .offset-at3 in
+    let bad-mask = c .before .before .bad-mask in
+    let offset-at4 = c .before .offset-at4 in
+    rw (bad-grid .ensures, corners-at .ensures, bad-floats .ensures, offset-at .ensures, bad-floats2 .ensures, offset-at2 .ensures, bad-mask .ensures, offset-at3 .ensures, c .bad-mask2 .ensures, offset-at4 .ensures)
 
 pub bad-bodies-spec : {M : Type 1} → statement M
 bad-bodies-spec =

@@ -34,7 +34,14 @@ out-of-requires : tie.Need-out-of-requires Inv-loop μ-loop
 out-of-requires c κs = search needs
 
 returns : tie.Need-returns Inv-loop μ-loop
-returns c = found (λ i. f32At (c .before .before .before .before .before .before .args .s .now) (c .before .before .before .before .before .before .args .at + i * 4)) (c .before .before .before .before .before .before .args .b) (c .before .before .before .before .before .before .args .n) (c .before .before .before .before .loop .i) _ _ _ (c .before .before .before .loop-test .taken) (c .before .before .f32-at .ensures) (c .before .out-of .ensures) (c .if1 .taken) (c .before .before .before .before .loop .inv .0)
+returns c =
+    let args = c .before .before .before .before .before .before .args in
+    let loop = c .before .before .before .before .loop in
+    let loop-test = c .before .before .before .loop-test in
+    let f32-at = c .before .before .f32-at in
+    let out-of = c .before .out-of in
+    found (λ i. f32At (args .s .now) (args .at + i * 4)) (args .b) (args .n) (loop .i) _ _ _ (loop-test .taken) (f32-at .ensures) (out-of .ensures)
+    (c .if1 .taken) (loop .inv .0)
 
 add-i : tie.Need-add-i Inv-loop μ-loop
 add-i c = search needs
@@ -43,10 +50,19 @@ loop-less : tie.Need-loop-less Inv-loop μ-loop
 loop-less c = search needs
 
 loop-again : tie.Need-loop-again Inv-loop μ-loop
-loop-again c = (next (λ i. f32At (c .before .before .before .before .before .before .args .s .now) (c .before .before .before .before .before .before .args .at + i * 4)) (c .before .before .before .before .before .before .args .b) (c .before .before .before .before .before .before .args .n) (c .before .before .before .before .loop .i) _ _ _ (c .before .before .before .loop-test .taken) (c .before .before .f32-at .ensures) (c .before .out-of .ensures) (c .if1 .left) (c .before .before .before .before .loop .inv .0), omega arith)
+loop-again c =
+    let args = c .before .before .before .before .before .before .args in
+    let loop = c .before .before .before .before .loop in
+    let loop-test = c .before .before .before .loop-test in
+    let f32-at = c .before .before .f32-at in
+    let out-of = c .before .out-of in
+    (next (λ i. f32At (args .s .now) (args .at + i * 4)) (args .b) (args .n) (loop .i) _ _ _ (loop-test .taken) (f32-at .ensures) (out-of .ensures) (c .if1 .left) (loop .inv .0), omega arith)
 
 returns-2 : tie.Need-returns-2 Inv-loop μ-loop
-returns-2 c = none (λ i. f32At (c .before .before .before .args .s .now) (c .before .before .before .args .at + i * 4)) (c .before .before .before .args .b) (c .before .before .before .args .n) (c .before .loop .i) _ (c .loop-test .left) (c .before .loop .inv .0)
+returns-2 c =
+    let args = c .before .before .before .args in
+    let loop = c .before .loop in
+    none (λ i. f32At (args .s .now) (args .at + i * 4)) (args .b) (args .n) (loop .i) _ (c .loop-test .left) (loop .inv .0)
 
 pub bad-floats-spec : {M : Type 1} → statement M
 bad-floats-spec =

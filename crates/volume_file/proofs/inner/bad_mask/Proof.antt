@@ -22,7 +22,9 @@ bad-mask-requires : tie.Need-bad-mask-requires
 bad-mask-requires c κs = search needs
 
 returns : tie.Need-returns
-returns c = let e : c .before .before .before .args .at + c .before .before .before .args .n - c .before .before .before .args .at ≡ c .before .before .before .args .n = omega arith in c .bad-mask .ensures ∙ rw e
+returns c =
+    let args = c .before .before .before .args in
+    let e : args .at + args .n - args .at ≡ args .n = omega arith in c .bad-mask .ensures ∙ rw e
 
 pub bad-mask-spec : {M : Type 1} → statement M
 bad-mask-spec =

@@ -59,7 +59,18 @@ same-length c = search needs
 
 returns : tie.Need-returns
 unfolding contentsOf
-returns c = sets-after (c .before .before .before .before .before .before .before .before .before .before .before .before .before .before .before .before .before .before .before .before .before .args .bytes .now) 12 60 (entryOf 1 72 (c .before .before .before .before .before .before .before .before .before .before .before .before .before .before .before .before .before .before .before .before .before .args .n * 4) ++ entryOf 2 (72 + c .before .before .before .before .before .before .before .before .before .before .before .before .before .before .before .before .before .before .before .before .before .args .n * 4) (c .before .before .before .before .before .before .before .before .before .before .before .before .before .before .before .before .before .before .before .before .before .args .n * 64) ++ entryOf 3 (72 + c .before .before .before .before .before .before .before .before .before .before .before .before .before .before .before .before .before .before .before .before .before .args .n * 68) (c .before .before .before .before .before .before .before .before .before .before .before .before .before .before .before .before .before .before .before .before .before .args .n) ++ entryOf 4 (72 + c .before .before .before .before .before .before .before .before .before .before .before .before .before .before .before .before .before .before .before .before .before .args .n * 69) (c .before .before .before .before .before .before .before .before .before .before .before .before .before .before .before .before .before .before .before .before .before .args .n)) (entryOf 5 (72 + c .before .before .before .before .before .before .before .before .before .before .before .before .before .before .before .before .before .before .before .before .before .args .n * 70) 24) refl (sets-after (c .before .before .before .before .before .before .before .before .before .before .before .before .before .before .before .before .before .before .before .before .before .args .bytes .now) 12 48 (entryOf 1 72 (c .before .before .before .before .before .before .before .before .before .before .before .before .before .before .before .before .before .before .before .before .before .args .n * 4) ++ entryOf 2 (72 + c .before .before .before .before .before .before .before .before .before .before .before .before .before .before .before .before .before .before .before .before .before .args .n * 4) (c .before .before .before .before .before .before .before .before .before .before .before .before .before .before .before .before .before .before .before .before .before .args .n * 64) ++ entryOf 3 (72 + c .before .before .before .before .before .before .before .before .before .before .before .before .before .before .before .before .before .before .before .before .before .args .n * 68) (c .before .before .before .before .before .before .before .before .before .before .before .before .before .before .before .before .before .before .before .before .before .args .n)) (entryOf 4 (72 + c .before .before .before .before .before .before .before .before .before .before .before .before .before .before .before .before .before .before .before .before .before .args .n * 69) (c .before .before .before .before .before .before .before .before .before .before .before .before .before .before .before .before .before .before .before .before .before .args .n)) refl (sets-after (c .before .before .before .before .before .before .before .before .before .before .before .before .before .before .before .before .before .before .before .before .before .args .bytes .now) 12 36 (entryOf 1 72 (c .before .before .before .before .before .before .before .before .before .before .before .before .before .before .before .before .before .before .before .before .before .args .n * 4) ++ entryOf 2 (72 + c .before .before .before .before .before .before .before .before .before .before .before .before .before .before .before .before .before .before .before .before .before .args .n * 4) (c .before .before .before .before .before .before .before .before .before .before .before .before .before .before .before .before .before .before .before .before .before .args .n * 64)) (entryOf 3 (72 + c .before .before .before .before .before .before .before .before .before .before .before .before .before .before .before .before .before .before .before .before .before .args .n * 68) (c .before .before .before .before .before .before .before .before .before .before .before .before .before .before .before .before .before .before .before .before .before .args .n)) refl (sets-after (c .before .before .before .before .before .before .before .before .before .before .before .before .before .before .before .before .before .before .before .before .before .args .bytes .now) 12 24 (entryOf 1 72 (c .before .before .before .before .before .before .before .before .before .before .before .before .before .before .before .before .before .before .before .before .before .args .n * 4)) (entryOf 2 (72 + c .before .before .before .before .before .before .before .before .before .before .before .before .before .before .before .before .before .before .before .before .before .args .n * 4) (c .before .before .before .before .before .before .before .before .before .before .before .before .before .before .before .before .before .before .before .before .before .args .n * 64)) refl (c .before .before .before .before .before .before .before .before .before .before .before .before .before .before .before .before .before .before .put-entry .ensures) (c .before .before .before .before .before .before .before .before .before .before .before .before .before .before .put-entry2 .ensures)) (c .before .before .before .before .before .before .before .before .before .before .put-entry3 .ensures)) (c .before .before .before .before .before .before .put-entry4 .ensures)) (c .before .before .put-entry5 .ensures)
+returns c =
+    let args = c .before .before .before .before .before .before .before .before .before .before .before .before .before .before .before .before .before .before .before .before .before .args in
+    let put-entry = c .before .before .before .before .before .before .before .before .before .before .before .before .before .before .before .before .before .before .put-entry in
+    let put-entry2 = c .before .before .before .before .before .before .before .before .before .before .before .before .before .before .put-entry2 in
+    let put-entry3 = c .before .before .before .before .before .before .before .before .before .before .put-entry3 in
+    let put-entry4 = c .before .before .before .before .before .before .put-entry4 in
+    let put-entry5 = c .before .before .put-entry5 in
+    sets-after (args .bytes .now) 12 60
+    (entryOf 1 72 (args .n * 4) ++ entryOf 2 (72 + args .n * 4) (args .n * 64) ++ entryOf 3 (72 + args .n * 68) (args .n) ++ entryOf 4 (72 + args .n * 69) (args .n))
+    (entryOf 5 (72 + args .n * 70) 24) refl
+    (sets-after (args .bytes .now) 12 48 (entryOf 1 72 (args .n * 4) ++ entryOf 2 (72 + args .n * 4) (args .n * 64) ++ entryOf 3 (72 + args .n * 68) (args .n)) (entryOf 4 (72 + args .n * 69) (args .n)) refl (sets-after (args .bytes .now) 12 36 (entryOf 1 72 (args .n * 4) ++ entryOf 2 (72 + args .n * 4) (args .n * 64)) (entryOf 3 (72 + args .n * 68) (args .n)) refl (sets-after (args .bytes .now) 12 24 (entryOf 1 72 (args .n * 4)) (entryOf 2 (72 + args .n * 4) (args .n * 64)) refl (put-entry .ensures) (put-entry2 .ensures)) (put-entry3 .ensures)) (put-entry4 .ensures))
+    (put-entry5 .ensures)
 
 pub put-contents-spec : {M : Type 1} → statement M
 put-contents-spec =

@@ -22,7 +22,12 @@ same-length c = search needs
 
 returns : tie.Need-returns
 unfolding encode
-returns c = sets-after (c .before .before .before .before .before .before .before .before .before .args .bytes .now) (c .before .before .before .before .before .before .before .before .before .args .at) (c .before .before .before .before .before .before .before .before .before .args .at + 12) (encode (c .before .before .before .before .before .before .before .before .before .args .corners .min .x ∷ c .before .before .before .before .before .before .before .before .before .args .corners .min .y ∷ c .before .before .before .before .before .before .before .before .before .args .corners .min .z ∷ [])) (encode (c .before .before .before .before .before .before .before .before .before .args .corners .max .x ∷ c .before .before .before .before .before .before .before .before .before .args .corners .max .y ∷ c .before .before .before .before .before .before .before .before .before .args .corners .max .z ∷ [])) refl (c .before .before .before .before .before .before .put-vector .ensures) (c .before .before .put-vector2 .ensures)
+returns c =
+    let args = c .before .before .before .before .before .before .before .before .before .args in
+    let put-vector = c .before .before .before .before .before .before .put-vector in
+    let put-vector2 = c .before .before .put-vector2 in
+    sets-after (args .bytes .now) (args .at) (args .at + 12) (encode (args .corners .min .x ∷ args .corners .min .y ∷ args .corners .min .z ∷ []))
+    (encode (args .corners .max .x ∷ args .corners .max .y ∷ args .corners .max .z ∷ [])) refl (put-vector .ensures) (put-vector2 .ensures)
 
 pub put-corners-spec : {M : Type 1} → statement M
 put-corners-spec =

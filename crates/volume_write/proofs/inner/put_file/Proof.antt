@@ -10,7 +10,10 @@ put-head-requires : tie.Need-put-head-requires
 put-head-requires c κs = search needs
 
 put-contents-requires : tie.Need-put-contents-requires
-put-contents-requires c κs = omega (arith, c .before .before .before .before .before .before .before .before .before .before .pre .bytes, c .before .before .before .before .before .before .before .before .before .before .pre .count, voxels-most (c .before .before .before .before .before .before .before .before .before .before .args .axes) (c .before .before .before .before .before .before .before .before .before .before .pre .axes))
+put-contents-requires c κs =
+    let args = c .before .before .before .before .before .before .before .before .before .before .args in
+    let pre = c .before .before .before .before .before .before .before .before .before .before .pre in
+    omega (arith, pre .bytes, pre .count, voxels-most (args .axes) (pre .axes))
 
 put-floats-requires : tie.Need-put-floats-requires
 put-floats-requires c κs = search needs
@@ -55,7 +58,19 @@ same-length : tie.Need-same-length
 same-length c = search needs
 
 returns : tie.Need-returns
-returns c = written (c .before .before .before .before .before .before .before .before .before .before .before .before .before .before .before .before .before .before .before .before .before .before .before .before .before .before .before .before .before .before .before .before .before .args .axes) (c .before .before .before .before .before .before .before .before .before .before .before .before .before .before .before .before .before .before .before .before .before .before .before .before .before .before .before .before .before .before .before .before .before .args .corners) (c .before .before .before .before .before .before .before .before .before .before .before .before .before .before .before .before .before .before .before .before .before .before .before .before .before .before .before .before .before .before .before .before .before .args .light .now) (c .before .before .before .before .before .before .before .before .before .before .before .before .before .before .before .before .before .before .before .before .before .before .before .before .before .before .before .before .before .before .before .before .before .args .volume .now) (c .before .before .before .before .before .before .before .before .before .before .before .before .before .before .before .before .before .before .before .before .before .before .before .before .before .before .before .before .before .before .before .before .before .args .active .now) (c .before .before .before .before .before .before .before .before .before .before .before .before .before .before .before .before .before .before .before .before .before .before .before .before .before .before .before .before .before .before .before .before .before .args .occupied .now) (c .before .before .before .before .before .before .before .before .before .before .before .before .before .before .before .before .before .before .before .before .before .before .before .before .before .before .before .before .before .before .before .before .before .args .n) (c .before .before .before .before .before .before .before .before .before .before .before .before .before .before .before .before .before .before .before .before .before .before .before .before .before .before .before .before .before .before .before .before .before .args .bytes .now) _ _ _ _ _ _ _ (c .before .before .before .before .before .before .before .before .before .before .before .before .before .before .before .before .before .before .before .before .before .before .before .before .before .before .before .before .before .before .before .before .before .pre) (c .before .before .before .before .before .before .before .before .before .before .before .before .before .before .before .before .before .before .before .before .before .before .before .before .before .before .put-head .ensures) (c .before .before .before .before .before .before .before .before .before .before .before .before .before .before .before .before .before .before .before .before .before .before .put-contents .ensures) (c .before .before .before .before .before .before .before .before .before .before .before .before .before .before .before .before .before .before .put-floats .ensures) (c .before .before .before .before .before .before .before .before .before .before .before .before .before .before .put-floats2 .ensures) (c .before .before .before .before .before .before .before .before .before .before .put-bytes .ensures) (c .before .before .before .before .before .before .put-bytes2 .ensures) (c .before .before .put-corners .ensures)
+returns c =
+    let args = c .before .before .before .before .before .before .before .before .before .before .before .before .before .before .before .before .before .before .before .before .before .before .before .before .before .before .before .before .before .before .before .before .before .args in
+    let pre = c .before .before .before .before .before .before .before .before .before .before .before .before .before .before .before .before .before .before .before .before .before .before .before .before .before .before .before .before .before .before .before .before .before .pre in
+    let put-head = c .before .before .before .before .before .before .before .before .before .before .before .before .before .before .before .before .before .before .before .before .before .before .before .before .before .before .put-head in
+    let put-contents = c .before .before .before .before .before .before .before .before .before .before .before .before .before .before .before .before .before .before .before .before .before .before .put-contents in
+    let put-floats = c .before .before .before .before .before .before .before .before .before .before .before .before .before .before .before .before .before .before .put-floats in
+    let put-floats2 = c .before .before .before .before .before .before .before .before .before .before .before .before .before .before .put-floats2 in
+    let put-bytes = c .before .before .before .before .before .before .before .before .before .before .put-bytes in
+    let put-bytes2 = c .before .before .before .before .before .before .put-bytes2 in
+    let put-corners = c .before .before .put-corners in
+    written (args .axes) (args .corners) (args .light .now) (args .volume .now) (args .active .now) (args .occupied .now) (args .n) (args .bytes .now)
+    _ _ _ _ _ _ _ (pre) (put-head .ensures) (put-contents .ensures) (put-floats .ensures) (put-floats2 .ensures) (put-bytes .ensures)
+    (put-bytes2 .ensures) (put-corners .ensures)
 
 pub put-file-spec : {M : Type 1} → statement M
 put-file-spec =

@@ -29,7 +29,15 @@ same-length c = search needs
 
 returns : tie.Need-returns
 unfolding encode
-returns c = sets-after (c .before .before .before .before .before .before .before .before .before .before .before .before .before .args .bytes .now) (c .before .before .before .before .before .before .before .before .before .before .before .before .before .args .at) (c .before .before .before .before .before .before .before .before .before .before .before .before .before .args .at + 8) (bytes4 (toBits binary32 (c .before .before .before .before .before .before .before .before .before .before .before .before .before .args .v .x)) ++ bytes4 (toBits binary32 (c .before .before .before .before .before .before .before .before .before .before .before .before .before .args .v .y))) (bytes4 (toBits binary32 (c .before .before .before .before .before .before .before .before .before .before .before .before .before .args .v .z))) refl (sets-after (c .before .before .before .before .before .before .before .before .before .before .before .before .before .args .bytes .now) (c .before .before .before .before .before .before .before .before .before .before .before .before .before .args .at) (c .before .before .before .before .before .before .before .before .before .before .before .before .before .args .at + 4) (bytes4 (toBits binary32 (c .before .before .before .before .before .before .before .before .before .before .before .before .before .args .v .x))) (bytes4 (toBits binary32 (c .before .before .before .before .before .before .before .before .before .before .before .before .before .args .v .y))) refl (c .before .before .before .before .before .before .before .before .before .before .put-f32 .ensures) (c .before .before .before .before .before .before .put-f322 .ensures)) (c .before .before .put-f323 .ensures)
+returns c =
+    let args = c .before .before .before .before .before .before .before .before .before .before .before .before .before .args in
+    let put-f32 = c .before .before .before .before .before .before .before .before .before .before .put-f32 in
+    let put-f322 = c .before .before .before .before .before .before .put-f322 in
+    let put-f323 = c .before .before .put-f323 in
+    sets-after (args .bytes .now) (args .at) (args .at + 8) (bytes4 (toBits binary32 (args .v .x)) ++ bytes4 (toBits binary32 (args .v .y)))
+    (bytes4 (toBits binary32 (args .v .z))) refl
+    (sets-after (args .bytes .now) (args .at) (args .at + 4) (bytes4 (toBits binary32 (args .v .x))) (bytes4 (toBits binary32 (args .v .y))) refl (put-f32 .ensures) (put-f322 .ensures))
+    (put-f323 .ensures)
 
 pub put-vector-spec : {M : Type 1} → statement M
 put-vector-spec =
