@@ -2,7 +2,7 @@
 use mathlib.Core.Path.{_≡_, refl, sym, ap, ap₂, _∙_}
 use mathlib.Core.Bool.{Bool, true, false, cond}
 use mathlib.Core.List.{List}
-use Prim.Native.Nat.{ℕ, _+_, _-_, _*_, _≤_, _<_}
+use Prim.Native.Nat.{ℕ, _-_, _*_, _≤_, _<_}
 use native.Mathlib.Omega.{arith}
 use native.Mathlib.Decide.{ℕ-discrete}
 use lib.Dec.{eqb}
@@ -11,15 +11,14 @@ use lib.Ieee.{Float}
 use borrow.Author.Tests.{eq-eqb, ne-eqb}
 use Rattle.names.specs.Numbers.{voxelLimit}
 use Rattle.grid.specs.GridLaws.{voxels-most}
-use Rattle.spread.specs.Spread.{Stage, stage, Called, Walked, filled, started, walk, someActive, ended, baked, accepted, call}
-use Rattle.ends.specs.Ends.{filledOf, anyActive, Finished}
+use Rattle.spread.specs.Spread.{Stage, stage, Called, Walked, filled, started, walk, someActive, ended, accepted}
+use Rattle.ends.specs.Ends.{filledOf, Finished}
 use Rattle.intake.specs.Intake.{BakeInput, voxelNumbers, voxelCount, bakeRefusal}
-use Rattle.intake.specs.IntakeLaws.{Fits, Passed, fits, none-refused}
+use Rattle.intake.specs.IntakeLaws.{Fits, fits, none-refused}
 use Rattle.walk.specs.declared.Reached.{Reached}
 use Rattle.demand.specs.Bake.{bakeOf}
 use Rattle.demand.specs.Calls.{refused-call, accepted-call, accepted-none}
-use Rattle.walk.specs.Reports.{Walkable, Unhit, Reports, Accepts}
-use Rattle.bake.specs.declared.BakeAnswer.{BakeAnswer}
+use Rattle.walk.specs.Reports.{Walkable, Reports, Accepts}
 use Rattle.bake.specs.Baked.{Baked, Ends}
 
 module _ {b : BakeInput} {p a : ℕ} {v x : List Float} (f : Fits b (stage p v x) a) where

@@ -12,7 +12,7 @@ use lib.ListN.{getD}
 use lib.Ieee as Ieee
 use lib.Ieee.{Float, nan, ofBits}
 use Rattle.names.specs.Bits.{one32}
-use Rattle.spread.specs.Spread.{partOf, standing, call, run}
+use Rattle.spread.specs.Spread.{partOf, call, run}
 use Rattle.ends.specs.Ends.{ambientVoxel, ambientAt}
 use Rattle.gather.specs.Gather.{gatheredOf}
 use Rattle.intake.specs.Three.{three, begun, three-accepted}

@@ -11,7 +11,7 @@ use Rattle.spread.specs.Holds.{demand}
 use Rattle.ends.specs.EndsLaws.{length-ambient}
 use Rattle.gather.specs.GatherLaws.{length-gathered, cost-least, cost-most}
 use Rattle.intake.specs.Intake.{BakeInput, bakeRefusal}
-use Rattle.intake.specs.IntakeLaws.{Fits, fits, none-refused}
+use Rattle.intake.specs.IntakeLaws.{fits, none-refused}
 use Rattle.demand.specs.Bake.{gatherInput, bakeOf}
 
 pub bake-fair : (b : BakeInput) → AxesWithin (b .axes) → Fair (bakeOf b)

@@ -1,27 +1,27 @@
 -- "no call refused" is no empty hope: after an accepted call the next, with the same input and an allowance of at least 384, is not refused. What the
 -- fill and the gather write lies within ±2^64, the lists keep their lengths, and a finished bake's volume is not tested.
-use mathlib.Core.Path.{_≡_, refl, sym, ap, _∙_}
-use mathlib.Core.Bool.{Bool, true, false, cond, _&&_, _||_, and-false}
+use mathlib.Core.Path.{_≡_, refl, sym, _∙_}
+use mathlib.Core.Bool.{Bool, true, false, cond, and-false}
 use mathlib.Core.Logic.{_⊎_, ⊎-elim}
 use mathlib.Core.List.{List, [], _∷_, _++_}
 use Prim.Native.Nat.{ℕ, zero, suc, _+_, _-_, _*_, _≤_, _<_}
 use native.Mathlib.Omega.{arith}
-use native.Mathlib.Nat.{eq-or-lt-of-le, pow-le-pow-right}
-use lib.Dec.{lit≤, ltb, eqb}
+use native.Mathlib.Nat.{eq-or-lt-of-le}
+use lib.Dec.{lit≤, ltb}
 use lib.ListN.{length, getD, take, drop}
 use lib.Ieee as Ieee
 use lib.Ieee.{Float, nan, ofBits}
-use borrow.Author.Tests.{eq-eqb, ne-eqb, lt-ltb, le-ltb, not-false}
+use borrow.Author.Tests.{eq-eqb, ne-eqb, lt-ltb, le-ltb}
 use Rattle.names.specs.Bits.{zero32, one32}
-use Rattle.names.specs.Numbers.{voxelCost, colourLimit, lightLimit, coefficientLimit}
+use Rattle.names.specs.Numbers.{colourLimit, lightLimit, coefficientLimit}
 use Rattle.lists.specs.Fold.{length-tab}
 use Rattle.bounds.specs.BoundsLaws.{at-most-up, at-most-of-test, test-of-at-most, colour-value, coefficient-value}
 use Rattle.limits.specs.Some.{some}
-use Rattle.limits.specs.Limits.{within, outside, outsideV, badColour, badAmbient, badLight, badSky, badMask, badLights, badCoefficients}
+use Rattle.limits.specs.Limits.{within, outside, badColour, badAmbient, badLight, badSky, badMask, badLights, badCoefficients}
 use Rattle.limits.specs.LimitsLaws.{either, three, within-between, vector-row, lights-row}
 use Rattle.limits.specs.declared.Ambient.{Ambient}
 use Rattle.means.specs.Box.{meanOf}
-use Rattle.spread.specs.Spread.{Stage, stage, Bake, Walked, laid, replaced, filled, started, walk, someActive, ended, baked, accepted, call}
+use Rattle.spread.specs.Spread.{Stage, stage, Walked, laid, replaced, filled, started, someActive, ended, accepted, call}
 use Rattle.spread.specs.Walks.{Walks, walks, none, skip, stop, taken, walk-to}
 use Rattle.spread.specs.Contents.{length-laid, length-replaced}
 use Rattle.spread.specs.Demand.{Lasts}
@@ -29,7 +29,7 @@ use Rattle.ends.specs.Ends.{ambientVoxel, ambientAt, meanOver}
 use Rattle.ends.specs.EndsLaws.{length-ambient}
 use Rattle.gather.specs.Gather.{gatheredOf}
 use Rattle.gather.specs.GatherLaws.{length-gathered}
-use Rattle.intake.specs.Intake.{BakeInput, voxelNumbers, voxelCount, badLighting, badVolume, badContents, bakeRefusal}
+use Rattle.intake.specs.Intake.{BakeInput, voxelNumbers, voxelCount, badLighting, badVolume, badContents}
 use Rattle.intake.specs.IntakeLaws.{Passed, Fits, fits, none-refused, still-passed}
 use Rattle.demand.specs.Bake.{gatherInput, bakeOf}
 use Rattle.demand.specs.Calls.{accepted-call}

@@ -1,5 +1,5 @@
 -- Row 3 from its two tests, where n is the voxel count.
-use mathlib.Core.Path.{_≡_, sym, _∙_}
+use mathlib.Core.Path.{_≡_}
 use mathlib.Core.Bool.{Bool, _||_}
 use Prim.Native.Nat.{ℕ}
 use lib.ListN.{length}

@@ -1,11 +1,10 @@
 -- What a refusal of the bake means, what stands once none is given, and when a later call at another stage is given none.
-use mathlib.Core.Path.{_≡_, refl, sym, ap, _∙_}
-use mathlib.Core.Bool.{Bool, true, false, cond, not, _&&_, _||_}
+use mathlib.Core.Path.{_≡_, refl}
+use mathlib.Core.Bool.{Bool, false}
 use mathlib.Core.Logic.{_↔_}
-use mathlib.Core.List.{List, [], _∷_}
+use mathlib.Core.List.{List, _∷_}
 use Prim.Native.Nat.{ℕ, _*_, _<_, _≤_}
 use native.Mathlib.Omega.{arith}
-use lib.Dec.{eqb}
 use lib.ListN.{length}
 use lib.Ieee.{Float}
 use borrow.Author.Tests.{ltb-false, le-ltb, eqb-true, not-false}
@@ -14,7 +13,7 @@ use Rattle.names.specs.Refusals.{Row, row, firstOf, FirstIs, NoneHolds, none, l
 use Rattle.names.specs.Scene.{Sound}
 use Rattle.spread.specs.Spread.{Stage}
 use Rattle.grid.specs.Grid.{AxesWithin}
-use Rattle.limits.specs.Limits.{badAxes, badGrid, wrongLength, tooShort, wrongScene, tooMany, badPoints, badMaterials, pastCount, belowCost, badMask, badLights}
+use Rattle.limits.specs.Limits.{badAxes, badGrid, wrongLength, tooMany, badPoints, badMaterials, pastCount, belowCost, badMask, badLights}
 use Rattle.limits.specs.LimitsLaws.{either, three, axes-row, sound}
 use Rattle.intake.specs.Intake.{BakeInput, skyNumbers, voxelNumbers, voxelCount, triangleCount, wrongLengths, wrongLists, badLighting, badVolume, badContents, bakeRows, bakeRefusal}
 

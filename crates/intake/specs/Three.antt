@@ -1,7 +1,6 @@
 -- A good input: a grid of 3×1×1 voxels, all active, no triangles, a black sky. It is accepted at an allowance of 384 rays, and refused 10 at 383.
 use mathlib.Core.Path.{_≡_, refl}
-use mathlib.Core.List.{List, [], _∷_}
-use Prim.Native.Nat.{ℕ}
+use mathlib.Core.List.{[], _∷_}
 use lib.ListN.{replicate}
 use lib.Ieee as Ieee
 use lib.Ieee.{Float, ofBits, ofInt}

@@ -7,7 +7,7 @@ use Prim.Native.Nat.{ℕ, zero, suc, _+_, _-_, _≤_, _<_}
 use native.Mathlib.Omega.{arith}
 use lib.Dec.{leb, eqb}
 use borrow.Author.Tests.{ne-eqb, eqb-true}
-use Rattle.spread.specs.Spread.{Stage, stage, Bake, Called, Walked, walked, more, replaced, started, walk, someActive, ended, baked, accepted, call, run, NoneRefused}
+use Rattle.spread.specs.Spread.{Stage, stage, Bake, Walked, walked, more, replaced, started, walk, someActive, ended, accepted, call, run, NoneRefused}
 use Rattle.spread.specs.Walks.{walks, walk-to}
 
 -- a bake of nothing but voxels and their costs

@@ -1,9 +1,8 @@
 -- The loop's invariant: with r rays fired and voxel i next, the whole walk is the rest of it, from the volume as it is, with r rays more. And how
 -- each way through the loop keeps it or ends it, by the walk's own steps.
 use mathlib.Core.Path.{_≡_, refl, sym, ap, _∙_}
-use mathlib.Core.Bool.{true, false}
 use mathlib.Core.List.{List}
-use Prim.Native.Nat.{ℕ, _+_, _-_, _*_, _≤_, _<_}
+use Prim.Native.Nat.{ℕ, _+_, _-_, _≤_, _<_}
 use native.Mathlib.Omega.{arith}
 use native.Mathlib.Nat.{sub-zero, zero-add}
 use borrow.Author.Tests.{eq-eqb, ne-eqb}
@@ -13,12 +12,11 @@ use Rattle.names.specs.Numbers.{voxelCost}
 use Rattle.spread.specs.Spread.{Walked, walked, more, walk}
 use Rattle.spread.specs.Walks.{so-far-stop, so-far-end, so-far-skip, so-far-take}
 use Rattle.spread.specs.Contents.{length-replaced}
-use Rattle.gather.specs.Gather.{gatheredOf, costOf, Gatherable}
+use Rattle.gather.specs.Gather.{gatheredOf}
 use Rattle.gather.specs.GatherLaws.{length-gathered, cost-least, cost-most}
-use Rattle.intake.specs.Intake.{BakeInput, voxelNumbers, voxelCount}
+use Rattle.intake.specs.Intake.{BakeInput, voxelNumbers}
 use Rattle.demand.specs.Bake.{gatherInput, bakeOf}
 use Rattle.walk.specs.Reports.{Takeable, Taken, Walkable, Unhit, Reports}
-use Rattle.walk.specs.declared.Reached.{Reached}
 
 pub record SoFar (b : BakeInput) (v₀ d₀ : List Float) (p₀ : List ℕ) (progress allowance : ℕ) (v d : List Float) (p : List ℕ) (i r : ℕ) : Type 0 where
   pub before : i ≤ length (b .active)

@@ -1,5 +1,4 @@
 -- A finished bake is left as it is; any other is started, walked and, at its end, finished.
-use mathlib.Core.Path.{refl}
 use Rattle.bake.proofs.Parts.{startable, walkable, endable, idles, goes}
 use borrow.Author.Needs.{needs}
 use Rattle.bake.proofs.go_on.Statement.{statement}

@@ -1,6 +1,5 @@
 -- The volume is filled from the left: what stands before voxel i's place is the ambient of the voxels before i.
 use native.Mathlib.Omega.{arith}
-use native.Mathlib.Nat.{zero-mul}
 use mathlib.Core.Path.{_≡_, refl, sym, ap, _∙_}
 use mathlib.Core.List.{List, _++_}
 use Prim.Native.Nat.{ℕ, _+_, _-_, _*_, _≤_}
@@ -9,7 +8,7 @@ use lib.Seq.{take-all}
 use lib.Ieee.{Float}
 use Rattle.spread.specs.Spread.{laid}
 use Rattle.spread.specs.Contents.{laid-next}
-use Rattle.ends.specs.Ends.{ambientVoxel, ambientAt, filledOf}
+use Rattle.ends.specs.Ends.{ambientAt, filledOf}
 use Rattle.ends.proofs.inner.fill.Statement.{statement}
 use Rattle.ends.proofs.inner.fill.Tie as tie
 

@@ -1,12 +1,12 @@
 -- Where no voxel is active nothing is written; elsewhere scratch gets the volume, and the volume the mean of scratch.
 use borrow.Author.Needs.{needs}
-use mathlib.Core.Path.{_≡_, refl, sym, ap, _∙_}
+use mathlib.Core.Path.{_≡_, refl, sym, _∙_}
 use mathlib.Core.Bool.{Bool, true, false}
 use mathlib.Core.List.{List}
 use Prim.Native.Nat.{ℕ}
 use Rattle.marks.specs.Marks.{activeCount}
 use Rattle.marks.specs.MarksLaws.{none-active, active-none}
-use Rattle.ends.specs.Ends.{anyActive, Finished}
+use Rattle.ends.specs.Ends.{anyActive}
 use Rattle.ends.proofs.inner.finish.Statement.{statement}
 use Rattle.ends.proofs.inner.finish.Tie as tie
 

@@ -1,7 +1,6 @@
 -- The coefficients are read exactly where progress lies strictly between 0 and n.
 use borrow.Author.Tests.{lt-ltb, le-ltb}
 use mathlib.Core.Path.{refl}
-use mathlib.Core.Bool.{and-false}
 use native.Mathlib.Omega.{arith}
 use Rattle.intake.specs.Intake.{badVolume}
 use borrow.Author.Needs.{needs}

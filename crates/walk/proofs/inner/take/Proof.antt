@@ -5,7 +5,6 @@ use borrow.Rule.Slice.PartMut.{post-is}
 use Prim.Native.Nat.{_+_, _*_}
 use Rattle.grid.specs.GridLaws.{voxels-most}
 use Rattle.spread.specs.Spread.{replaced}
-use Rattle.walk.specs.Reports.{Taken}
 use borrow.Author.Needs.{needs}
 use Rattle.walk.proofs.inner.take.Statement.{statement}
 use Rattle.walk.proofs.inner.take.Tie as tie
