@@ -30,12 +30,12 @@ use Rattle.scan.specs.Transmittance.{passOf, transmittanceOf}
 use Rattle.rays.specs.Rays.{meetRefusal, testValues, meetValues, wrongScratch, transmittanceRefusal}
 use Rattle.means.specs.Box.{lightBlurOf, squareAt, meanAt, meanIn, around, along}
 use Rattle.blurs.specs.Blurs.{wrongLists, lightBlurRefusal}
-use Rattle.samples.specs.Samples.{smallestEdgeOf, targetOf, countOf, sampleCount, sideFrom, sideOf, shareOf, pointOf, cellOn, indexWithin, sampleCell}
+use Rattle.samples.specs.Samples.{smallestEdgeOf, targetOf, countOf, sampleCount, sideFrom, sideOf, shareOf, pointOf, cellOf, cellOn, indexWithin, sampleCell}
 use Rattle.occupy.specs.Occupied.{sampledIn, touches, occupiedIn, occupiedEntry, occupiedOf}
 use Rattle.dilate.specs.Active.{activeIn, activeEntry, activeOf}
 use Rattle.marks.specs.Marks.{activeCount}
 use Rattle.masks.specs.Masks.{wrongMasks, masksRefusal, activeMaskOf, markedOf}
-use Rattle.lookup.specs.Place.{clamped, betweenOf, cellsFrom, cellsOf, blendOf, blendedOf}
+use Rattle.lookup.specs.Place.{clamped, clampedCell, betweenOf, cellsFrom, cellsOf, blendOf, blendedOf}
 use Rattle.lookup.specs.Lookup.{badLightCells, lightAtOf}
 use Rattle.spread.specs.Spread.{run}
 use Rattle.intake.specs.Three.{three, begun}
@@ -171,7 +171,7 @@ computed-figures : computed
     ∷ (0 ∷ 0x3f000000 ∷ [])
     ∷ (0 ∷ 0x3f800000 ∷ [])
     ∷ []
-unfolding computed met passing sampled masked blurred looked triangleQ pointsQ downFrom stacked sheets upToCorner firstOf unlessRefused fold tab any magnitudeOf largerOf smallerOf toward rootOf addV subV scaleV dotV crossV lengthV edgesOf within upTo outsideV badAxes badCorners badEdges wrongShare wrongScene tooMany badPoints badTriangle badKinds badFrom badUses badMaterials badRay badLights some absentOf solvedOf judgedOf meetOf triangleAt before insertOf withMeet hitsOf passOf transmittanceOf meetRefusal testValues meetValues wrongScratch transmittanceRefusal lightBlurOf squareAt meanAt meanIn around along wrongLists lightBlurRefusal smallestEdgeOf targetOf countOf sideFrom sideOf shareOf pointOf cellOn indexWithin Rattle.samples.specs.Samples.cellOf sampleCell sampledIn touches occupiedIn occupiedEntry occupiedOf activeIn activeEntry activeOf activeCount wrongMasks masksRefusal clamped Rattle.lookup.specs.Place.cellOf betweenOf cellsFrom cellsOf blendOf blendedOf badLightCells lightAtOf Ieee.ofBits Ieee.ofFields Ieee.odd Ieee.toBits Ieee.neg Ieee.le Ieee.lt Ieee.eq Ieee.isNan Ieee.add Ieee.sub Ieee.mul Ieee.div Ieee.ofInt Ieee.toUnsigned Ieee.round Ieee.sum Ieee.units Ieee.size Ieee.span Ieee.climb
+unfolding computed met passing sampled masked blurred looked triangleQ pointsQ downFrom stacked sheets upToCorner firstOf unlessRefused fold tab any magnitudeOf largerOf smallerOf toward rootOf addV subV scaleV dotV crossV lengthV edgesOf within upTo outsideV badAxes badCorners badEdges wrongShare wrongScene tooMany badPoints badTriangle badKinds badFrom badUses badMaterials badRay badLights some absentOf solvedOf judgedOf meetOf triangleAt before insertOf withMeet hitsOf passOf transmittanceOf meetRefusal testValues meetValues wrongScratch transmittanceRefusal lightBlurOf squareAt meanAt meanIn around along wrongLists lightBlurRefusal smallestEdgeOf targetOf countOf sideFrom sideOf shareOf pointOf cellOn indexWithin cellOf sampleCell sampledIn touches occupiedIn occupiedEntry occupiedOf activeIn activeEntry activeOf activeCount wrongMasks masksRefusal clamped clampedCell betweenOf cellsFrom cellsOf blendOf blendedOf badLightCells lightAtOf Ieee.ofBits Ieee.ofFields Ieee.odd Ieee.toBits Ieee.neg Ieee.le Ieee.lt Ieee.eq Ieee.isNan Ieee.add Ieee.sub Ieee.mul Ieee.div Ieee.ofInt Ieee.toUnsigned Ieee.round Ieee.sum Ieee.units Ieee.size Ieee.span Ieee.climb
 computed-figures = refl
 
 bake-figures : bakes

@@ -26,7 +26,7 @@ use Rattle.grid.specs.declared.Axes.{Axes}
 use Rattle.grid.specs.declared.Corners.{Corners}
 use Rattle.grid.specs.Grid.{voxels, indexOf, floatOf, edgesOf, AxesWithin}
 use Rattle.lookup.specs.declared.Cells.{Cells}
-use Rattle.lookup.specs.Place.{clamped, cellOf, betweenOf, coordinateOf, Inside, cellsFrom, cellsOf, blendOf, blendedOf}
+use Rattle.lookup.specs.Place.{clamped, clampedCell, betweenOf, coordinateOf, Inside, cellsFrom, cellsOf, blendOf, blendedOf}
 use Rattle.lookup.specs.PlaceLaws.{clamped-same, cells-read-inside}
 use Rattle.lookup.specs.Lookup.{lightBlend, numberBlend}
 
@@ -261,7 +261,7 @@ unfolding tab Ieee.sub Ieee.add Ieee.neg Ieee.ofInt Ieee.ofBits
 nothings = refl
 
 pub whole-between : (n k : ℕ) → k < n → n ≤ axisLimit → betweenOf n (floatOf k) ≡ record { cell = k; next = clamped n (k + 1); fraction = zero32 }
-unfolding betweenOf cellOf
+unfolding betweenOf clampedCell
 whole-between n k h l =
     let m : k < axisLimit = omega arith in
     rw (each (λ (j : ℕ). floorOf (floatOf j)) floatOf axisLimit k nan floors m, each (λ (j : ℕ). toUnsigned 64 (floatOf j)) (λ (j : ℕ). j) axisLimit k 0 wholes m, each (λ (j : ℕ). Ieee.sub binary32 (floatOf j) (floatOf j)) (λ (j : ℕ). zero32) axisLimit k nan nothings m, clamped-same n k h)

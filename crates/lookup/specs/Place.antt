@@ -24,13 +24,13 @@ unfoldable pub clamped : ℕ → ℕ → ℕ
 clamped n k = cond (ltb k n) k (n - 1)
 
 -- the cell of a floored coordinate: below 0 cell 0, past the end the last. (`toUnsigned 64` is the Rust's `as usize`: 0 below 0.)
-unfoldable pub cellOf : ℕ → Float → ℕ
-cellOf n whole = clamped n (toUnsigned 64 whole)
+unfoldable pub clampedCell : ℕ → Float → ℕ
+clampedCell n whole = clamped n (toUnsigned 64 whole)
 
 -- from a coordinate to its cell, the next and the fraction between them
 unfoldable pub betweenOf : ℕ → Float → Between
 betweenOf n f =
-    record { cell = cellOf n (floorOf f); next = clamped n (cellOf n (floorOf f) + 1); fraction = Ieee.sub binary32 f (floorOf f) }
+    record { cell = clampedCell n (floorOf f); next = clamped n (clampedCell n (floorOf f) + 1); fraction = Ieee.sub binary32 f (floorOf f) }
 
 -- what a place along an axis is, and that it lies within the axis
 pub record Placed (n : ℕ) (f : Float) (b : Between) : Type 0 where

@@ -24,7 +24,7 @@ use Rattle.grid.specs.GridLaws.{index-within}
 use Rattle.limits.specs.Some.{some}
 use Rattle.lookup.specs.declared.Between.{Between}
 use Rattle.lookup.specs.declared.Cells.{Cells}
-use Rattle.lookup.specs.Place.{clamped, cellOf, betweenOf, Along, Inside, cellsFrom, cellsOf, cellsRead, blendedOf, Readable}
+use Rattle.lookup.specs.Place.{clamped, clampedCell, betweenOf, Along, Inside, cellsFrom, cellsOf, cellsRead, blendedOf, Readable}
 
 -- ---- along one axis
 
@@ -45,12 +45,12 @@ clamped-within n k h = go (ltb k n) refl
 
 -- a place lies within its axis
 pub cell-within : (n : ℕ) (f : Float) → 1 ≤ n → betweenOf n f .cell < n
-unfolding betweenOf cellOf
+unfolding betweenOf clampedCell
 cell-within n f h = clamped-within n (toUnsigned 64 (floorOf f)) h
 
 pub next-within : (n : ℕ) (f : Float) → 1 ≤ n → betweenOf n f .next < n
 unfolding betweenOf
-next-within n f h = clamped-within n (cellOf n (floorOf f) + 1) h
+next-within n f h = clamped-within n (clampedCell n (floorOf f) + 1) h
 
 -- ---- the eight cells
 
@@ -121,8 +121,8 @@ and-true-right true b e = e
 and-true-right false b e = absurd (false≢true e)
 
 -- a floor below 0 is cell 0
-pub cell-below : (n : ℕ) (g : Float) → 1 ≤ n → lt g zero32 ≡ true → cellOf n g ≡ 0
-unfolding cellOf toUnsigned lt Ieee.ofBits
+pub cell-below : (n : ℕ) (g : Float) → 1 ≤ n → lt g zero32 ≡ true → clampedCell n g ≡ 0
+unfolding clampedCell toUnsigned lt Ieee.ofBits
 cell-below n nan h e = absurd (false≢true e)
 cell-below n (inf true) h e = clamped-same n 0 h
 cell-below n (inf false) h e = absurd (false≢true e)
@@ -158,6 +158,6 @@ whole-most n h k (fin false m e) (fin false l d) v q =
     le-min (le-div-iff-mul-le (down-pos d) .1 (le-of-mul-le-mul-right t (down-pos e))) (omega arith)
 
 -- a floor at the axis' end or past it is the last cell
-pub cell-past : (n : ℕ) (g : Float) → 1 ≤ n → n ≤ axisLimit → le (floatOf n) g ≡ true → cellOf n g ≡ n - 1
-unfolding cellOf Ieee.ofInt
+pub cell-past : (n : ℕ) (g : Float) → 1 ≤ n → n ≤ axisLimit → le (floatOf n) g ≡ true → clampedCell n g ≡ n - 1
+unfolding clampedCell Ieee.ofInt
 cell-past n g h k e = clamped-last n _ (whole-most n h k (floatOf n) g (round-whole binary32 false n (omega arith)) e)

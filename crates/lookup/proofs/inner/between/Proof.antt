@@ -1,7 +1,7 @@
 -- `lookup::inner::between` meets its contract: the code is the definition, and a clamped cell lies within its axis.
 use Prim.Native.Nat.{_<_}
 use native.Mathlib.Omega.{arith}
-use Rattle.lookup.specs.Place.{cellOf, betweenOf}
+use Rattle.lookup.specs.Place.{clampedCell, betweenOf}
 use Rattle.lookup.specs.PlaceLaws.{clamped-within}
 use borrow.Author.Needs.{needs}
 use Rattle.lookup.proofs.inner.between.Statement.{statement}
@@ -23,7 +23,7 @@ clamp-cell-requires-2 : tie.Need-clamp-cell-requires-2
 clamp-cell-requires-2 c κs = search needs
 
 returns : tie.Need-returns
-unfolding cellOf betweenOf
+unfolding clampedCell betweenOf
 returns c = let k = c .before .before .before .before in
     record {
       same = rw (c .clamp-cell2 .ensures, c .before .clamp-cell .ensures, c .before .before .whole .ensures, c .before .before .before .floor .ensures);
