@@ -1,0 +1,2 @@
+-- The numbers of an accepted test are finite.
+pub mod TestBounds
