@@ -1,0 +1,323 @@
+/* The public calls of the light bake, for C and C++ on x86-64: link libexports.a.
+ *
+ * Ownership. Every list is the caller's, lent for the one call as a pointer and a count of entries; no call keeps a pointer, allocates or frees.
+ * A pointer is never null and is aligned for its type, also where the count is 0. No list that a call writes may overlap another list of that call.
+ *
+ * Threads. Calls have no state of their own: they may run side by side wherever no list that one of them writes is lent to another.
+ *
+ * Floats. Every call asks for the default float environment: round to nearest, ties to even, no flush-to-zero, no denormals-are-zero.
+ *
+ * Refusals. Each call tests its input itself and answers the first number that holds, in the order named with it, or 0. Where it refuses, every
+ * other number of the answer is zero (but a bake's progress, which comes back as handed in), and no list is written.
+ *
+ *    1  an axis outside 1..32
+ *    2  a corner not finite or beyond 4,096 in magnitude, or a voxel edge below 1/1024
+ *    3  a lent list of the wrong length
+ *    4  more than 4,096 triangles or 256 materials
+ *    5  a triangle's point not finite or beyond 4,096 in magnitude
+ *    6  a kind other than 0 and 1, a material's colour not finite or beyond 65,536 in magnitude, a transmission outside 0..1, an index past the materials
+ *    7  a light direction with a component beyond 4,096 or of squared length 1e-12 or less; a light, ambient or sky number not finite or beyond 65,536
+ *    8  a ray's origin beyond 65,536, direction beyond 2, shortest distance outside 0..65,536, or longest distance NaN
+ *    9  progress above the voxel count
+ *   10  an allowance below 384
+ *   11  a position not finite or beyond 4,096, or a voxel index past the grid
+ *   12  any fault in a volume file
+ *   13  a mask's entry not 0 or 1; a light or a coefficient not finite or beyond 2^64 in magnitude
+ *   14  more than 65,536 bytes
+ *
+ * Lengths. N is the voxel count, width·height·depth; voxel (x,y,z) has the index x + width·(y + height·z). T is the triangle count.
+ *   points      9·T: p0 x y z, p1 x y z, p2 x y z of each triangle       uses     T: the material of each triangle (this list gives T)
+ *   kinds       one a material, 0 opaque or 1 translucent                 numbers  7 a material: base RGB, emissive RGB, transmission
+ *   occupied, active   N: 0 or 1                                          light, lights, and a light's scratch   N
+ *   volume, and its scratch   16·N: the four coefficients of each voxel, x y z w of each in turn
+ *   sky         1,728: red, green and blue of direction i of set s from 3·(64·s + i) on
+ *   distances, places   hit scratch, each at least T
+ * Hit scratch is open after a call that traced rays: the contents are no one's promise. Where a call refuses, or fires no ray, it is as it was.
+ */
+#ifndef GEAIDNOSA_H
+#define GEAIDNOSA_H
+
+#include <stddef.h>
+#include <stdint.h>
+
+#ifdef __cplusplus
+extern "C" {
+#endif
+
+/* ---- what calls take */
+
+typedef struct GeaidnosaVec3 {
+    float x;
+    float y;
+    float z;
+} GeaidnosaVec3;
+
+/* How many voxels stand along each axis. */
+typedef struct GeaidnosaAxes {
+    size_t width;
+    size_t height;
+    size_t depth;
+} GeaidnosaAxes;
+
+/* The box that the voxels fill. */
+typedef struct GeaidnosaCorners {
+    GeaidnosaVec3 min;
+    GeaidnosaVec3 max;
+} GeaidnosaCorners;
+
+/* From origin along direction, between the distances shortest and longest, both counted in. */
+typedef struct GeaidnosaRay {
+    GeaidnosaVec3 origin;
+    GeaidnosaVec3 direction;
+    float shortest;
+    float longest;
+} GeaidnosaRay;
+
+typedef struct GeaidnosaTriangle {
+    GeaidnosaVec3 p0;
+    GeaidnosaVec3 p1;
+    GeaidnosaVec3 p2;
+} GeaidnosaTriangle;
+
+/* The direction towards the light, of any length, and its colour. */
+typedef struct GeaidnosaLight {
+    GeaidnosaVec3 direction;
+    GeaidnosaVec3 colour;
+} GeaidnosaLight;
+
+/* Four coefficients, each a colour. */
+typedef struct GeaidnosaAmbient {
+    GeaidnosaVec3 c0;
+    GeaidnosaVec3 c1;
+    GeaidnosaVec3 c2;
+    GeaidnosaVec3 c3;
+} GeaidnosaAmbient;
+
+/* ---- what calls answer */
+
+/* hit is 1 for a hit, else 0; then place, t, u and v are 0 too. A hit may stand at place 0 and distance 0: ask hit. */
+typedef struct GeaidnosaRayHit {
+    uint32_t refusal;
+    uint32_t hit;
+    size_t place;
+    float t;
+    float u;
+    float v;
+} GeaidnosaRayHit;
+
+typedef struct GeaidnosaTransmitted {
+    uint32_t refusal;
+    float transmittance;
+} GeaidnosaTransmitted;
+
+/* How many voxels are occupied, and how many active. */
+typedef struct GeaidnosaMarked {
+    uint32_t refusal;
+    uint64_t occupied;
+    uint64_t active;
+} GeaidnosaMarked;
+
+typedef struct GeaidnosaSunned {
+    uint32_t refusal;
+    uint64_t rays;
+} GeaidnosaSunned;
+
+/* progress is the index of the next voxel, and the voxel count when the bake is done; rays is what this call fired. */
+typedef struct GeaidnosaBakeAnswer {
+    uint32_t refusal;
+    size_t progress;
+    uint64_t rays;
+} GeaidnosaBakeAnswer;
+
+typedef struct GeaidnosaLightAt {
+    uint32_t refusal;
+    float light;
+} GeaidnosaLightAt;
+
+typedef struct GeaidnosaCoefficientsAt {
+    uint32_t refusal;
+    float numbers[16];
+} GeaidnosaCoefficientsAt;
+
+typedef struct GeaidnosaPartStart {
+    uint32_t refusal;
+    size_t start;
+} GeaidnosaPartStart;
+
+typedef struct GeaidnosaHead {
+    uint32_t refusal;
+    GeaidnosaAxes axes;
+    GeaidnosaCorners corners;
+} GeaidnosaHead;
+
+typedef struct GeaidnosaNeeded {
+    uint32_t refusal;
+    size_t bytes;
+} GeaidnosaNeeded;
+
+typedef struct GeaidnosaFigures {
+    uint32_t refusal;
+    size_t width;
+    size_t height;
+    size_t depth;
+    uint64_t occupied;
+    uint64_t active;
+    uint64_t zeros;
+} GeaidnosaFigures;
+
+/* ---- rays */
+
+/* Where a ray meets one triangle; place is 0. Refuses 5, 8. */
+GeaidnosaRayHit geaidnosa_meet(GeaidnosaRay ray, GeaidnosaTriangle triangle);
+
+/* The nearest hit among all triangles, and among equal distances the one of the highest place. Refuses 3, 4, 5, 6, 8. */
+GeaidnosaRayHit geaidnosa_nearest(
+    const float *points, size_t points_length,
+    const uint32_t *uses, size_t uses_length,
+    const uint8_t *kinds, size_t kinds_length,
+    const float *numbers, size_t numbers_length,
+    GeaidnosaRay ray);
+
+/* How much light passes along a ray, from 1 down to 0; writes hit scratch alone. Refuses 3, 4, 5, 6, 8. */
+GeaidnosaTransmitted geaidnosa_transmittance(
+    const float *points, size_t points_length,
+    const uint32_t *uses, size_t uses_length,
+    const uint8_t *kinds, size_t kinds_length,
+    const float *numbers, size_t numbers_length,
+    GeaidnosaRay ray,
+    float *distances, size_t distances_length,
+    size_t *places, size_t places_length);
+
+/* ---- masks, blurs and the sun */
+
+/* Fills both masks whatever stood there: occupied where a triangle's sample lies in the voxel, active within two voxels of that on every axis. Here
+ * the points give T: a count that is no multiple of nine is refused 3. Refuses 1, 2, 3, 4, 5. */
+GeaidnosaMarked geaidnosa_masks(
+    GeaidnosaAxes axes,
+    GeaidnosaCorners corners,
+    const float *points, size_t points_length,
+    uint8_t *occupied, size_t occupied_length,
+    uint8_t *active, size_t active_length);
+
+/* Scratch gets the light as it was, and the light the square of its 3×3×3 mean. Refuses 1, 3, 13. */
+uint32_t geaidnosa_light_blur(
+    GeaidnosaAxes axes,
+    float *light, size_t light_length,
+    float *scratch, size_t scratch_length);
+
+/* Scratch gets the volume as it was, and the volume its 3×3×3 mean. Refuses 1, 3, 13. */
+uint32_t geaidnosa_coefficient_blur(
+    GeaidnosaAxes axes,
+    float *volume, size_t volume_length,
+    float *scratch, size_t scratch_length);
+
+/* Fills the light with what each voxel sees of the sun, blurred, and scratch with the same before the blur; where no voxel is active the light is all
+ * 1.0 and scratch stays as it was. Fires one ray for each active voxel. Refuses 1, 2, 3, 4, 5, 6, 7, 13. */
+GeaidnosaSunned geaidnosa_sun(
+    GeaidnosaAxes axes,
+    GeaidnosaCorners corners,
+    const float *points, size_t points_length,
+    const uint32_t *uses, size_t uses_length,
+    const uint8_t *kinds, size_t kinds_length,
+    const float *numbers, size_t numbers_length,
+    GeaidnosaVec3 direction,
+    const uint8_t *active, size_t active_length,
+    float *light, size_t light_length,
+    float *scratch, size_t scratch_length,
+    float *distances, size_t distances_length,
+    size_t *places, size_t places_length);
+
+/* ---- the bake */
+
+/* Bakes the volume from progress on, a voxel while at least 384 rays of the allowance remain; call again with the progress answered and the same
+ * lists until it is the voxel count. At progress 0 the volume's contents do not matter, scratch's never do: it is written by the last call alone.
+ * Refuses 1, 2, 3, 4, 5, 6, 7, 9, 10, 13. */
+GeaidnosaBakeAnswer geaidnosa_bake(
+    GeaidnosaAxes axes,
+    GeaidnosaCorners corners,
+    const float *points, size_t points_length,
+    const uint32_t *uses, size_t uses_length,
+    const uint8_t *kinds, size_t kinds_length,
+    const float *numbers, size_t numbers_length,
+    GeaidnosaLight light,
+    GeaidnosaAmbient ambient,
+    const float *sky, size_t sky_length,
+    const uint8_t *active, size_t active_length,
+    const float *lights, size_t lights_length,
+    float *volume, size_t volume_length,
+    float *scratch, size_t scratch_length,
+    float *distances, size_t distances_length,
+    size_t *places, size_t places_length,
+    size_t progress,
+    uint64_t allowance);
+
+/* Which of the nine sets of directions a voxel uses, 0 to 8. Refuses nothing. */
+size_t geaidnosa_set_of_voxel(size_t x, size_t y, size_t z);
+
+/* ---- lookups */
+
+/* The light at a position. Refuses 1, 2, 3, 11, and 13 among the eight cells read. */
+GeaidnosaLightAt geaidnosa_light_at(
+    GeaidnosaAxes axes,
+    GeaidnosaCorners corners,
+    const float *light, size_t light_length,
+    GeaidnosaVec3 position);
+
+/* The four coefficients at a position. Refuses 1, 2, 3, 11, and 13 among the eight cells read. */
+GeaidnosaCoefficientsAt geaidnosa_coefficients_at(
+    GeaidnosaAxes axes,
+    GeaidnosaCorners corners,
+    const float *volume, size_t volume_length,
+    GeaidnosaVec3 position);
+
+/* Where one voxel's sixteen numbers start, 16·index, in the volume or, where second is not 0, in scratch: the caller reads them there, no copy is
+ * made. Refuses 1, 3 (either list), 11. */
+GeaidnosaPartStart geaidnosa_voxel_part(
+    GeaidnosaAxes axes,
+    const float *volume, size_t volume_length,
+    const float *scratch, size_t scratch_length,
+    size_t index,
+    uint8_t second);
+
+/* The refusal of that call on the same arguments: 1, 3, 11 or 0. */
+uint32_t geaidnosa_voxel_refusal(
+    GeaidnosaAxes axes,
+    const float *volume, size_t volume_length,
+    const float *scratch, size_t scratch_length,
+    size_t index,
+    uint8_t second);
+
+/* ---- the volume file */
+
+/* A file's axes and corners, from which its lists' lengths follow. Refuses 12. */
+GeaidnosaHead geaidnosa_file_axes(const uint8_t *bytes, size_t bytes_length);
+
+/* How many bytes a file of these axes has: 96 + 70·N. Refuses 1. */
+GeaidnosaNeeded geaidnosa_volume_bytes(GeaidnosaAxes axes);
+
+/* Reads a file into the four lists and answers its axes and corners; foreign bodies are skipped. Refuses 12, then 3. */
+GeaidnosaHead geaidnosa_read_volume(
+    const uint8_t *bytes, size_t bytes_length,
+    float *light, size_t light_length,
+    float *volume, size_t volume_length,
+    uint8_t *active, size_t active_length,
+    uint8_t *occupied, size_t occupied_length);
+
+/* Writes a file over bytes, which has exactly as many as geaidnosa_volume_bytes answers. Refuses 1, 2, 3, 13. */
+uint32_t geaidnosa_write_volume(
+    GeaidnosaAxes axes,
+    GeaidnosaCorners corners,
+    const float *light, size_t light_length,
+    const float *volume, size_t volume_length,
+    const uint8_t *active, size_t active_length,
+    const uint8_t *occupied, size_t occupied_length,
+    uint8_t *bytes, size_t bytes_length);
+
+/* What volstat prints of a file: axes, occupied and active counts, and how many lights are zero. Refuses 14, then 12. */
+GeaidnosaFigures geaidnosa_file_figures(const uint8_t *bytes, size_t bytes_length);
+
+#ifdef __cplusplus
+}
+#endif
+
+#endif

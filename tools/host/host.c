@@ -1,0 +1,384 @@
+/* A host in C: a small hall from masks to file through include/geaidnosa.h. One line for each check; what a call answers is held to what this program
+ * works out for itself, bit for bit, or to what another call answers. Status 1 if any check fails. tools/host/run builds and runs it. */
+#include <math.h>
+#include <stdio.h>
+#include <stdlib.h>
+#include <string.h>
+
+#include "geaidnosa.h"
+
+enum { W = 5, H = 4, D = 12, N = W * H * D, T = 14, M = 4, SKY = 1728, BYTES = 96 + 70 * N };
+
+static int failures = 0;
+
+static void check(const char *what, int good) {
+    printf("%s %s\n", good ? "ok" : "DIFFERS", what);
+    failures += !good;
+}
+
+/* FNV-1a: a change of any bit of a list changes what is printed. */
+static uint64_t sum_of(const void *list, size_t bytes) {
+    const unsigned char *p = list;
+    uint64_t h = 0xcbf29ce484222325u;
+    for (size_t i = 0; i < bytes; i++) h = (h ^ p[i]) * 0x100000001b3u;
+    return h;
+}
+
+/* ---- the hall */
+
+static const GeaidnosaAxes axes = {W, H, D};
+static const GeaidnosaCorners corners = {{0, 0, 0}, {W, H, D}};
+static const GeaidnosaLight light = {{0.1f, 0.05f, 0.9f}, {3, 2.5f, 2}};
+static const GeaidnosaAmbient ambient = {{0.2f, 0.25f, 0.3f}, {0.01f, 0.02f, 0.03f}, {0.05f, 0.05f, 0.05f}, {-0.01f, 0, 0.01f}};
+static float points[9 * T], sky[SKY];
+static uint32_t uses[T];
+static uint8_t kinds[M] = {0, 1, 0, 0};
+static float numbers[7 * M] = {
+    0.8f, 0.7f, 0.6f, 0, 0, 0, 0,        /* white wall */
+    0.9f, 0.9f, 0.9f, 0, 0, 0, 0.5f,     /* glass */
+    0.1f, 0.1f, 0.1f, 4, 3, 1, 0,        /* lamp */
+    0, 0, 0, 0, 0, 0, 0,                 /* black */
+};
+static uint8_t occupied[N], active[N];
+static float lights[N], lights_scratch[N], volume[16 * N], scratch[16 * N], distances[T];
+static size_t places[T];
+
+static size_t triangles = 0;
+
+static void quad(uint32_t material, GeaidnosaVec3 a, GeaidnosaVec3 b, GeaidnosaVec3 c, GeaidnosaVec3 d) {
+    const GeaidnosaVec3 p[6] = {a, b, c, a, c, d};
+    for (int i = 0; i < 6; i++) memcpy(&points[9 * triangles + 3 * i], &p[i], sizeof p[i]);
+    uses[triangles] = uses[triangles + 1] = material;
+    triangles += 2;
+}
+
+static GeaidnosaVec3 at(float x, float y, float z) {
+    GeaidnosaVec3 v = {x, y, z};
+    return v;
+}
+
+static void build(void) {
+    quad(0, at(0.1f, 0.1f, 0.2f), at(4.9f, 0.1f, 0.2f), at(4.9f, 3.9f, 0.2f), at(0.1f, 3.9f, 0.2f));     /* floor */
+    quad(1, at(0.1f, 0.1f, 11.7f), at(2.5f, 0.1f, 11.7f), at(2.5f, 3.9f, 11.7f), at(0.1f, 3.9f, 11.7f)); /* glass roof */
+    quad(0, at(2.5f, 0.1f, 11.7f), at(4.9f, 0.1f, 11.7f), at(4.9f, 3.9f, 11.7f), at(2.5f, 3.9f, 11.7f)); /* solid roof */
+    quad(0, at(0.2f, 0.1f, 0.2f), at(0.2f, 3.9f, 0.2f), at(0.2f, 3.9f, 4.5f), at(0.2f, 0.1f, 4.5f));
+    quad(3, at(4.8f, 0.1f, 0.2f), at(4.8f, 3.9f, 0.2f), at(4.8f, 3.9f, 4.5f), at(4.8f, 0.1f, 4.5f));
+    quad(2, at(2.4f, 1.1f, 4.2f), at(3.1f, 1.1f, 4.2f), at(3.1f, 1.9f, 4.2f), at(2.4f, 1.9f, 4.2f)); /* lamp */
+    quad(0, at(1, 3.8f, 0.3f), at(3, 3.8f, 0.3f), at(3, 3.8f, 4.5f), at(1, 3.8f, 4.5f));
+    for (int i = 0; i < SKY; i++) sky[i] = 0.5f + (float)(i % 7) * 0.125f;
+}
+
+/* ---- what this program works out for itself */
+
+static int near_occupied(int x, int y, int z) {
+    for (int k = 0; k < D; k++)
+        for (int j = 0; j < H; j++)
+            for (int i = 0; i < W; i++)
+                if (abs(i - x) <= 2 && abs(j - y) <= 2 && abs(k - z) <= 2 && occupied[i + W * (j + H * k)]) return 1;
+    return 0;
+}
+
+/* the mean over the in-grid 3×3×3 of voxel (x,y,z), of number k of `stride` a voxel, summed in z, y, x order */
+static float mean_at(const float *list, int stride, int k, int x, int y, int z) {
+    float sum = 0, count = 0;
+    for (int c = z - 1; c <= z + 1; c++)
+        for (int b = y - 1; b <= y + 1; b++)
+            for (int a = x - 1; a <= x + 1; a++)
+                if (0 <= a && a < W && 0 <= b && b < H && 0 <= c && c < D) {
+                    sum = sum + list[(a + W * (b + H * c)) * stride + k];
+                    count = count + 1;
+                }
+    return sum / count;
+}
+
+static int same_mean(const float *blurred, const float *before, int stride, int squared) {
+    for (int z = 0; z < D; z++)
+        for (int y = 0; y < H; y++)
+            for (int x = 0; x < W; x++)
+                for (int k = 0; k < stride; k++) {
+                    float m = mean_at(before, stride, k, x, y, z);
+                    if (squared) m = m * m;
+                    if (memcmp(&m, &blurred[(x + W * (y + H * z)) * stride + k], sizeof m)) return 0;
+                }
+    return 1;
+}
+
+static float blend(float a, float b, float t) { return a * (1 - t) + b * t; }
+
+/* number k of `stride` a cell at a position inside the grid, whose edges are 1 */
+static float between(const float *list, int stride, int k, GeaidnosaVec3 p) {
+    float q[3] = {p.x, p.y, p.z}, t[3], plane[2];
+    int cell[3], next[3], n[3] = {W, H, D};
+    for (int a = 0; a < 3; a++) {
+        cell[a] = (int)floorf(q[a]);
+        next[a] = cell[a] + 1 < n[a] ? cell[a] + 1 : n[a] - 1;
+        t[a] = q[a] - floorf(q[a]);
+    }
+    for (int c = 0; c < 2; c++) {
+        float row[2];
+        for (int b = 0; b < 2; b++) {
+            int base = W * ((b ? next[1] : cell[1]) + H * (c ? next[2] : cell[2]));
+            row[b] = blend(list[(base + cell[0]) * stride + k], list[(base + next[0]) * stride + k], t[0]);
+        }
+        plane[c] = blend(row[0], row[1], t[1]);
+    }
+    return blend(plane[0], plane[1], t[2]);
+}
+
+/* ---- calls with the hall's arguments */
+
+static GeaidnosaSunned sun(GeaidnosaVec3 direction, uint8_t *mask) {
+    return geaidnosa_sun(axes, corners, points, 9 * T, uses, T, kinds, M, numbers, 7 * M, direction, mask, N, lights, N, lights_scratch, N, distances, T, places, T);
+}
+
+static GeaidnosaBakeAnswer bake(float *v, float *s, size_t progress, uint64_t allowance) {
+    return geaidnosa_bake(axes, corners, points, 9 * T, uses, T, kinds, M, numbers, 7 * M, light, ambient, sky, SKY, active, N, lights, N, v, 16 * N, s, 16 * N,
+                          distances, T, places, T, progress, allowance);
+}
+
+static GeaidnosaTransmitted passes(GeaidnosaRay ray) {
+    return geaidnosa_transmittance(points, 9 * T, uses, T, kinds, M, numbers, 7 * M, ray, distances, T, places, T);
+}
+
+static int is_hit(GeaidnosaRayHit h, size_t place, float t, float u, float v) {
+    return h.refusal == 0 && h.hit == 1 && h.place == place && h.t == t && h.u == u && h.v == v;
+}
+
+static int no_hit(GeaidnosaRayHit h, uint32_t refusal) {
+    return h.refusal == refusal && h.hit == 0 && h.place == 0 && h.t == 0 && h.u == 0 && h.v == 0;
+}
+
+/* ---- the checks */
+
+static void check_rays(void) {
+    const GeaidnosaTriangle q = {{0, 0, 0}, {1, 0, 0}, {0, 1, 0}};
+    const float two[18] = {0, 0, 0, 1, 0, 0, 0, 1, 0, 0, 0, 0, 1, 0, 0, 0, 1, 0};
+    const uint32_t both[2] = {0, 1};
+    GeaidnosaRay down = {{0.25f, 0.25f, 1}, {0, 0, -1}, 0, INFINITY};
+    check("meet: triangle Q at distance 1, u and v .25", is_hit(geaidnosa_meet(down, q), 0, 1, 0.25f, 0.25f));
+    check("nearest: of two equal distances the highest place", is_hit(geaidnosa_nearest(two, 18, both, 2, kinds, M, numbers, 7 * M, down), 1, 1, 0.25f, 0.25f));
+    down.origin.x = 0.5f;
+    down.origin.y = 0.75f;
+    check("meet: (.5,.75,1) is a miss, all zeros", no_hit(geaidnosa_meet(down, q), 0));
+    check("nearest: no triangles, a miss, all zeros", no_hit(geaidnosa_nearest(two, 0, both, 0, kinds, M, numbers, 7 * M, down), 0));
+    down.direction.z = 3;
+    check("meet: refuses 8, all zeros", no_hit(geaidnosa_meet(down, q), 8));
+    check("nearest: refuses 8, all zeros", no_hit(geaidnosa_nearest(two, 18, both, 2, kinds, M, numbers, 7 * M, down), 8));
+    check("nearest: 17 numbers for two triangles, refuses 3", no_hit(geaidnosa_nearest(two, 17, both, 2, kinds, M, numbers, 7 * M, down), 3));
+    GeaidnosaRay up = {{1, 1, 11.5f}, {0, 0, 1}, 0, 1};
+    GeaidnosaTransmitted half = passes(up);
+    check("transmittance: one sheet of glass, .5", half.refusal == 0 && half.transmittance == 0.5f);
+    up.origin.x = 3;
+    check("transmittance: the solid roof, 0", passes(up).refusal == 0 && passes(up).transmittance == 0);
+    up.direction.z = -1;
+    check("transmittance: nothing within 1 downwards, 1.0", passes(up).transmittance == 1);
+    check("transmittance: hit scratch shorter than the triangles, refuses 3",
+          geaidnosa_transmittance(points, 9 * T, uses, T, kinds, M, numbers, 7 * M, up, distances, T - 1, places, T).refusal == 3);
+}
+
+static void check_masks(void) {
+    memset(occupied, 7, N);
+    memset(active, 9, N);
+    GeaidnosaAxes flat = {W, 0, D};
+    GeaidnosaMarked m = geaidnosa_masks(flat, corners, points, 9 * T, occupied, N, active, N);
+    int kept = m.refusal == 1 && m.occupied == 0 && m.active == 0;
+    for (int i = 0; i < N; i++) kept = kept && occupied[i] == 7 && active[i] == 9;
+    check("masks: an axis of 0, refuses 1 and writes nothing", kept);
+    m = geaidnosa_masks(axes, corners, points, 9 * T - 1, occupied, N, active, N);
+    check("masks: 9·T−1 numbers, refuses 3", m.refusal == 3);
+    m = geaidnosa_masks(axes, corners, points, 9 * T, occupied, N, active, N);
+    uint64_t o = 0, a = 0;
+    int good = m.refusal == 0, near = 1;
+    for (int i = 0; i < N; i++) {
+        good = good && occupied[i] < 2 && active[i] < 2;
+        o += occupied[i];
+        a += active[i];
+        near = near && active[i] == near_occupied(i % W, i / W % H, i / (W * H));
+    }
+    check("masks: entries 0 or 1, both counts", good && m.occupied == o && m.active == a && 0 < o && o < a && a < N);
+    check("masks: active within 2 of an occupied voxel on every axis", near);
+    printf("   occupied %llu of %d, active %llu, sum %016llx\n", (unsigned long long)o, N, (unsigned long long)a, (unsigned long long)sum_of(occupied, N));
+}
+
+static void check_sun(uint64_t actives) {
+    float before[N], after[N], copy[N];
+    memset(lights, 0xff, sizeof lights);
+    memset(lights_scratch, 0xff, sizeof lights_scratch);
+    GeaidnosaSunned s = sun(at(0, 0, 0), active);
+    float nans[N];
+    memset(nans, 0xff, sizeof nans);
+    check("sun: no direction, refuses 7 and writes nothing",
+          s.refusal == 7 && s.rays == 0 && !memcmp(lights, nans, sizeof nans) && !memcmp(lights_scratch, nans, sizeof nans));
+    uint8_t none[N] = {0};
+    s = sun(light.direction, none);
+    int ones = s.refusal == 0 && s.rays == 0 && !memcmp(lights_scratch, nans, sizeof nans);
+    for (int i = 0; i < N; i++) ones = ones && lights[i] == 1;
+    check("sun: no voxel active, all 1.0, scratch as it was", ones);
+    none[N - 1] = 2;
+    check("sun: a mask's entry 2, refuses 13", sun(light.direction, none).refusal == 13);
+    s = sun(light.direction, active);
+    check("sun: a ray for each active voxel", s.refusal == 0 && s.rays == actives);
+    check("sun: the light is the squared mean of scratch", same_mean(lights, lights_scratch, 1, 1));
+    int dark = 0, glass = 0, open = 0, rest = 1;
+    for (int i = 0; i < N; i++) {
+        dark += lights_scratch[i] == 0;
+        glass += lights_scratch[i] == 0.5f;
+        open += active[i] && lights_scratch[i] == 1;
+        rest = rest && (active[i] || lights_scratch[i] == 1);
+    }
+    check("sun: before the blur some voxels see none, some half through the glass, some all, and inactive ones 1.0", dark && glass && open && rest);
+    memcpy(before, lights_scratch, sizeof before);
+    memcpy(after, before, sizeof after);
+    check("light_blur: the same light from the same figures, and scratch as it was",
+          geaidnosa_light_blur(axes, after, N, copy, N) == 0 && !memcmp(after, lights, sizeof after) && !memcmp(copy, before, sizeof copy));
+    check("light_blur: a scratch of N−1, refuses 3", geaidnosa_light_blur(axes, after, N, copy, N - 1) == 3);
+    printf("   light sum %016llx\n", (unsigned long long)sum_of(lights, sizeof lights));
+}
+
+static int kept_as_nans(const float *list) {
+    for (int i = 0; i < 16 * N; i++)
+        if (list[i] == list[i]) return 0;
+    return 1;
+}
+
+static void check_bake(void) {
+    static float v[16 * N], s[16 * N];
+    memset(volume, 0xff, sizeof volume);
+    memset(scratch, 0xff, sizeof scratch);
+    GeaidnosaBakeAnswer b = bake(volume, scratch, 0, 383);
+    check("bake: an allowance of 383, refuses 10 and writes nothing",
+          b.refusal == 10 && b.progress == 0 && b.rays == 0 && kept_as_nans(volume) && kept_as_nans(scratch));
+    b = bake(volume, scratch, N + 1, 384);
+    check("bake: progress above the count, refuses 9 and gives it back", b.refusal == 9 && b.progress == N + 1 && b.rays == 0);
+    b = bake(volume, scratch, N / 2, 384);
+    check("bake: under way with a volume of NaN, refuses 13", b.refusal == 13 && b.progress == N / 2);
+    b = bake(volume, scratch, 0, UINT64_MAX);
+    uint64_t rays = b.rays;
+    check("bake: unbroken, to the end", b.refusal == 0 && b.progress == N && rays >= 64);
+    check("bake: the volume is the mean of scratch", same_mean(volume, scratch, 16, 0));
+    const uint64_t allowances[2] = {384, 2000};
+    for (int k = 0; k < 2; k++) {
+        size_t progress = 0;
+        uint64_t total = 0;
+        int calls = 0, good = 1;
+        memset(v, 0xff, sizeof v);
+        memset(s, 0xff, sizeof s);
+        while (progress < N && good && calls <= N) {
+            b = bake(v, s, progress, allowances[k]);
+            good = b.refusal == 0 && b.progress > progress && b.rays <= allowances[k] && (b.progress == N || kept_as_nans(s));
+            progress = b.progress;
+            total += b.rays;
+            calls++;
+        }
+        char line[160];
+        snprintf(line, sizeof line, "bake: allowance %llu, the same volume and scratch bit for bit, the same rays in all", (unsigned long long)allowances[k]);
+        check(line, good && calls > 1 && total == rays && !memcmp(v, volume, sizeof v) && !memcmp(s, scratch, sizeof s));
+        printf("   %d calls\n", calls);
+    }
+    b = bake(v, s, N, 384);
+    check("bake: finished, no rays and nothing written", b.refusal == 0 && b.progress == N && b.rays == 0 && !memcmp(v, volume, sizeof v) && !memcmp(s, scratch, sizeof s));
+    memcpy(v, scratch, sizeof v);
+    check("coefficient_blur: the same volume from the same scratch", geaidnosa_coefficient_blur(axes, v, 16 * N, s, 16 * N) == 0 && !memcmp(v, volume, sizeof v));
+    v[5] = INFINITY;
+    check("coefficient_blur: an infinity, refuses 13", geaidnosa_coefficient_blur(axes, v, 16 * N, s, 16 * N) == 13);
+    kinds[3] = 2;
+    check("bake: a kind 2, refuses 6", bake(volume, scratch, N, 384).refusal == 6);
+    kinds[3] = 0;
+    float x = points[9];
+    points[9] = NAN;
+    check("bake: a point NaN, refuses 5", bake(volume, scratch, N, 384).refusal == 5);
+    points[9] = x;
+    printf("   rays %llu, volume sum %016llx, scratch sum %016llx\n", (unsigned long long)rays, (unsigned long long)sum_of(volume, sizeof volume),
+           (unsigned long long)sum_of(scratch, sizeof scratch));
+}
+
+static void check_lookups(void) {
+    const GeaidnosaVec3 p = at(1.3f, 0.6f, 3.75f);
+    float expected = between(lights, 1, 0, p);
+    GeaidnosaLightAt l = geaidnosa_light_at(axes, corners, lights, N, p);
+    check("light_at: between eight cells", l.refusal == 0 && !memcmp(&l.light, &expected, sizeof expected));
+    GeaidnosaCoefficientsAt c = geaidnosa_coefficients_at(axes, corners, volume, 16 * N, p);
+    int same = c.refusal == 0;
+    for (int k = 0; k < 16; k++) {
+        expected = between(volume, 16, k, p);
+        same = same && !memcmp(&c.numbers[k], &expected, sizeof expected);
+    }
+    check("coefficients_at: sixteen numbers between eight cells", same);
+    l = geaidnosa_light_at(axes, corners, lights, N, at(4097, 0, 0));
+    check("light_at: a position of 4,097, refuses 11", l.refusal == 11 && l.light == 0);
+    GeaidnosaCorners thin = {{0, 0, 0}, {W, H, 0}};
+    c = geaidnosa_coefficients_at(axes, thin, volume, 16 * N, p);
+    same = c.refusal == 2;
+    for (int k = 0; k < 16; k++) same = same && c.numbers[k] == 0;
+    check("coefficients_at: an edge of 0, refuses 2, all zeros", same);
+    GeaidnosaPartStart part = geaidnosa_voxel_part(axes, volume, 16 * N, scratch, 16 * N, 7, 0);
+    c = geaidnosa_coefficients_at(axes, corners, volume, 16 * N, at(2, 1, 0));
+    check("voxel_part: voxel 7 starts at 112, and a lookup at its corner gives its numbers",
+          part.refusal == 0 && part.start == 112 && c.refusal == 0 && !memcmp(volume + part.start, c.numbers, sizeof c.numbers));
+    part = geaidnosa_voxel_part(axes, volume, 16 * N, scratch, 16 * N, N, 2);
+    check("voxel_part: index N, refuses 11, start 0; its companion the same",
+          part.refusal == 11 && part.start == 0 && geaidnosa_voxel_refusal(axes, volume, 16 * N, scratch, 16 * N, N, 2) == 11);
+    part = geaidnosa_voxel_part(axes, volume, 16 * N, scratch, 16 * N, SIZE_MAX, 1);
+    check("voxel_part: the highest index, refuses 11", part.refusal == 11 && part.start == 0);
+    check("voxel_refusal: voxel N−1 of scratch, 0", geaidnosa_voxel_refusal(axes, volume, 16 * N, scratch, 16 * N, N - 1, 255) == 0);
+    check("set_of_voxel: (2,2,2) and (0,0,1) use set 1", geaidnosa_set_of_voxel(2, 2, 2) == 1 && geaidnosa_set_of_voxel(0, 0, 1) == 1);
+}
+
+static void check_file(uint64_t occupieds, uint64_t actives) {
+    static uint8_t bytes[BYTES], again[BYTES], large[65537], a[N], o[N];
+    static float l[N], v[16 * N];
+    GeaidnosaNeeded needed = geaidnosa_volume_bytes(axes);
+    check("volume_bytes: 96 + 70·N", needed.refusal == 0 && needed.bytes == BYTES);
+    check("write_volume: one byte too many, refuses 3", geaidnosa_write_volume(axes, corners, lights, N, volume, 16 * N, active, N, occupied, N, large, BYTES + 1) == 3);
+    check("write_volume: written", geaidnosa_write_volume(axes, corners, lights, N, volume, 16 * N, active, N, occupied, N, bytes, BYTES) == 0 && !memcmp(bytes, "VGRD\5\0\4\0\14\0\5\0", 12));
+    GeaidnosaHead h = geaidnosa_file_axes(bytes, BYTES);
+    check("file_axes: axes and corners as written",
+          h.refusal == 0 && h.axes.width == W && h.axes.height == H && h.axes.depth == D && !memcmp(&h.corners, &corners, sizeof corners));
+    memset(l, 0xff, sizeof l);
+    h = geaidnosa_read_volume(bytes, BYTES, l, N, v, 16 * N - 1, a, N, o, N);
+    int kept = h.refusal == 3 && h.axes.width == 0;
+    for (int i = 0; i < N; i++) kept = kept && l[i] != l[i];
+    check("read_volume: a volume of 16·N−1, refuses 3 and writes nothing", kept);
+    h = geaidnosa_read_volume(bytes, BYTES, l, N, v, 16 * N, a, N, o, N);
+    check("read_volume: every bit returns",
+          h.refusal == 0 && h.axes.depth == D && !memcmp(l, lights, sizeof l) && !memcmp(v, volume, sizeof v) && !memcmp(a, active, N) && !memcmp(o, occupied, N));
+    check("write_volume: what was read gives the same bytes", geaidnosa_write_volume(h.axes, h.corners, l, N, v, 16 * N, a, N, o, N, again, BYTES) == 0 && !memcmp(again, bytes, BYTES));
+    uint64_t zeros = 0;
+    for (int i = 0; i < N; i++) zeros += lights[i] == 0;
+    GeaidnosaFigures f = geaidnosa_file_figures(bytes, BYTES);
+    check("file_figures: axes, counts and zero lights",
+          f.refusal == 0 && f.width == W && f.height == H && f.depth == D && f.occupied == occupieds && f.active == actives && f.zeros == zeros);
+    check("file_axes: one byte short, refuses 12", geaidnosa_file_axes(bytes, BYTES - 1).refusal == 12);
+    bytes[BYTES - 1] = 0x7f;
+    bytes[BYTES - 2] = 0x80;
+    check("read_volume: a corner infinite, refuses 12", geaidnosa_read_volume(bytes, BYTES, l, N, v, 16 * N, a, N, o, N).refusal == 12);
+    check("file_figures: 65,537 bytes, refuses 14", geaidnosa_file_figures(large, sizeof large).refusal == 14);
+    check("file_figures: empty, refuses 12", geaidnosa_file_figures(bytes, 0).refusal == 12);
+    printf("   file sum %016llx\n", (unsigned long long)sum_of(again, BYTES));
+}
+
+static void check_counts(void) {
+    static float many[9 * 4097];
+    static uint32_t them[4097];
+    static float d[4097];
+    static size_t p[4097];
+    GeaidnosaRay up = {{1, 1, 1}, {0, 0, 1}, 0, 1};
+    check("transmittance: 4,097 triangles, refuses 4", geaidnosa_transmittance(many, 9 * 4097, them, 4097, kinds, M, numbers, 7 * M, up, d, 4097, p, 4097).refusal == 4);
+    check("transmittance: 4,096 triangles without area, 1.0",
+          geaidnosa_transmittance(many, 9 * 4096, them, 4096, kinds, M, numbers, 7 * M, up, d, 4096, p, 4096).transmittance == 1);
+}
+
+int main(void) {
+    build();
+    check_rays();
+    check_counts();
+    check_masks();
+    uint64_t o = 0, a = 0;
+    for (int i = 0; i < N; i++) o += occupied[i], a += active[i];
+    check_sun(a);
+    check_bake();
+    check_lookups();
+    check_file(o, a);
+    printf("%d failed\n", failures);
+    return failures != 0;
+}
