@@ -12,6 +12,7 @@ import struct
 import subprocess
 import sys
 
+sys.dont_write_bytecode = True
 from volume_file import answer, assemble, bits, bodies, figures, frame, judge
 from volume_vectors import good, parts, smallest, unlike
 

@@ -8,6 +8,7 @@ import os
 import struct
 import sys
 
+sys.dont_write_bytecode = True
 from volume_file import answer, assemble, bits, bodies, figures, frame, judge, write
 
 HERE = os.path.dirname(os.path.dirname(os.path.abspath(__file__)))
