@@ -27,7 +27,7 @@ pub fn finish(axes: Axes, active: &[u8], volume: &mut [f32], scratch: &mut [f32]
         × (length (now scratch) ≡ length (now volume)) ⌝ }
     ensures { λ r. ⌜ Finished axes (now (active .entry)) (now (volume .entry)) (now (scratch .entry)) (now (volume .exit)) (now (scratch .exit)) ⌝ }
 {
-    if marks::count(active) == 0 {
+    if marks::inner::count(active) == 0 {
         return;
     }
     means::inner::copy(volume, scratch);

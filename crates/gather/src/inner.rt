@@ -26,7 +26,10 @@ use vectors::Vec3;
 pub fn setting_of(edges: Vec3, light: Light, ambient: Ambient) -> Setting
     ensures { λ r. ⌜ r ≡ settingOf edges light ambient ⌝ }
 {
-    let biases = bounce::biases_of(vectors::length(edges), grid::inner::smallest_edge(edges));
+    let biases = bounce::inner::biases_of(
+        vectors::length(edges),
+        grid::inner::smallest_edge(edges),
+    );
     let toward = vectors::normalise(light.direction);
     let colour = light.colour;
     let c0 = ambient.c0;
@@ -46,7 +49,7 @@ pub fn setting_of(edges: Vec3, light: Light, ambient: Ambient) -> Setting
 pub fn primary_ray(setting: Setting, centre: Vec3, direction: Vec3) -> Ray
     ensures { λ r. ⌜ r ≡ primaryRay setting centre direction ⌝ }
 {
-    bounce::ray_from(
+    bounce::inner::ray_from(
         centre,
         direction,
         setting.biases.primary,
@@ -191,7 +194,7 @@ fn gather_along(
         distances,
         places,
     );
-    let sums = harmonics::add_radiance(gathering.sums, direction, back.radiance);
+    let sums = harmonics::inner::add_radiance(gathering.sums, direction, back.radiance);
     Gathering {
         sums,
         misses: gathering.misses + back.misses,
@@ -264,7 +267,10 @@ fn nothing() -> Gathering
 fn finish(sums: Coefficients, ambient: Coefficients) -> Coefficients
     ensures { λ r. ⌜ r ≡ finishedOf sums ambient ⌝ }
 {
-    harmonics::floor_brightness(harmonics::raise_each(harmonics::irradiance(sums)), ambient)
+    harmonics::inner::floor_brightness(
+        harmonics::inner::raise_each(harmonics::inner::irradiance(sums)),
+        ambient,
+    )
 }
 
 fn coefficients_of(ambient: Ambient) -> Coefficients

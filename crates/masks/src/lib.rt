@@ -28,8 +28,8 @@ pub fn masks(
     if refusal == 0 {
         occupy::inner::occupy(axes, corners, points, occupied);
         dilate::inner::dilate(axes, occupied, active);
-        let o = marks::count(occupied);
-        let a = marks::count(active);
+        let o = marks::inner::count(occupied);
+        let a = marks::inner::count(active);
         return Marked {
             refusal: 0,
             occupied: o,

@@ -55,7 +55,7 @@ fn mark_triangle(axes: Axes, low: Vec3, edges: Vec3, e: f32, t: Triangle, occupi
     requires { ⌜ AxesWithin axes ⌝ }
     ensures { λ r. ⌜ now (occupied .exit) ≡ markTriangle axes low edges e t (now (occupied .entry)) ⌝ }
 {
-    if triangle::absent(t) {
+    if triangle::inner::absent(t) {
         return;
     }
     let n = samples::inner::side(samples::inner::sample_count(t, e));

@@ -37,7 +37,7 @@ pub fn meet(ray: Ray, triangle: Triangle) -> Met
 {
     let refusal = meet_refusal(ray, triangle);
     if refusal == 0 {
-        return as_met(triangle::test(ray, triangle));
+        return as_met(triangle::inner::test(ray, triangle));
     }
     Met::Refused(refusal)
 }

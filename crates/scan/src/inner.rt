@@ -72,7 +72,7 @@ fn meet_at(points: &[f32], i: usize, ray: Ray) -> Meet
     requires { ⌜ i * 9 + 8 < length (now points) ⌝ }
     ensures { λ r. ⌜ r ≡ meetOf ray (triangleAt (now (points .entry)) i) ⌝ }
 {
-    triangle::test(ray, triangle::inner::at(points, i))
+    triangle::inner::test(ray, triangle::inner::at(points, i))
 }
 
 // ---- how much light passes

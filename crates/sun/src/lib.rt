@@ -58,7 +58,7 @@ pub fn sun(
         places.len(),
     );
     if refusal == 0 {
-        let rays = marks::count(active);
+        let rays = marks::inner::count(active);
         if rays == 0 {
             brighten(light);
             return Sunned {

@@ -58,13 +58,13 @@ pub fn surface_at(
     requires { ⌜ place < length (now uses) ⌝ }
     ensures { λ r. ⌜ r ≡ surfaceOf (sceneOf (now (points .entry)) (now (uses .entry)) (now (kinds .entry)) (now (numbers .entry))) ray place distance hit ⌝ }
 {
-    let face = bounce::face_normal(triangle::inner::at(points, place));
-    let normal = bounce::facing(face, ray.direction);
-    let met = bounce::point_at(ray.origin, ray.direction, distance);
-    let point = bounce::point_at(met, normal, hit);
+    let face = bounce::inner::face_normal(triangle::inner::at(points, place));
+    let normal = bounce::inner::facing(face, ray.direction);
+    let met = bounce::inner::point_at(ray.origin, ray.direction, distance);
+    let point = bounce::inner::point_at(met, normal, hit);
     let k = material(uses, place) * 7;
     let albedo = vectors::clamp_each(three_at(numbers, k));
-    let emissive = harmonics::raise(three_at(numbers, k + 3));
+    let emissive = harmonics::inner::raise(three_at(numbers, k + 3));
     Surface {
         point,
         normal,
@@ -79,7 +79,7 @@ pub fn surface_at(
 pub fn shadow_ray(setting: Setting, surface: Surface) -> Ray
     ensures { λ r. ⌜ r ≡ shadowRay setting surface ⌝ }
 {
-    bounce::ray_from(
+    bounce::inner::ray_from(
         surface.point,
         setting.toward,
         setting.biases.step,
@@ -94,7 +94,7 @@ pub fn sky_ray(setting: Setting, surface: Surface, frame: Frame, table: &[f32; 1
     ensures { λ r. ⌜ r ≡ skyRayIn setting surface frame j ⌝ }
 {
     let direction = bounce::inner::sky_direction(frame, table, j);
-    bounce::ray_from(
+    bounce::inner::ray_from(
         surface.point,
         direction,
         setting.biases.step,
@@ -142,8 +142,8 @@ fn see_sky(
     requires { ⌜ (length (now uses) ≤ length (now distances)) × (length (now uses) ≤ length (now places)) ⌝ }
     ensures { λ r. ⌜ r ≡ seenOf (sceneOf (now (points .entry)) (now (uses .entry)) (now (kinds .entry)) (now (numbers .entry))) setting surface ⌝ }
 {
-    let table = bounce::hemisphere_table();
-    let frame = bounce::frame_of(surface.normal);
+    let table = bounce::inner::hemisphere_table();
+    let frame = bounce::inner::frame_of(surface.normal);
     let mut seen = Seen { sum: 0.0, rays: 0 };
     let mut j = 0;
     while j < 4 {
@@ -179,7 +179,7 @@ fn light_sky(
         distances,
         places,
     );
-    let light = bounce::skylight(setting.ambient, surface.normal, seen.sum * 0.25);
+    let light = bounce::inner::skylight(setting.ambient, surface.normal, seen.sum * 0.25);
     Traced {
         light,
         rays: seen.rays,
@@ -201,7 +201,7 @@ fn light_sun(
     requires { ⌜ (length (now uses) ≤ length (now distances)) × (length (now uses) ≤ length (now places)) ⌝ }
     ensures { λ r. ⌜ r ≡ sunOf (sceneOf (now (points .entry)) (now (uses .entry)) (now (kinds .entry)) (now (numbers .entry))) setting surface ⌝ }
 {
-    let slant = bounce::slant(surface.normal, setting.toward);
+    let slant = bounce::inner::slant(surface.normal, setting.toward);
     if slant > 0.0 {
         let ray = shadow_ray(setting, surface);
         let passed = scan::inner::transmittance(
@@ -213,7 +213,7 @@ fn light_sun(
             distances,
             places,
         );
-        let light = bounce::sunlight(setting.colour, slant, passed);
+        let light = bounce::inner::sunlight(setting.colour, slant, passed);
         return Traced { light, rays: 1 };
     }
     let light = Vec3 {
@@ -239,7 +239,7 @@ pub fn bounce_light(
     requires { ⌜ (length (now uses) ≤ length (now distances)) × (length (now uses) ≤ length (now places)) ⌝ }
     ensures { λ r. ⌜ r ≡ bouncedBy (sceneOf (now (points .entry)) (now (uses .entry)) (now (kinds .entry)) (now (numbers .entry))) setting surface ⌝ }
 {
-    if bounce::black(surface.albedo, surface.emissive) {
+    if bounce::inner::black(surface.albedo, surface.emissive) {
         let none = Vec3 {
             x: 0.0,
             y: 0.0,
@@ -270,7 +270,7 @@ pub fn bounce_light(
         distances,
         places,
     );
-    let light = bounce::reflect(surface.albedo, surface.emissive, sun.light, sky.light);
+    let light = bounce::inner::reflect(surface.albedo, surface.emissive, sun.light, sky.light);
     Traced {
         light,
         rays: sun.rays + sky.rays,

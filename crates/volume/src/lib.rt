@@ -195,7 +195,7 @@ fn count_ones(bytes: &[u8], at: usize, n: usize) -> u64
     ensures { λ r. ⌜ r ≡ activeCount (bytesAt (now (bytes .entry)) at n) ⌝ }
 {
     let end = at + n;
-    marks::count(&bytes[at..end])
+    marks::inner::count(&bytes[at..end])
 }
 
 // How many of the n numbers from `at` on are equal to zero, −0 among them.
