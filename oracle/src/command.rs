@@ -19,6 +19,7 @@ const USAGE: &str = "usage: oracle COMMAND ..
   stream MODULE FIRST COUNT     the records of seeds FIRST.. for a module's program, on standard output
   bad MODULE FIRST COUNT        the same for bad inputs
   record FOLDER                 writes each module's recorded answers to FOLDER/replay_MODULE/stdin
+  record-all FOLDER             the same, and those of the fired rays
   compare FOLDER                makes them again and compares
   count FIRST COUNT             how many scenes, triangles and rays those seeds hold
   time SEED                     bakes a seeded scene and says how fast
@@ -112,8 +113,9 @@ fn run(words: &[String]) -> Result<bool, String> {
             }
             Ok(true)
         }
-        ["record", folder] => record(folder, false),
-        ["compare", folder] => record(folder, true),
+        ["record", folder] => record(folder, false, false),
+        ["record-all", folder] => record(folder, false, true),
+        ["compare", folder] => record(folder, true, false),
         ["count", first, count] => tally(number(first, "FIRST")?, number(count, "COUNT")?),
         ["time", seed] => time(number(seed, "SEED")?),
         ["one", name, seed, place] => crate::shrink::one(module(name)?, number(seed, "SEED")?, number(place, "PLACE")? as usize),
@@ -168,7 +170,7 @@ fn recorded(name: &str) -> Vec<Item> {
         "masks" => (100, 3),
         "blurs" => (40, 2),
         "sun" => (80, 2),
-        "bake" => (40, 1),
+        "bake" => (20, 1),
         "lookup" => (60, 2),
         "fired" => (8, 0),
         _ => (0, 0),
@@ -177,15 +179,25 @@ fn recorded(name: &str) -> Vec<Item> {
     for seed in 0..seeds {
         out.extend(items::good(name, seed));
     }
+    if name == "bake" {
+        // black and faint surfaces
+        for seed in [32, 52, 72] {
+            out.extend(items::good(name, seed));
+        }
+    }
     for seed in 0..bases {
         out.extend(items::bad(name, seed, true, 40));
     }
     out
 }
 
-fn record(folder: &str, compare: bool) -> Result<bool, String> {
+/// Writes or compares each module's records; those of fired rays, which no program replays yet, only where all are asked.
+fn record(folder: &str, compare: bool, all: bool) -> Result<bool, String> {
     let mut good = true;
     for name in MODULES {
+        if name == "fired" && !all {
+            continue;
+        }
         let path = format!("{folder}/replay_{name}/stdin");
         let items = recorded(name);
         let bytes: Vec<u8> = items.iter().flat_map(Item::bytes).collect();

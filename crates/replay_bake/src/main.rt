@@ -1,0 +1,424 @@
+// Replays the oracle's recorded answers for the bake, whole and interrupted: at each call the refusal, the progress, the rays, the volume and its
+// scratch bit by bit, and the hit scratch where no ray is traced.
+use bake::BakeAnswer;
+use limits::Ambient;
+use limits::Light;
+use replay::Tally;
+
+// Where the lists begin: points, uses, kinds, numbers, sky, active, light, volume, scratch, distances, places.
+const FROM: usize = 31;
+
+fn light(s: &[u8]) -> Light {
+    Light {
+        direction: replay_values::vector(s, 13),
+        colour: replay_values::vector(s, 16),
+    }
+}
+
+fn ambient(s: &[u8]) -> Ambient {
+    Ambient {
+        c0: replay_values::vector(s, 19),
+        c1: replay_values::vector(s, 22),
+        c2: replay_values::vector(s, 25),
+        c3: replay_values::vector(s, 28),
+    }
+}
+
+// Holds a call's numbers to the record. A call is its progress, its allowance, whether hit scratch is held, then refusal, progress and rays.
+fn numbers_held(s: &[u8], t: Tally, at: usize, r: BakeAnswer) -> Tally {
+    let a = replay::held(t, r.refusal == replay::word(s, replay::further(at, 5)));
+    let b = replay::held(a, r.progress == replay::whole(s, replay::further(at, 6)));
+    replay::held(b, r.rays == replay::long(s, replay::further(at, 8)))
+}
+
+// Holds the lists that a call may write to the record.
+fn lists_held(
+    s: &[u8],
+    t: Tally,
+    at: usize,
+    volume: &[f32],
+    scratch: &[f32],
+    distances: &[f32],
+    places: &[usize],
+) -> Tally {
+    let first = replay::further(at, 10);
+    let asked = replay::word(s, replay::further(at, 4)) != 0;
+    let a = replay::held(t, replay::same_floats(s, first, volume));
+    let b = replay::held(a, replay::same_floats(s, replay::past(s, first), scratch));
+    replay::held_if(
+        b,
+        asked,
+        replay::same_hits(s, replay::nth(s, FROM, 9), distances, places),
+    )
+}
+
+fn one(
+    s: &[u8],
+    t: Tally,
+    at: usize,
+    points: &[f32],
+    uses: &[u32],
+    kinds: &[u8],
+    numbers: &[f32],
+    sky: &[f32],
+    active: &[u8],
+    lights: &[f32],
+    volume: &mut [f32],
+    scratch: &mut [f32],
+    distances: &mut [f32],
+    places: &mut [usize],
+) -> Tally {
+    let axes = replay_values::axes(s, 1);
+    let corners = replay_values::corners(s, 7);
+    let sunlight = light(s);
+    let sh = ambient(s);
+    let progress = replay::whole(s, at);
+    let allowance = replay::long(s, replay::further(at, 2));
+    let r = bake::bake(
+        axes,
+        corners,
+        points,
+        uses,
+        kinds,
+        numbers,
+        sunlight,
+        sh,
+        sky,
+        active,
+        lights,
+        volume,
+        scratch,
+        distances,
+        places,
+        progress,
+        allowance,
+    );
+    let u = numbers_held(s, t, at, r);
+    lists_held(s, u, at, volume, scratch, distances, places)
+}
+
+// Hit scratch is lent afresh at each call.
+fn fresh(
+    s: &[u8],
+    t: Tally,
+    at: usize,
+    points: &[f32],
+    uses: &[u32],
+    kinds: &[u8],
+    numbers: &[f32],
+    sky: &[f32],
+    active: &[u8],
+    lights: &[f32],
+    volume: &mut [f32],
+    scratch: &mut [f32],
+    distances: &mut [f32],
+    places: &mut [usize],
+) -> Tally {
+    let lent = replay::nth(s, FROM, 9);
+    replay::hits(s, lent, distances, places);
+    one(
+        s,
+        t,
+        at,
+        points,
+        uses,
+        kinds,
+        numbers,
+        sky,
+        active,
+        lights,
+        volume,
+        scratch,
+        distances,
+        places,
+    )
+}
+
+// The calls, one after another, over the same volume and scratch.
+fn calls(
+    s: &[u8],
+    t: Tally,
+    points: &[f32],
+    uses: &[u32],
+    kinds: &[u8],
+    numbers: &[f32],
+    sky: &[f32],
+    active: &[u8],
+    lights: &[f32],
+    volume: &mut [f32],
+    scratch: &mut [f32],
+    distances: &mut [f32],
+    places: &mut [usize],
+) -> Tally {
+    let from = replay::nth(s, FROM, 11);
+    let n = replay::small(s, from);
+    let mut tally = t;
+    let mut at = replay::further(from, 1);
+    let mut i: usize = 0;
+    while i < n {
+        tally = fresh(
+            s,
+            tally,
+            at,
+            points,
+            uses,
+            kinds,
+            numbers,
+            sky,
+            active,
+            lights,
+            volume,
+            scratch,
+            distances,
+            places,
+        );
+        at = replay::nth(s, replay::further(at, 10), 2);
+        i += 1;
+    }
+    tally
+}
+
+fn stock(s: &[u8], volume: &mut [f32], scratch: &mut [f32]) {
+    replay::floats(s, replay::nth(s, FROM, 7), volume);
+    replay::floats(s, replay::nth(s, FROM, 8), scratch);
+}
+
+fn stocked(
+    s: &[u8],
+    t: Tally,
+    points: &[f32],
+    uses: &[u32],
+    kinds: &[u8],
+    numbers: &[f32],
+    sky: &[f32],
+    active: &[u8],
+    lights: &[f32],
+    volume: &mut [f32],
+    scratch: &mut [f32],
+    distances: &mut [f32],
+    places: &mut [usize],
+) -> Tally {
+    stock(s, volume, scratch);
+    calls(
+        s,
+        t,
+        points,
+        uses,
+        kinds,
+        numbers,
+        sky,
+        active,
+        lights,
+        volume,
+        scratch,
+        distances,
+        places,
+    )
+}
+
+fn fill(s: &[u8], sky: &mut [f32], active: &mut [u8], lights: &mut [f32]) {
+    replay::floats(s, replay::nth(s, FROM, 4), sky);
+    replay::bytes(s, replay::nth(s, FROM, 5), active);
+    replay::floats(s, replay::nth(s, FROM, 6), lights);
+}
+
+fn filled(
+    s: &[u8],
+    t: Tally,
+    points: &[f32],
+    uses: &[u32],
+    kinds: &[u8],
+    numbers: &[f32],
+    sky: &mut [f32],
+    active: &mut [u8],
+    lights: &mut [f32],
+    volume: &mut [f32],
+    scratch: &mut [f32],
+    distances: &mut [f32],
+    places: &mut [usize],
+) -> Tally {
+    fill(s, sky, active, lights);
+    stocked(
+        s,
+        t,
+        points,
+        uses,
+        kinds,
+        numbers,
+        sky,
+        active,
+        lights,
+        volume,
+        scratch,
+        distances,
+        places,
+    )
+}
+
+fn baked(
+    s: &[u8],
+    t: Tally,
+    points: &mut [f32],
+    uses: &mut [u32],
+    kinds: &mut [u8],
+    numbers: &mut [f32],
+    sky: &mut [f32],
+    active: &mut [u8],
+    lights: &mut [f32],
+    volume: &mut [f32],
+    scratch: &mut [f32],
+    distances: &mut [f32],
+    places: &mut [usize],
+) -> Tally {
+    replay::scene(s, FROM, points, uses, kinds, numbers);
+    filled(
+        s,
+        t,
+        points,
+        uses,
+        kinds,
+        numbers,
+        sky,
+        active,
+        lights,
+        volume,
+        scratch,
+        distances,
+        places,
+    )
+}
+
+fn fits(s: &[u8]) -> bool {
+    (replay::word(s, 0) == 7)
+        & replay::fits(s, FROM, 36900)
+        & replay::fits(s, replay::nth(s, FROM, 1), 4100)
+        & replay::fits(s, replay::nth(s, FROM, 2), 260)
+        & replay::fits(s, replay::nth(s, FROM, 3), 1820)
+        & replay::fits(s, replay::nth(s, FROM, 4), 1740)
+        & replay::fits(s, replay::nth(s, FROM, 5), 520)
+        & replay::fits(s, replay::nth(s, FROM, 6), 520)
+        & replay::fits(s, replay::nth(s, FROM, 7), 8320)
+        & replay::fits(s, replay::nth(s, FROM, 8), 8320)
+        & replay::fits(s, replay::nth(s, FROM, 9), 4100)
+        & replay::fits(s, replay::nth(s, FROM, 10), 8200)
+}
+
+// The arrays are lent in four steps.
+fn fourth(
+    s: &[u8],
+    t: Tally,
+    points: &mut [f32],
+    uses: &mut [u32],
+    kinds: &mut [u8],
+    numbers: &mut [f32],
+    sky: &mut [f32],
+    active: &mut [u8],
+    lights: &mut [f32],
+    volume: &mut [f32],
+    scratch: &mut [f32],
+) -> Tally {
+    let mut distances = replay::room_for_distances();
+    let mut places = replay::room_for_places();
+    let j = replay::fit(s, replay::nth(s, FROM, 9), 4100);
+    let k = replay::pairs(s, replay::nth(s, FROM, 10), 4100);
+    baked(
+        s,
+        t,
+        points,
+        uses,
+        kinds,
+        numbers,
+        sky,
+        active,
+        lights,
+        volume,
+        scratch,
+        &mut distances[..j],
+        &mut places[..k],
+    )
+}
+
+fn third(
+    s: &[u8],
+    t: Tally,
+    points: &mut [f32],
+    uses: &mut [u32],
+    kinds: &mut [u8],
+    numbers: &mut [f32],
+    sky: &mut [f32],
+    active: &mut [u8],
+) -> Tally {
+    let mut lights = replay::room_for_light();
+    let mut volume = replay::room_for_volume();
+    let mut scratch = replay::room_for_volume();
+    let g = replay::fit(s, replay::nth(s, FROM, 6), 520);
+    let h = replay::fit(s, replay::nth(s, FROM, 7), 8320);
+    let i = replay::fit(s, replay::nth(s, FROM, 8), 8320);
+    fourth(
+        s,
+        t,
+        points,
+        uses,
+        kinds,
+        numbers,
+        sky,
+        active,
+        &mut lights[..g],
+        &mut volume[..h],
+        &mut scratch[..i],
+    )
+}
+
+fn second(s: &[u8], t: Tally, points: &mut [f32], uses: &mut [u32], kinds: &mut [u8]) -> Tally {
+    let mut numbers = replay::room_for_numbers();
+    let mut sky = replay::room_for_sky();
+    let mut active = replay::room_for_mask();
+    let d = replay::fit(s, replay::nth(s, FROM, 3), 1820);
+    let e = replay::fit(s, replay::nth(s, FROM, 4), 1740);
+    let f = replay::fit(s, replay::nth(s, FROM, 5), 520);
+    third(
+        s,
+        t,
+        points,
+        uses,
+        kinds,
+        &mut numbers[..d],
+        &mut sky[..e],
+        &mut active[..f],
+    )
+}
+
+fn record(s: &[u8], t: Tally) -> Tally {
+    let mut points = replay::room_for_points();
+    let mut uses = replay::room_for_uses();
+    let mut kinds = replay::room_for_kinds();
+    let u = replay::held(t, fits(s));
+    let a = replay::fit(s, FROM, 36900);
+    let b = replay::fit(s, replay::nth(s, FROM, 1), 4100);
+    let c = replay::fit(s, replay::nth(s, FROM, 2), 260);
+    second(s, u, &mut points[..a], &mut uses[..b], &mut kinds[..c])
+}
+
+// Reads one record and judges it.
+fn turn(buffer: &mut [u8], t: Tally) -> Tally {
+    let n = replay::next(buffer);
+    if n == 0 {
+        return replay::ended(t);
+    }
+    record(&buffer[..n], replay::begun(t))
+}
+
+fn run(buffer: &mut [u8]) {
+    let mut t = replay::start();
+    let mut turns = u64::MAX;
+    while turns > 0 && !t.over {
+        t = turn(buffer, t);
+        turns -= 1;
+    }
+    replay::report(t);
+}
+
+fn main() {
+    let mut buffer = replay::buffer();
+    run(&mut buffer);
+}
