@@ -7,7 +7,7 @@ use native.Mathlib.Omega.{arith}
 use lib.Dec.{eqb}
 use lib.ListN.{length}
 use Rattle.contents.specs.ContentsLaws.{contents-step}
-use Rattle.contents.specs.Contents.{kindAt, offsetAt, lengthAt, entryGood, contentsFrom}
+use Rattle.contents.specs.Contents.{entryKindAt, offsetAt, lengthAt, entryGood, contentsFrom}
 
 -- ---- a test, as `if !..` leaves it
 
@@ -22,17 +22,17 @@ failed false g e h = e
 -- ----
 
 pub more : (s : List ℕ) (n to i previous start kind offset long : ℕ) (whole : Bool) → i < to
-    → kind ≡ kindAt s i → offset ≡ offsetAt s i → long ≡ lengthAt s i → true ≡ entryGood kind previous offset start long i n
+    → kind ≡ entryKindAt s i → offset ≡ offsetAt s i → long ≡ lengthAt s i → true ≡ entryGood kind previous offset start long i n
     → contentsFrom s n (to - i) i previous start ≡ whole → contentsFrom s n (to - (i + 1)) (i + 1) kind (start + long) ≡ whole
 more s n to i previous start kind offset long whole h k o l g w =
-    let f : true ≡ entryGood (kindAt s i) previous (offsetAt s i) start (lengthAt s i) i n = rw (k, o, l) at g in
+    let f : true ≡ entryGood (entryKindAt s i) previous (offsetAt s i) start (lengthAt s i) i n = rw (k, o, l) at g in
     rw (k, l) (sym (contents-step s n to i previous start h ∙ rw (← f) refl) ∙ w)
 
 pub none : (s : List ℕ) (n to i previous start kind offset long : ℕ) (whole : Bool) → i < to
-    → kind ≡ kindAt s i → offset ≡ offsetAt s i → long ≡ lengthAt s i → false ≡ entryGood kind previous offset start long i n
+    → kind ≡ entryKindAt s i → offset ≡ offsetAt s i → long ≡ lengthAt s i → false ≡ entryGood kind previous offset start long i n
     → contentsFrom s n (to - i) i previous start ≡ whole → false ≡ whole
 none s n to i previous start kind offset long whole h k o l g w =
-    let f : false ≡ entryGood (kindAt s i) previous (offsetAt s i) start (lengthAt s i) i n = rw (k, o, l) at g in
+    let f : false ≡ entryGood (entryKindAt s i) previous (offsetAt s i) start (lengthAt s i) i n = rw (k, o, l) at g in
     sym (contents-step s n to i previous start h ∙ rw (← f) refl) ∙ w
 
 pub done : (s : List ℕ) (n to i previous start : ℕ) (whole : Bool) → to ≤ i → contentsFrom s n (to - i) i previous start ≡ whole → eqb start (length s) ≡ whole

@@ -39,8 +39,8 @@ headed s =
 
 -- ---- the contents: twelve bytes an entry
 
-abbrev pub kindAt : List ℕ → ℕ → ℕ
-kindAt s i = u32At s (12 + i * 12)
+abbrev pub entryKindAt : List ℕ → ℕ → ℕ
+entryKindAt s i = u32At s (12 + i * 12)
 
 abbrev pub offsetAt : List ℕ → ℕ → ℕ
 offsetAt s i = u32At s (12 + i * 12 + 4)
@@ -75,8 +75,8 @@ entryGood kind previous offset start long i n = ltb previous kind && (eqb offset
 unfoldable pub contentsFrom : List ℕ → ℕ → ℕ → ℕ → ℕ → ℕ → Bool
 contentsFrom s n zero i previous start = eqb start (length s)
 contentsFrom s n (suc k) i previous start =
-    entryGood (kindAt s i) previous (offsetAt s i) start (lengthAt s i) i n
-    && contentsFrom s n k (i + 1) (kindAt s i) (start + lengthAt s i)
+    entryGood (entryKindAt s i) previous (offsetAt s i) start (lengthAt s i) i n
+    && contentsFrom s n k (i + 1) (entryKindAt s i) (start + lengthAt s i)
 
 abbrev pub contentsGood : List ℕ → ℕ → ℕ → Bool
 contentsGood s entries n = contentsFrom s n entries 0 0 (bodiesFrom entries)

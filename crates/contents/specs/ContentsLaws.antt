@@ -9,7 +9,7 @@ use lib.Dec.{leb, ltb, eqb}
 use borrow.Author.Tests.{eqb-true, leb-true, ltb-true, eq-eqb, le-leb, lt-leb, lt-ltb, ne-eqb}
 use lib.ListN.{length}
 use Rattle.lists.specs.Fold.{ahead}
-use Rattle.contents.specs.Contents.{marked, entriesAt, bodiesFrom, headed, kindAt, offsetAt, lengthAt, kindOf, bodyFits, entryGood, contentsFrom, contentsGood}
+use Rattle.contents.specs.Contents.{marked, entriesAt, bodiesFrom, headed, entryKindAt, offsetAt, lengthAt, kindOf, bodyFits, entryGood, contentsFrom, contentsGood}
 use Rattle.contents.specs.declared.Kind.the-variants.{Light, Coefficients, Active, Occupied, Corners, Foreign, Refused}
 
 and-out : (a b : Bool) → a && b ≡ true → (a ≡ true) × (b ≡ true)
@@ -76,21 +76,21 @@ fit-long k i long n (foreign p q r) h = absurd (omega arith)
 
 pub contents-step : (s : List ℕ) (n to i previous start : ℕ) → i < to
     → contentsFrom s n (to - i) i previous start
-    ≡ entryGood (kindAt s i) previous (offsetAt s i) start (lengthAt s i) i n && contentsFrom s n (to - (i + 1)) (i + 1) (kindAt s i) (start + lengthAt s i)
+    ≡ entryGood (entryKindAt s i) previous (offsetAt s i) start (lengthAt s i) i n && contentsFrom s n (to - (i + 1)) (i + 1) (entryKindAt s i) (start + lengthAt s i)
 unfolding contentsFrom
 contents-step s n to i previous start h = rw (ahead i to h) refl
 
 -- what one entry says
 pub record Entry (s : List ℕ) (n to i previous start : ℕ) : Type 0 where
-  pub above : previous < kindAt s i
+  pub above : previous < entryKindAt s i
   pub offset : offsetAt s i ≡ start
-  pub fit : Fit (kindAt s i) i (lengthAt s i) n
-  pub rest : contentsFrom s n (to - (i + 1)) (i + 1) (kindAt s i) (start + lengthAt s i) ≡ true
+  pub fit : Fit (entryKindAt s i) i (lengthAt s i) n
+  pub rest : contentsFrom s n (to - (i + 1)) (i + 1) (entryKindAt s i) (start + lengthAt s i) ≡ true
 
 pub entry-found : (s : List ℕ) (n to i previous start : ℕ) → i < to → contentsFrom s n (to - i) i previous start ≡ true → Entry s n to i previous start
 unfolding entryGood
 entry-found s n to i previous start h e =
-    let k : ℕ = kindAt s i in
+    let k : ℕ = entryKindAt s i in
     let p = and-out (entryGood k previous (offsetAt s i) start (lengthAt s i) i n) _ (sym (contents-step s n to i previous start h) ∙ e) in
     let q = and-out (ltb previous k) (eqb (offsetAt s i) start && bodyFits (kindOf k) i (lengthAt s i) n) (p .0) in
     let r = and-out (eqb (offsetAt s i) start) (bodyFits (kindOf k) i (lengthAt s i) n) (q .1) in
@@ -105,15 +105,15 @@ pub entry-given : (s : List ℕ) (n to i previous start : ℕ) → i < to → En
 unfolding entryGood
 entry-given s n to i previous start h e =
     contents-step s n to i previous start h
-    ∙ rw (lt-ltb previous (kindAt s i) (e .above), eq-eqb (offsetAt s i) start (e .offset), fit-given (kindAt s i) i (lengthAt s i) n (e .fit)) (e .rest)
+    ∙ rw (lt-ltb previous (entryKindAt s i) (e .above), eq-eqb (offsetAt s i) start (e .offset), fit-given (entryKindAt s i) i (lengthAt s i) n (e .fit)) (e .rest)
 
 -- however many entries are left, the bodies end within the file
 pub ends-within : (s : List ℕ) (n k i previous start : ℕ) → contentsFrom s n k i previous start ≡ true → start ≤ length s
 unfolding contentsFrom
 ends-within s n zero i previous start e = omega (arith, eqb-true start (length s) e)
 ends-within s n (suc k) i previous start e =
-    let p = and-out (entryGood (kindAt s i) previous (offsetAt s i) start (lengthAt s i) i n) _ e in
-    omega (arith, ends-within s n k (i + 1) (kindAt s i) (start + lengthAt s i) (p .1))
+    let p = and-out (entryGood (entryKindAt s i) previous (offsetAt s i) start (lengthAt s i) i n) _ e in
+    omega (arith, ends-within s n k (i + 1) (entryKindAt s i) (start + lengthAt s i) (p .1))
 
 -- ---- where the five bodies lie in a file of n voxels
 
@@ -124,11 +124,11 @@ pub record Laid (s : List ℕ) (n : ℕ) : Type 0 where
   pub occupied : offsetAt s 3 ≡ bodiesFrom (entriesAt s) + n * 69
   pub corners : offsetAt s 4 ≡ bodiesFrom (entriesAt s) + n * 70
   pub within : bodiesFrom (entriesAt s) + n * 70 + 24 ≤ length s
-  pub kind₀ : kindAt s 0 ≡ 1
-  pub kind₁ : kindAt s 1 ≡ 2
-  pub kind₂ : kindAt s 2 ≡ 3
-  pub kind₃ : kindAt s 3 ≡ 4
-  pub kind₄ : kindAt s 4 ≡ 5
+  pub kind₀ : entryKindAt s 0 ≡ 1
+  pub kind₁ : entryKindAt s 1 ≡ 2
+  pub kind₂ : entryKindAt s 2 ≡ 3
+  pub kind₃ : entryKindAt s 3 ≡ 4
+  pub kind₄ : entryKindAt s 4 ≡ 5
   pub long₀ : lengthAt s 0 ≡ n * 4
   pub long₁ : lengthAt s 1 ≡ n * 64
   pub long₂ : lengthAt s 2 ≡ n
@@ -137,22 +137,22 @@ pub record Laid (s : List ℕ) (n : ℕ) : Type 0 where
   -- what is left after the five
   pub rest : contentsFrom s n (entriesAt s - 5) 5 5 (bodiesFrom (entriesAt s) + n * 70 + 24) ≡ true
 
-pub laid : (s : List ℕ) (n : ℕ) → 5 ≤ entriesAt s → contentsGood s (entriesAt s) n ≡ true → Laid s n
-laid s n h e =
+pub contents-laid : (s : List ℕ) (n : ℕ) → 5 ≤ entriesAt s → contentsGood s (entriesAt s) n ≡ true → Laid s n
+contents-laid s n h e =
     let c : ℕ = entriesAt s in
     let b : ℕ = bodiesFrom c in
     let z : contentsFrom s n (c - 0) 0 0 b ≡ true = rw sub-zero e in
     let e₀ = entry-found s n c 0 0 b (omega arith) z in
-    let e₁ = entry-found s n c 1 (kindAt s 0) (b + lengthAt s 0) (omega arith) (e₀ .rest) in
-    let e₂ = entry-found s n c 2 (kindAt s 1) (b + lengthAt s 0 + lengthAt s 1) (omega arith) (e₁ .rest) in
-    let e₃ = entry-found s n c 3 (kindAt s 2) (b + lengthAt s 0 + lengthAt s 1 + lengthAt s 2) (omega arith) (e₂ .rest) in
-    let e₄ = entry-found s n c 4 (kindAt s 3) (b + lengthAt s 0 + lengthAt s 1 + lengthAt s 2 + lengthAt s 3) (omega arith) (e₃ .rest) in
-    let l₀ : lengthAt s 0 ≡ n * 4 = fit-long (kindAt s 0) 0 (lengthAt s 0) n (e₀ .fit) (omega arith) in
-    let l₁ : lengthAt s 1 ≡ n * 64 = fit-long (kindAt s 1) 1 (lengthAt s 1) n (e₁ .fit) (omega arith) in
-    let l₂ : lengthAt s 2 ≡ n = fit-long (kindAt s 2) 2 (lengthAt s 2) n (e₂ .fit) (omega arith) in
-    let l₃ : lengthAt s 3 ≡ n = fit-long (kindAt s 3) 3 (lengthAt s 3) n (e₃ .fit) (omega arith) in
-    let l₄ : lengthAt s 4 ≡ 24 = fit-long (kindAt s 4) 4 (lengthAt s 4) n (e₄ .fit) (omega arith) in
-    let k₄ : kindAt s 4 ≡ 5 = fit-kind (kindAt s 4) 4 (lengthAt s 4) n (e₄ .fit) (omega arith) in
+    let e₁ = entry-found s n c 1 (entryKindAt s 0) (b + lengthAt s 0) (omega arith) (e₀ .rest) in
+    let e₂ = entry-found s n c 2 (entryKindAt s 1) (b + lengthAt s 0 + lengthAt s 1) (omega arith) (e₁ .rest) in
+    let e₃ = entry-found s n c 3 (entryKindAt s 2) (b + lengthAt s 0 + lengthAt s 1 + lengthAt s 2) (omega arith) (e₂ .rest) in
+    let e₄ = entry-found s n c 4 (entryKindAt s 3) (b + lengthAt s 0 + lengthAt s 1 + lengthAt s 2 + lengthAt s 3) (omega arith) (e₃ .rest) in
+    let l₀ : lengthAt s 0 ≡ n * 4 = fit-long (entryKindAt s 0) 0 (lengthAt s 0) n (e₀ .fit) (omega arith) in
+    let l₁ : lengthAt s 1 ≡ n * 64 = fit-long (entryKindAt s 1) 1 (lengthAt s 1) n (e₁ .fit) (omega arith) in
+    let l₂ : lengthAt s 2 ≡ n = fit-long (entryKindAt s 2) 2 (lengthAt s 2) n (e₂ .fit) (omega arith) in
+    let l₃ : lengthAt s 3 ≡ n = fit-long (entryKindAt s 3) 3 (lengthAt s 3) n (e₃ .fit) (omega arith) in
+    let l₄ : lengthAt s 4 ≡ 24 = fit-long (entryKindAt s 4) 4 (lengthAt s 4) n (e₄ .fit) (omega arith) in
+    let k₄ : entryKindAt s 4 ≡ 5 = fit-kind (entryKindAt s 4) 4 (lengthAt s 4) n (e₄ .fit) (omega arith) in
     let end : b + lengthAt s 0 + lengthAt s 1 + lengthAt s 2 + lengthAt s 3 + lengthAt s 4 ≡ b + n * 70 + 24 = omega (arith, l₀, l₁, l₂, l₃, l₄) in
     let rest : contentsFrom s n (c - 5) 5 5 (b + n * 70 + 24) ≡ true = rw (k₄, end) at (e₄ .rest) in
     record {
@@ -162,10 +162,10 @@ laid s n h e =
       occupied = e₃ .offset ∙ omega (arith, l₀, l₁, l₂);
       corners = e₄ .offset ∙ omega (arith, l₀, l₁, l₂, l₃);
       within = ends-within s n (c - 5) 5 5 (b + n * 70 + 24) rest;
-      kind₀ = fit-kind (kindAt s 0) 0 (lengthAt s 0) n (e₀ .fit) (omega arith);
-      kind₁ = fit-kind (kindAt s 1) 1 (lengthAt s 1) n (e₁ .fit) (omega arith);
-      kind₂ = fit-kind (kindAt s 2) 2 (lengthAt s 2) n (e₂ .fit) (omega arith);
-      kind₃ = fit-kind (kindAt s 3) 3 (lengthAt s 3) n (e₃ .fit) (omega arith);
+      kind₀ = fit-kind (entryKindAt s 0) 0 (lengthAt s 0) n (e₀ .fit) (omega arith);
+      kind₁ = fit-kind (entryKindAt s 1) 1 (lengthAt s 1) n (e₁ .fit) (omega arith);
+      kind₂ = fit-kind (entryKindAt s 2) 2 (lengthAt s 2) n (e₂ .fit) (omega arith);
+      kind₃ = fit-kind (entryKindAt s 3) 3 (lengthAt s 3) n (e₃ .fit) (omega arith);
       kind₄ = k₄;
       long₀ = l₀;
       long₁ = l₁;

@@ -24,7 +24,7 @@ use Rattle.volume_write.specs.FileBytes.{bytesFor, fileBytes, Lent}
 use Rattle.volume.specs.declared.Head.{Head}
 use Rattle.volume.specs.declared.Needed.{Needed}
 use Rattle.volume.specs.declared.Figures.{Figures}
-use Rattle.volume.specs.Volume.{noHead, headAnswer, fileRefusal, FileAxes, neededRefusal, VolumeBytes, wrongLists, readRefusal, VolumeRead, wrongBytes, badLists, writeRefusal, VolumeWritten, figuresLimit, zeroCount, noFigures, figuresAnswer, figuresRefusal, FileFigures}
+use Rattle.volume.specs.Volume.{noHead, headAnswer, fileRefusal, FileAxes, neededRefusal, VolumeBytes, wrongVolumeLists, readRefusal, VolumeRead, wrongBytes, badLists, writeRefusal, VolumeWritten, figuresLimit, zeroCount, noFigures, figuresAnswer, figuresRefusal, FileFigures}
 use Rattle.volume.specs.VolumeLaws.{lists-row, BodiesRead}
 use borrow.Author.Tests.{eqb-true, not-false}
 
@@ -69,23 +69,23 @@ read-12 s l v m o f r p q e =
 
 -- the lengths, by the file's own count
 counted : (s : List ℕ) (a : Axes) (n : ℕ) (l v : List Float) (m o : List ℕ) (g w : Bool) → a ≡ axesAt s → n ≡ voxels a
-    → g ≡ wrongLists n (length l) (length v) (length m) (length o) → g ≡ w → wrongLists (voxelsAt s) (length l) (length v) (length m) (length o) ≡ w
+    → g ≡ wrongVolumeLists n (length l) (length v) (length m) (length o) → g ≡ w → wrongVolumeLists (voxelsAt s) (length l) (length v) (length m) (length o) ≡ w
 counted s a n l v m o g w x y p q = let z : n ≡ voxelsAt s = rw x at y in rw z at (sym p ∙ q)
 
 pub read-3 : (s : List ℕ) (a : Axes) (n : ℕ) (l v : List Float) (m o : List ℕ) (f g : Bool) (r : Head) → f ≡ faulty s → f ≡ false → a ≡ axesAt s → n ≡ voxels a
-    → g ≡ wrongLists n (length l) (length v) (length m) (length o) → g ≡ true → r ≡ noHead 3 → VolumeRead s l v m o r l v m o
+    → g ≡ wrongVolumeLists n (length l) (length v) (length m) (length o) → g ≡ true → r ≡ noHead 3 → VolumeRead s l v m o r l v m o
 unfolding readRefusal firstOf unlessRefused
 read-3 s a n l v m o f g r p q x y t u e =
     let h : faulty s ≡ false = sym p ∙ q in
-    let k : wrongLists (voxelsAt s) (length l) (length v) (length m) (length o) ≡ true = counted s a n l v m o g true x y t u in
+    let k : wrongVolumeLists (voxelsAt s) (length l) (length v) (length m) (length o) ≡ true = counted s a n l v m o g true x y t u in
     record { answer = e ∙ rw (h, k) refl; light = rw (h, k) refl; volume = rw (h, k) refl; active = rw (h, k) refl; occupied = rw (h, k) refl }
 
 pub read-0 : (s : List ℕ) (a : Axes) (n : ℕ) (l v : List Float) (m o : List ℕ) (f g : Bool) (r : Head) (l′ v′ : List Float) (m′ o′ : List ℕ) → f ≡ faulty s → f ≡ false → a ≡ axesAt s → n ≡ voxels a
-    → g ≡ wrongLists n (length l) (length v) (length m) (length o) → g ≡ false → r ≡ headAnswer s → BodiesRead s l′ v′ m′ o′ → VolumeRead s l v m o r l′ v′ m′ o′
+    → g ≡ wrongVolumeLists n (length l) (length v) (length m) (length o) → g ≡ false → r ≡ headAnswer s → BodiesRead s l′ v′ m′ o′ → VolumeRead s l v m o r l′ v′ m′ o′
 unfolding readRefusal firstOf unlessRefused
 read-0 s a n l v m o f g r l′ v′ m′ o′ p q x y t u e b =
     let h : faulty s ≡ false = sym p ∙ q in
-    let k : wrongLists (voxelsAt s) (length l) (length v) (length m) (length o) ≡ false = counted s a n l v m o g false x y t u in
+    let k : wrongVolumeLists (voxelsAt s) (length l) (length v) (length m) (length o) ≡ false = counted s a n l v m o g false x y t u in
     record {
       answer = e ∙ rw (h, k) refl;
       light = b .light ∙ rw (h, k) refl;
@@ -95,7 +95,7 @@ read-0 s a n l v m o f g r l′ v′ m′ o′ p q x y t u e b =
     }
 
 pub read-lengths : (s : List ℕ) (a : Axes) (n : ℕ) (l v : List Float) (m o : List ℕ) (g : Bool) → a ≡ axesAt s → n ≡ voxels a
-    → g ≡ wrongLists n (length l) (length v) (length m) (length o) → g ≡ false
+    → g ≡ wrongVolumeLists n (length l) (length v) (length m) (length o) → g ≡ false
     → (length l ≡ voxelsAt s) × (length v ≡ voxelsAt s * 16) × (length m ≡ voxelsAt s) × (length o ≡ voxelsAt s)
 read-lengths s a n l v m o g x y p q = lists-row (voxelsAt s) (length l) (length v) (length m) (length o) (counted s a n l v m o g false x y p q)
 
@@ -108,7 +108,7 @@ placed-bytes s out off at n m e f g = e ∙ rw (f, g) refl
 
 -- ---- the writer
 
-pub of-lists : (a : Axes) (n l v m o : ℕ) (g w : Bool) → n ≡ voxels a → g ≡ wrongLists n l v m o → g ≡ w → wrongLists (voxels a) l v m o ≡ w
+pub of-lists : (a : Axes) (n l v m o : ℕ) (g w : Bool) → n ≡ voxels a → g ≡ wrongVolumeLists n l v m o → g ≡ w → wrongVolumeLists (voxels a) l v m o ≡ w
 of-lists a n l v m o g w e p q = rw e at (sym p ∙ q)
 
 pub of-bytes : (a : Axes) (n b : ℕ) (g w : Bool) → n ≡ voxels a → g ≡ wrongBytes n b → g ≡ w → wrongBytes (voxels a) b ≡ w
@@ -123,26 +123,26 @@ module _ (a : Axes) (c : Corners) (l v : List Float) (m o b : List ℕ) where
   unfolding writeRefusal firstOf unlessRefused
   write-2 h g = record { answer = rw (h, g) refl; bytes = rw (h, g) refl }
 
-  pub write-lists : badAxes a ≡ false → badGrid c a ≡ false → wrongLists (voxels a) (length l) (length v) (length m) (length o) ≡ true → VolumeWritten a c l v m o b 3 b
+  pub write-lists : badAxes a ≡ false → badGrid c a ≡ false → wrongVolumeLists (voxels a) (length l) (length v) (length m) (length o) ≡ true → VolumeWritten a c l v m o b 3 b
   unfolding writeRefusal firstOf unlessRefused
   write-lists h g k = record { answer = rw (h, g, k) refl; bytes = rw (h, g, k) refl }
 
-  pub write-bytes : badAxes a ≡ false → badGrid c a ≡ false → wrongLists (voxels a) (length l) (length v) (length m) (length o) ≡ false → wrongBytes (voxels a) (length b) ≡ true → VolumeWritten a c l v m o b 3 b
+  pub write-bytes : badAxes a ≡ false → badGrid c a ≡ false → wrongVolumeLists (voxels a) (length l) (length v) (length m) (length o) ≡ false → wrongBytes (voxels a) (length b) ≡ true → VolumeWritten a c l v m o b 3 b
   unfolding writeRefusal firstOf unlessRefused
   write-bytes h g k w = record { answer = rw (h, g, k, w) refl; bytes = rw (h, g, k, w) refl }
 
-  pub write-13 : badAxes a ≡ false → badGrid c a ≡ false → wrongLists (voxels a) (length l) (length v) (length m) (length o) ≡ false → wrongBytes (voxels a) (length b) ≡ false
+  pub write-13 : badAxes a ≡ false → badGrid c a ≡ false → wrongVolumeLists (voxels a) (length l) (length v) (length m) (length o) ≡ false → wrongBytes (voxels a) (length b) ≡ false
       → badLists l v m o ≡ true → VolumeWritten a c l v m o b 13 b
   unfolding writeRefusal firstOf unlessRefused
   write-13 h g k w x = record { answer = rw (h, g, k, w, x) refl; bytes = rw (h, g, k, w, x) refl }
 
-  pub write-0 : (b′ : List ℕ) → badAxes a ≡ false → badGrid c a ≡ false → wrongLists (voxels a) (length l) (length v) (length m) (length o) ≡ false → wrongBytes (voxels a) (length b) ≡ false
+  pub write-0 : (b′ : List ℕ) → badAxes a ≡ false → badGrid c a ≡ false → wrongVolumeLists (voxels a) (length l) (length v) (length m) (length o) ≡ false → wrongBytes (voxels a) (length b) ≡ false
       → badLists l v m o ≡ false → b′ ≡ fileBytes a c l v m o → VolumeWritten a c l v m o b 0 b′
   unfolding writeRefusal firstOf unlessRefused
   write-0 b′ h g k w x e = record { answer = rw (h, g, k, w, x) refl; bytes = e ∙ rw (h, g, k, w, x) refl }
 
 -- what the writer's tests leave known
-pub lent : (a : Axes) (n l v m o b : ℕ) → badAxes a ≡ false → n ≡ voxels a → wrongLists n l v m o ≡ false → wrongBytes n b ≡ false → Lent a n l v m o b
+pub lent : (a : Axes) (n l v m o b : ℕ) → badAxes a ≡ false → n ≡ voxels a → wrongVolumeLists n l v m o ≡ false → wrongBytes n b ≡ false → Lent a n l v m o b
 unfolding wrongBytes
 lent a n l v m o b h e k w =
     let q = lists-row n l v m o k in

@@ -57,13 +57,13 @@ pub record VolumeBytes (a : Axes) (r : Needed) : Type 0 where
 -- ---- the reader: 12, then 3, since the file's axes give the lengths
 
 -- light, coefficients and the two masks of a grid of n voxels
-unfoldable pub wrongLists : ℕ → ℕ → ℕ → ℕ → ℕ → Bool
-wrongLists n light volume active occupied =
+unfoldable pub wrongVolumeLists : ℕ → ℕ → ℕ → ℕ → ℕ → Bool
+wrongVolumeLists n light volume active occupied =
     wrongLength light n || wrongLength volume (n * 16) || wrongLength active n || wrongLength occupied n
 
 unfoldable pub readRefusal : List ℕ → List Float → List Float → List ℕ → List ℕ → ℕ
 readRefusal s l v m o =
-    firstOf (row 12 (faulty s) ∷ row 3 (wrongLists (voxelsAt s) (length l) (length v) (length m) (length o)) ∷ [])
+    firstOf (row 12 (faulty s) ∷ row 3 (wrongVolumeLists (voxelsAt s) (length l) (length v) (length m) (length o)) ∷ [])
 
 -- the four lists before, the answer, and the four lists after
 pub record VolumeRead (s : List ℕ) (l v : List Float) (m o : List ℕ) (r : Head) (l′ v′ : List Float) (m′ o′ : List ℕ) : Type 0 where
@@ -86,7 +86,7 @@ writeRefusal a c l v m o b =
     firstOf
     (row 1 (badAxes a)
     ∷ row 2 (badGrid c a)
-    ∷ row 3 (wrongLists (voxels a) (length l) (length v) (length m) (length o))
+    ∷ row 3 (wrongVolumeLists (voxels a) (length l) (length v) (length m) (length o))
     ∷ row 3 (wrongBytes (voxels a) (length b))
     ∷ row 13 (badLists l v m o)
     ∷ [])

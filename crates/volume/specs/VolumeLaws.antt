@@ -19,7 +19,7 @@ use Rattle.volume_file.specs.VolumeFileLaws.{Accepted, accepted-laid}
 use Rattle.volume.specs.declared.Head.{Head}
 use Rattle.volume.specs.declared.Needed.{Needed}
 use Rattle.volume.specs.declared.Figures.{Figures}
-use Rattle.volume.specs.Volume.{wrongLists, FileAxes, VolumeBytes, VolumeRead, VolumeWritten, FileFigures}
+use Rattle.volume.specs.Volume.{wrongVolumeLists, FileAxes, VolumeBytes, VolumeRead, VolumeWritten, FileFigures}
 
 -- ---- one answer, and one content of each list
 
@@ -44,8 +44,8 @@ volume-written-one a c l v m o b r t b₁ b₂ p q = (p .answer ∙ sym (q .answ
 
 -- ---- what row 3 means
 
-pub lists-row : (n l v m o : ℕ) → wrongLists n l v m o ≡ false → (l ≡ n) × (v ≡ n * 16) × (m ≡ n) × (o ≡ n)
-unfolding wrongLists
+pub lists-row : (n l v m o : ℕ) → wrongVolumeLists n l v m o ≡ false → (l ≡ n) × (v ≡ n * 16) × (m ≡ n) × (o ≡ n)
+unfolding wrongVolumeLists
 lists-row n l v m o e =
     let p = either _ (wrongLength o n) .0 e in
     let q = three (wrongLength l n) (wrongLength v (n * 16)) (wrongLength m n) .0 (p .0) in

@@ -9,7 +9,7 @@ ghost use Rattle.bytes_le.specs.Bytes.{f32At, floatsAt, bytesAt};
 ghost use Rattle.marks.specs.Marks.{activeCount};
 ghost use Rattle.volume_file.specs.VolumeFile.{lightAt, volumeAt, activeAt, occupiedAt};
 ghost use Rattle.volume_file.specs.VolumeFileLaws.{Accepted};
-ghost use Rattle.volume.specs.Volume.{noHead, headAnswer, noFigures, figuresAnswer, zeroCount, isZero, wrongLists, wrongBytes, badLists, FileAxes, VolumeBytes, VolumeRead, VolumeWritten, FileFigures};
+ghost use Rattle.volume.specs.Volume.{noHead, headAnswer, noFigures, figuresAnswer, zeroCount, isZero, wrongVolumeLists, wrongBytes, badLists, FileAxes, VolumeBytes, VolumeRead, VolumeWritten, FileFigures};
 ghost use Rattle.volume.specs.VolumeLaws.{Room, BodiesRead};
 use grid::Axes;
 use grid::Corners;
@@ -225,7 +225,7 @@ fn zero(x: f32) -> u64
 
 fn wrong_lists(n: usize, light: usize, volume: usize, active: usize, occupied: usize) -> bool
     requires { ⌜ n ≤ voxelLimit ⌝ }
-    ensures { λ r. ⌜ r ≡ wrongLists n light volume active occupied ⌝ }
+    ensures { λ r. ⌜ r ≡ wrongVolumeLists n light volume active occupied ⌝ }
 {
     (light != n) | (volume != n * 16) | (active != n) | (occupied != n)
 }

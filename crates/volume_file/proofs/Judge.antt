@@ -12,7 +12,7 @@ use Rattle.grid.specs.GridLaws.{voxels-most}
 use Rattle.limits.specs.Limits.{badAxes}
 use Rattle.limits.specs.LimitsLaws.{axes-row}
 use Rattle.contents.specs.Contents.{headed, axesAt, entriesAt, bodiesFrom, contentsGood}
-use Rattle.contents.specs.ContentsLaws.{Headed, headed-found, Laid, laid}
+use Rattle.contents.specs.ContentsLaws.{Headed, headed-found, Laid, contents-laid}
 use Rattle.contents.proofs.Step.{held, failed}
 use Rattle.volume_file.specs.VolumeFile.{badBodies, faulty}
 
@@ -31,7 +31,7 @@ pub to-fit : (s : List ℕ) (a : Axes) (e n : ℕ) → Headed s → AxesWithin a
 to-fit s a e n h w p m = (rw p (h .contents), rw p (h .most), to-few a n w m)
 
 pub to-laid : (s : List ℕ) (e n : ℕ) (r : Bool) → Headed s → e ≡ entriesAt s → r ≡ contentsGood s e n → not r ≡ false → Laid s n
-to-laid s e n r h p q f = laid s n (h .least) (sym (rw p at (held r (contentsGood s e n) q f)))
+to-laid s e n r h p q f = contents-laid s n (h .least) (sym (rw p at (held r (contentsGood s e n) q f)))
 
 pub to-start : (s : List ℕ) → Headed s → 72 ≤ length s
 to-start s h = omega (arith, h .contents, h .least)

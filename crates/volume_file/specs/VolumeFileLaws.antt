@@ -15,7 +15,7 @@ use Rattle.grid.specs.Grid.{AxesWithin}
 use Rattle.limits.specs.Limits.{badAxes, badGrid, badLights, badCoefficients, badMask}
 use Rattle.limits.specs.LimitsLaws.{either, axes-row}
 use Rattle.contents.specs.Contents.{headed, axesAt, entriesAt, offsetAt, contentsGood}
-use Rattle.contents.specs.ContentsLaws.{Headed, headed-found, headed-given, Laid, laid}
+use Rattle.contents.specs.ContentsLaws.{Headed, headed-found, headed-given, Laid, contents-laid}
 use Rattle.volume_file.specs.VolumeFile.{voxelsAt, lightAt, volumeAt, activeAt, occupiedAt, cornersAt, badBodies, faulty}
 
 pub record Accepted (s : List ℕ) : Type 0 where
@@ -59,7 +59,7 @@ accepted-row s = (found s, given s)
 
 -- the places of the bodies of an accepted file
 pub accepted-laid : (s : List ℕ) → Accepted s → Laid s (voxelsAt s)
-accepted-laid s a = laid s (voxelsAt s) (a .headed .least) (a .contents)
+accepted-laid s a = contents-laid s (voxelsAt s) (a .headed .least) (a .contents)
 
 pub accepted-axes : (s : List ℕ) → Accepted s → AxesWithin (axesAt s)
 accepted-axes s a = axes-row (axesAt s) .0 (a .axes)

@@ -20,7 +20,7 @@ use Rattle.bytes_le.specs.BytesLaws.{half-bytes, word-bytes}
 use Rattle.bytes_le.specs.RoundTrip.{AllBytes, floats-kept}
 use Rattle.limits.specs.Limits.{within}
 use Rattle.limits.specs.LimitsLaws.{finite, within-finite, lights-row, coefficients-row, grid-row, vector-row}
-use Rattle.contents.specs.Contents.{mark, marked, axesAt, entriesAt, kindAt, offsetAt, lengthAt, contentsFrom, headOf, entryOf, bodiesFrom}
+use Rattle.contents.specs.Contents.{mark, marked, axesAt, entriesAt, entryKindAt, offsetAt, lengthAt, contentsFrom, headOf, entryOf, bodiesFrom}
 use Rattle.contents.specs.ContentsLaws.{Laid}
 use Rattle.volume_file.specs.VolumeFile.{voxelsAt, lightAt, volumeAt, activeAt, occupiedAt, cornersAt}
 use Rattle.volume_file.specs.VolumeFileLaws.{Accepted, accepted-laid}
@@ -179,9 +179,9 @@ corners-at s h a l =
     rw (← corners-list s) (floats-kept s h 6 at l (below-six (λ i. isNan (f32At s (at + i * 4)) ≡ false) n₀ n₁ n₂ n₃ n₄ n₅))
 
 -- what is left after the five entries of a file of five: the file's end
-pub ended : (s : List ℕ) (n : ℕ) → entriesAt s ≡ 5 → Laid s n → length s ≡ 96 + n * 70
+pub file-ended : (s : List ℕ) (n : ℕ) → entriesAt s ≡ 5 → Laid s n → length s ≡ 96 + n * 70
 unfolding contentsFrom
-ended s n e d =
+file-ended s n e d =
     let z : entriesAt s - 5 ≡ 0 = omega arith in
     let f : contentsFrom s n 0 5 5 (bodiesFrom (entriesAt s) + n * 70 + 24) ≡ true = rw z at (d .rest) in
     let g : bodiesFrom (entriesAt s) + n * 70 + 24 ≡ length s = eqb-true _ (length s) f in
@@ -193,7 +193,7 @@ unfolding fileBytes
 kept-back s h a e =
     let n : ℕ = voxelsAt s in
     let d : Laid s n = accepted-laid s a in
-    let len : length s ≡ 96 + n * 70 = ended s n e d in
+    let len : length s ≡ 96 + n * 70 = file-ended s n e d in
     let b : bodiesFrom (entriesAt s) ≡ 72 = rw e refl in
     let o₀ : offsetAt s 0 ≡ 72 = d .light ∙ b in
     let o₁ : offsetAt s 1 ≡ 72 + n * 4 = d .volume ∙ ap (λ (x : ℕ). x + n * 4) b in

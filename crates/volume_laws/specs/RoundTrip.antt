@@ -26,10 +26,10 @@ use Rattle.volume_file.specs.VolumeFile.{voxelsAt, lightAt, volumeAt, activeAt,
 use Rattle.volume_file.specs.VolumeFileLaws.{Accepted, accepted-row, accepted-laid}
 use Rattle.volume_write.specs.FileBytes.{bytesFor, cornersList, fileBytes}
 use Rattle.volume.specs.declared.Head.{Head}
-use Rattle.volume.specs.Volume.{noHead, headAnswer, wrongLists, wrongBytes, badLists, readRefusal, VolumeRead, writeRefusal, VolumeWritten, fileRefusal, FileAxes}
+use Rattle.volume.specs.Volume.{noHead, headAnswer, wrongVolumeLists, wrongBytes, badLists, readRefusal, VolumeRead, writeRefusal, VolumeWritten, fileRefusal, FileAxes}
 use Rattle.volume.specs.VolumeLaws.{lists-row}
 use Rattle.volume_laws.specs.Written.{Givens, Gives, Back, written-back}
-use Rattle.volume_laws.specs.Kept.{kept-back, ended}
+use Rattle.volume_laws.specs.Kept.{kept-back, file-ended}
 
 -- ---- rows that all pass
 
@@ -49,8 +49,8 @@ read-passed true b₂ e = absurd (omega arith)
 read-passed false true e = absurd (omega arith)
 read-passed false false e = (refl, refl)
 
-lists-right : (n l v m o : ℕ) → l ≡ n → v ≡ n * 16 → m ≡ n → o ≡ n → wrongLists n l v m o ≡ false
-unfolding wrongLists
+lists-right : (n l v m o : ℕ) → l ≡ n → v ≡ n * 16 → m ≡ n → o ≡ n → wrongVolumeLists n l v m o ≡ false
+unfolding wrongVolumeLists
 lists-right n l v m o p q r t = rw (eq-eqb l n p, eq-eqb v (n * 16) q, eq-eqb m n r, eq-eqb o n t) refl
 
 lists-good : (l v : List Float) (m o : List ℕ) → badLists l v m o ≡ false → (badLights l ≡ false) × (badCoefficients v ≡ false) × (badMask m ≡ false) × (badMask o ≡ false)
@@ -135,7 +135,7 @@ head-zero s k r e h = go (eqb k 0) refl e
     go false f g = sym (ap (λ (x : Head). x .refusal) g) ∙ h
 
 write-zero : (a : Axes) (c : Corners) (l v : List Float) (m o b : List ℕ) → badAxes a ≡ false → badGrid c a ≡ false
-    → wrongLists (voxels a) (length l) (length v) (length m) (length o) ≡ false → length b ≡ bytesFor (voxels a)
+    → wrongVolumeLists (voxels a) (length l) (length v) (length m) (length o) ≡ false → length b ≡ bytesFor (voxels a)
     → badLights l ≡ false → badCoefficients v ≡ false → badMask m ≡ false → badMask o ≡ false → writeRefusal a c l v m o b ≡ 0
 unfolding writeRefusal firstOf wrongBytes badLists
 write-zero a c l v m o b p q r t x y z w = rw (p, q, r, eq-eqb (length b) (bytesFor (voxels a)) t, x, y, z, w) refl
@@ -170,7 +170,7 @@ read-written s l v m o r l′ v′ m′ o′ b t b′ h five d z len w =
     (length-tab (λ i. f32At s (offsetAt s 1 + i * 4)) (n * 16) 0)
     (part-length s (offsetAt s 2) n (omega (arith, la .active, la .within)))
     (part-length s (offsetAt s 3) n (omega (arith, la .occupied, la .within))))
-    (len ∙ ended s n five la) (k .lights) (k .coefficients) (k .active) (k .occupied) in
+    (len ∙ file-ended s n five la) (k .lights) (k .coefficients) (k .active) (k .occupied) in
     (w′ .answer ∙ none, w′ .bytes ∙ sym (given _ _ _ none) ∙ kept-back s h k five)
 
 -- ---- 12 exactly where the judge refuses

@@ -21,7 +21,7 @@ use Rattle.bytes_le.specs.Bytes.{f32At, encode}
 use Rattle.contents.specs.Contents.{marked, headed, kindOf, bodyFits, entryGood, contentsFrom, offsetAt}
 use Rattle.volume_file.specs.VolumeFile.{cornersAt, badBodies, faulty}
 use Rattle.volume_write.specs.FileBytes.{contentsOf, fileBytes}
-use Rattle.volume.specs.Volume.{fileRefusal, figuresRefusal, figuresAnswer, zeroCount, wrongLists, wrongBytes, badLists, writeRefusal}
+use Rattle.volume.specs.Volume.{fileRefusal, figuresRefusal, figuresAnswer, zeroCount, wrongVolumeLists, wrongBytes, badLists, writeRefusal}
 
 pub smallest : List ℕ
 smallest =
@@ -53,7 +53,7 @@ unfolding smallest one-voxel unit-cube quarter fileBytes contentsOf encode Ieee.
 smallest-written = refl
 
 pub smallest-writable : writeRefusal one-voxel unit-cube (quarter ∷ []) (replicate 16 zero32) (1 ∷ []) (1 ∷ []) (replicate 166 0) ≡ 0
-unfolding one-voxel unit-cube quarter writeRefusal firstOf badAxes wrongLists wrongBytes badLists some within outsideV badCorners badEdges edgesOf badMask badLights badCoefficients Ieee.ofBits Ieee.neg Ieee.le Ieee.lt Ieee.eq Ieee.sub Ieee.div Ieee.add Ieee.ofInt
+unfolding one-voxel unit-cube quarter writeRefusal firstOf badAxes wrongVolumeLists wrongBytes badLists some within outsideV badCorners badEdges edgesOf badMask badLights badCoefficients Ieee.ofBits Ieee.neg Ieee.le Ieee.lt Ieee.eq Ieee.sub Ieee.div Ieee.add Ieee.ofInt
 smallest-writable = refl
 
 pub empty-refused : figuresRefusal [] ≡ 12

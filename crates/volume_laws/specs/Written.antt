@@ -23,7 +23,7 @@ use Rattle.bytes_le.specs.BytesLaws.{half-back, word-back, length-encode}
 use Rattle.bytes_le.specs.RoundTrip.{AllFit, floats-back}
 use Rattle.limits.specs.Limits.{badAxes, badGrid, badLights, badCoefficients, badMask}
 use Rattle.limits.specs.LimitsLaws.{axes-row}
-use Rattle.contents.specs.Contents.{marked, headed, axesAt, entriesAt, kindAt, offsetAt, lengthAt, contentsFrom, contentsGood, headOf}
+use Rattle.contents.specs.Contents.{marked, headed, axesAt, entriesAt, entryKindAt, offsetAt, lengthAt, contentsFrom, contentsGood, headOf}
 use Rattle.contents.specs.ContentsLaws.{Fit, light, coefficients, active, occupied, corners, Entry, entry-given, Headed}
 use Rattle.volume_file.specs.VolumeFile.{voxelsAt, lightAt, volumeAt, activeAt, occupiedAt, cornersAt}
 use Rattle.volume_file.specs.VolumeFileLaws.{Accepted}
@@ -41,11 +41,11 @@ record Begun (a : Axes) (s : List ℕ) : Type 0 where
   width : u16At s 4 ≡ a .width
   height : u16At s 6 ≡ a .height
   depth : u16At s 8 ≡ a .depth
-  kind₀ : kindAt s 0 ≡ 1
-  kind₁ : kindAt s 1 ≡ 2
-  kind₂ : kindAt s 2 ≡ 3
-  kind₃ : kindAt s 3 ≡ 4
-  kind₄ : kindAt s 4 ≡ 5
+  kind₀ : entryKindAt s 0 ≡ 1
+  kind₁ : entryKindAt s 1 ≡ 2
+  kind₂ : entryKindAt s 2 ≡ 3
+  kind₃ : entryKindAt s 3 ≡ 4
+  kind₄ : entryKindAt s 4 ≡ 5
   offset₀ : offsetAt s 0 ≡ 72
   offset₁ : offsetAt s 1 ≡ 72 + voxels a * 4
   offset₂ : offsetAt s 2 ≡ 72 + voxels a * 68
@@ -102,15 +102,15 @@ begun-contents a s b l =
     let s₃ : ℕ = s₂ + lengthAt s 2 in
     let s₄ : ℕ = s₃ + lengthAt s 3 in
     let s₅ : ℕ = s₄ + lengthAt s 4 in
-    let end : contentsFrom s n (5 - 5) 5 (kindAt s 4) s₅ ≡ true =
+    let end : contentsFrom s n (5 - 5) 5 (entryKindAt s 4) s₅ ≡ true =
     eq-eqb s₅ (length s) (omega (arith, b .long₀, b .long₁, b .long₂, b .long₃, b .long₄, l)) in
-    let e₄ = entry-given s n 5 4 (kindAt s 3) s₄ (omega arith)
+    let e₄ = entry-given s n 5 4 (entryKindAt s 3) s₄ (omega arith)
     (record { above = omega (arith, b .kind₃, b .kind₄); offset = b .offset₄ ∙ omega (arith, b .long₀, b .long₁, b .long₂, b .long₃); fit = corners (b .kind₄) refl (b .long₄); rest = end }) in
-    let e₃ = entry-given s n 5 3 (kindAt s 2) s₃ (omega arith)
+    let e₃ = entry-given s n 5 3 (entryKindAt s 2) s₃ (omega arith)
     (record { above = omega (arith, b .kind₂, b .kind₃); offset = b .offset₃ ∙ omega (arith, b .long₀, b .long₁, b .long₂); fit = occupied (b .kind₃) refl (b .long₃); rest = e₄ }) in
-    let e₂ = entry-given s n 5 2 (kindAt s 1) s₂ (omega arith)
+    let e₂ = entry-given s n 5 2 (entryKindAt s 1) s₂ (omega arith)
     (record { above = omega (arith, b .kind₁, b .kind₂); offset = b .offset₂ ∙ omega (arith, b .long₀, b .long₁); fit = active (b .kind₂) refl (b .long₂); rest = e₃ }) in
-    let e₁ = entry-given s n 5 1 (kindAt s 0) s₁ (omega arith)
+    let e₁ = entry-given s n 5 1 (entryKindAt s 0) s₁ (omega arith)
     (record { above = omega (arith, b .kind₀, b .kind₁); offset = b .offset₁ ∙ omega (arith, b .long₀); fit = coefficients (b .kind₁) refl (b .long₁); rest = e₂ }) in
     entry-given s n 5 0 0 72 (omega arith)
     (record { above = omega (arith, b .kind₀); offset = b .offset₀; fit = light (b .kind₀) refl (b .long₀); rest = e₁ })
