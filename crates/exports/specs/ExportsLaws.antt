@@ -1,4 +1,5 @@
--- What the answers over C mean: each contract leaves one answer, and the sixteen numbers from the start on are the part that the public call lends.
+-- What the answers over C mean: each contract leaves one answer, a struct holds the values of the enum that the public call answers, and the sixteen
+-- numbers from the start on are the part that the public call lends.
 use mathlib.Core.Path.{_≡_, refl, sym, ap, ap₂, _∙_}
 use mathlib.Core.Bool.{Bool, true, false, cond}
 use mathlib.Core.List.{List, []}
@@ -11,7 +12,9 @@ use Rattle.names.specs.Scene.{Scene}
 use Rattle.vectors.specs.declared.Ray.{Ray}
 use Rattle.vectors.specs.declared.Triangle.{Triangle}
 use Rattle.grid.specs.declared.Axes.{Axes}
-use Rattle.rays.specs.Rays.{Values}
+use Rattle.rays.specs.Rays.{Values, metValues, foundValues, MeetAnswered, NearestAnswered}
+use Rattle.rays.specs.declared.Met.{Met}
+use Rattle.rays.specs.declared.Found.{Found}
 use Rattle.lookup.specs.Lookup.{sixteen, partRefusal, partOf}
 use Rattle.exports.specs.declared.RayHit.{RayHit}
 use Rattle.exports.specs.declared.PartStart.{PartStart}
@@ -40,6 +43,17 @@ part-told-once axes volume scratch index second r s a b =
   where
     same : (x y : PartStart) → x .refusal ≡ y .refusal → x .start ≡ y .start → x ≡ y
     same x y h k = ap₂ (λ (n m : ℕ). record { refusal = n; start = m }) h k
+
+-- ---- a hit
+
+-- the struct holds the values of the enum that the public call answers on the same arguments
+pub meet-told-same : (ray : Ray) (triangle : Triangle) (m : Met) (r : RayHit) → MeetAnswered ray triangle m → MeetTold ray triangle r
+    → valuesOf r ≡ metValues m
+meet-told-same ray triangle m r a b = b .values ∙ sym (a .values)
+
+pub nearest-told-same : (scene : Scene) (ray : Ray) (f : Found) (r : RayHit) → NearestAnswered scene ray f → NearestTold scene ray r
+    → valuesOf r ≡ foundValues f
+nearest-told-same scene ray f r a b = b .values ∙ sym (a .values)
 
 -- ---- the part
 
