@@ -179,6 +179,7 @@ fn recorded(name: &str) -> Vec<Item> {
     for seed in 0..seeds {
         out.extend(items::good(name, seed));
     }
+    out.extend(items::made(name));
     if name == "bake" {
         // black and faint surfaces
         for seed in [32, 52, 72] {

@@ -82,6 +82,67 @@ pub fn module_of(call: &Call) -> &'static str {
     }
 }
 
+/// Records made for slips that a seeded scene seldom shows.
+pub fn made(module: &str) -> Vec<Item> {
+    let mut chance = Chance::new(0x5117);
+    let c = &mut chance;
+    match module {
+        "rays" => (0..12).map(|k| stack(c, k % 3 == 0)).collect(),
+        "masks" => (0..48).map(|k| on_the_planes(c, k)).collect(),
+        _ => vec![],
+    }
+}
+
+/// Translucent sheets in no order of place, some of them at one distance: the order of the product shows in its last bits.
+fn stack(c: &mut Chance, tied: bool) -> Item {
+    let mut lists = Lists::default();
+    let mut levels: Vec<f32> = (0..7).map(|k| if tied { (k / 3) as f32 } else { k as f32 }).collect();
+    for k in 0..levels.len() {
+        let other = c.below(levels.len());
+        levels.swap(k, other);
+    }
+    for (k, z) in levels.iter().enumerate() {
+        lists.kinds.push(1);
+        lists.numbers.extend([0.5, 0.5, 0.5, 0.0, 0.0, 0.0, c.between(0.4, 1.0)]);
+        lists.points.extend([-4.0, -4.0, *z, 8.0, -4.0, *z, -4.0, 8.0, *z]);
+        lists.uses.push(k as u32);
+    }
+    let hits = worlds::hits(c, &lists);
+    let asked = (0..6)
+        .map(|k| {
+            let up = k % 2 == 0;
+            let origin = [c.between(0.0, 1.0), c.between(0.0, 1.0), if up { -1.0 } else { 9.0 }];
+            (true, Ray { origin, direction: [0.0, 0.0, if up { 1.0 } else { -1.0 }], shortest: 0.0, longest: f32::INFINITY })
+        })
+        .collect();
+    Item::Rays { lists, hits, asked }
+}
+
+/// Triangles whose samples lie on the planes between cells, and whose target of samples is a square number within a rounding.
+fn on_the_planes(c: &mut Chance, k: usize) -> Item {
+    let edge = c.pick(&[0.3f32, 0.1, 0.7, 1.3, 0.9, 0.011]);
+    let least = c.pick(&[0.0f32, 0.1, -0.7, 3.3]);
+    let axes = [9, 9, 1];
+    let grid = Grid { axes, corners: [least, least, least, least + 9.0 * edge, least + 9.0 * edge, least + edge] };
+    let own = (grid.corners[3] - grid.corners[0]) / 9.0;
+    let mut points = Vec::new();
+    if k % 2 == 0 {
+        let (a, b) = (c.from(1, 8) as f32 * own, c.from(1, 8) as f32 * own);
+        let (x, y, z) = (least, least, least + own * 0.5);
+        points.extend([x, y, z, x + a, y, z, x, y + b, z]);
+    } else {
+        for _ in 0..3 {
+            let (i, j) = (c.from(1, 8) as f32, c.from(1, 8) as f32);
+            let (x, y, z) = (least + i * own, least + j * own, least + own * 0.5);
+            let leg = own * 0.03;
+            // one sample at u = v = .5, w = 0: half way between the second and the third point
+            points.extend([x - leg, y - leg, z, x - leg, y + leg, z, x + leg, y - leg, z]);
+        }
+    }
+    let n = voxels(&grid);
+    Item::One(Call::Masks { grid, points, occupied: vec![3; n], active: vec![4; n] })
+}
+
 fn rays(c: &mut Chance, world: &World) -> Vec<Item> {
     let mut asked = Vec::new();
     let mut out = Vec::new();
