@@ -9,27 +9,27 @@ use lib.ListN.{length}
 use lib.Ieee.{Float}
 use Rattle.names.specs.Numbers.{voxelCost}
 use Rattle.limits.specs.Limits.{wrongScene, badMask, badLights, badLight, badAmbient, badSky}
-use Rattle.limits.specs.LimitsLaws.{either, three, coefficients-row}
+use Rattle.limits.specs.LimitsLaws.{either, any-of-three, coefficients-row}
 use Rattle.spread.specs.Spread.{Stage, unbroken, run, EachAtLeast, NoneRefused}
 use Rattle.spread.specs.Demand.{Lasts, roundedUp, allActive}
 use Rattle.spread.specs.Holds.{no-call-refused}
 use Rattle.gather.specs.Gather.{gatheredOf}
 use Rattle.gather.specs.GatherLaws.{length-gathered}
 use Rattle.gather_bounds.specs.GatherBounds.{Rows, gathered-within}
-use Rattle.intake.specs.Intake.{BakeInput, wrongLists, badLighting, badContents, bakeRefusal}
-use Rattle.intake.specs.IntakeLaws.{Passed, fits, none-refused, still-passed}
+use Rattle.intake.specs.Intake.{BakeInput, wrongBakeLists, badLighting, badContents, bakeRefusal}
+use Rattle.intake.specs.IntakeLaws.{BakePassed, fits, none-refused, still-passed}
 use Rattle.demand.specs.Bake.{gatherInput, bakeOf}
 use Rattle.demand.specs.Demanded.{bake-fair, bake-demand}
 use Rattle.demand.specs.Lasting.{GathersWithin, bake-lasts}
 
 -- what the gather writes of an accepted input lies within ±2^64
-gathers : (b : BakeInput) (s : Stage Float) (a : ℕ) → Passed b s a → GathersWithin b
-unfolding wrongLists badLighting badContents
+gathers : (b : BakeInput) (s : Stage Float) (a : ℕ) → BakePassed b s a → GathersWithin b
+unfolding wrongBakeLists badLighting badContents
 gathers b s a p i h =
     let g = gatherInput b in
     let f = fits b s a p in
-    let l = three (badLight (b .light)) (badAmbient (b .ambient)) (badSky (b .sky)) .0 (p .lighting) in
-    let c = three (badMask (b .active)) (badLights (b .lights)) _ .0 (p .contents) in
+    let l = any-of-three (badLight (b .light)) (badAmbient (b .ambient)) (badSky (b .sky)) .0 (p .lighting) in
+    let c = any-of-three (badMask (b .active)) (badLights (b .lights)) _ .0 (p .contents) in
     let rows : Rows g
     = record {
       lists = either (wrongScene (b .scene .points) (b .scene .uses) (b .scene .kinds) (b .scene .numbers)) _ .0 (p .lists) .0;
@@ -55,7 +55,7 @@ unfolding badContents
 never-refused b s a e l h =
     let p = none-refused b s a .0 e in
     let f = fits b s a p in
-    let c = three (badMask (b .active)) (badLights (b .lights)) _ .0 (p .contents) in
+    let c = any-of-three (badMask (b .active)) (badLights (b .lights)) _ .0 (p .contents) in
     no-call-refused (bakeOf b) (bake-fair b (f .axes)) (goes-on b) l s h
     (λ n k. none-refused b s n .1 (still-passed b s a s n p refl refl (f .progress) k (c .2)))
 

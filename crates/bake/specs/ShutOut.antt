@@ -12,7 +12,7 @@ use lib.ListN.{getD}
 use lib.Ieee as Ieee
 use lib.Ieee.{Float, nan, ofBits}
 use Rattle.names.specs.Bits.{one32}
-use Rattle.spread.specs.Spread.{partOf, call, run}
+use Rattle.spread.specs.Spread.{voxelPart, call, run}
 use Rattle.ends.specs.Ends.{ambientVoxel, ambientAt}
 use Rattle.gather.specs.Gather.{gatheredOf}
 use Rattle.intake.specs.Three.{three, begun, three-accepted}
@@ -29,21 +29,21 @@ pub record First (r : BakeAnswer) (v x : List Float) : Type 0 where
   pub refusal : r .refusal ≡ 0
   pub progress : r .progress ≡ 1
   pub rays : r .rays ≡ 64
-  pub baked : partOf 16 0 v ≡ gatheredOf (gatherInput three) 0
-  pub not-ambient : partOf 16 0 v ≡ ambientAt (three .ambient) (three .lights) 0 → ⊥
-  pub second : partOf 16 1 v ≡ ambientAt (three .ambient) (three .lights) 1
-  pub third : partOf 16 2 v ≡ ambientAt (three .ambient) (three .lights) 2
+  pub baked : voxelPart 16 0 v ≡ gatheredOf (gatherInput three) 0
+  pub not-ambient : voxelPart 16 0 v ≡ ambientAt (three .ambient) (three .lights) 0 → ⊥
+  pub second : voxelPart 16 1 v ≡ ambientAt (three .ambient) (three .lights) 1
+  pub third : voxelPart 16 2 v ≡ ambientAt (three .ambient) (three .lights) 2
   pub touched : v ≡ begun .volume → ⊥
   pub scratch : x ≡ begun .scratch
 
 pub after-the-first : (r : BakeAnswer) (v x d d' : List Float) (p p' : List ℕ) → Baked three begun 384 r v x d d' p p' → First r v x
-unfolding run ambientVoxel partOf ofBits Ieee.eq
+unfolding run ambientVoxel voxelPart ofBits Ieee.eq
 after-the-first r v x d d' p p' h =
     let q : call (bakeOf three) 384 begun .stage .progress ≡ 1 = figure-first .2 in
     let b = bake-demand three begun 384 (three-accepted .0) .before (384 ∷ []) begun refl (omega (arith, q)) (omega (arith, q)) in
-    let e₀ : partOf 16 0 v ≡ gatheredOf (gatherInput three) 0 = ap (partOf 16 0) (h .volume) ∙ b .0 0 (lit< tt) ∙ rw q refl in
-    let e₁ : partOf 16 1 v ≡ ambientAt (three .ambient) (three .lights) 1 = ap (partOf 16 1) (h .volume) ∙ b .0 1 (lit< tt) ∙ rw q refl in
-    let e₂ : partOf 16 2 v ≡ ambientAt (three .ambient) (three .lights) 2 = ap (partOf 16 2) (h .volume) ∙ b .0 2 (lit< tt) ∙ rw q refl in
+    let e₀ : voxelPart 16 0 v ≡ gatheredOf (gatherInput three) 0 = ap (voxelPart 16 0) (h .volume) ∙ b .0 0 (lit< tt) ∙ rw q refl in
+    let e₁ : voxelPart 16 1 v ≡ ambientAt (three .ambient) (three .lights) 1 = ap (voxelPart 16 1) (h .volume) ∙ b .0 1 (lit< tt) ∙ rw q refl in
+    let e₂ : voxelPart 16 2 v ≡ ambientAt (three .ambient) (three .lights) 2 = ap (voxelPart 16 2) (h .volume) ∙ b .0 2 (lit< tt) ∙ rw q refl in
     record {
       refusal = h .refusal ∙ head-of (figure-first .0);
       progress = h .progress ∙ q;
@@ -52,6 +52,6 @@ after-the-first r v x d d' p p' h =
       not-ambient = λ z. gathered-differs (sym e₀ ∙ z);
       second = e₁;
       third = e₂;
-      touched = λ z. false≢true (ap (λ (l : List Float). Ieee.eq (getD l 0 nan) one32) (ap (partOf 16 1) (sym z) ∙ e₁));
+      touched = λ z. false≢true (ap (λ (l : List Float). Ieee.eq (getD l 0 nan) one32) (ap (voxelPart 16 1) (sym z) ∙ e₁));
       scratch = h .scratch ∙ b .2;
     }

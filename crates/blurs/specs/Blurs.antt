@@ -13,13 +13,13 @@ use Rattle.limits.specs.Limits.{badAxes, wrongLength, badLights, badCoefficient
 use Rattle.means.specs.Box.{lightBlurOf, coefficientBlurOf}
 
 -- one of two lists does not have `stride` numbers for each voxel
-unfoldable pub wrongLists : Axes → ℕ → List Float → List Float → Bool
-wrongLists axes stride list scratch = wrongLength (length list) (voxels axes * stride) || wrongLength (length scratch) (voxels axes * stride)
+unfoldable pub wrongBlurLists : Axes → ℕ → List Float → List Float → Bool
+wrongBlurLists axes stride list scratch = wrongLength (length list) (voxels axes * stride) || wrongLength (length scratch) (voxels axes * stride)
 
 -- ---- light
 
 abbrev pub lightBlurRows : Axes → List Float → List Float → List Row
-lightBlurRows axes light scratch = row 1 (badAxes axes) ∷ row 3 (wrongLists axes 1 light scratch) ∷ row 13 (badLights light) ∷ []
+lightBlurRows axes light scratch = row 1 (badAxes axes) ∷ row 3 (wrongBlurLists axes 1 light scratch) ∷ row 13 (badLights light) ∷ []
 
 unfoldable pub lightBlurRefusal : Axes → List Float → List Float → ℕ
 lightBlurRefusal axes light scratch = firstOf (lightBlurRows axes light scratch)
@@ -33,7 +33,7 @@ pub record LightBlurred (axes : Axes) (light scratch : List Float) (r : ℕ) (li
 
 abbrev pub coefficientBlurRows : Axes → List Float → List Float → List Row
 coefficientBlurRows axes volume scratch =
-    row 1 (badAxes axes) ∷ row 3 (wrongLists axes 16 volume scratch) ∷ row 13 (badCoefficients volume) ∷ []
+    row 1 (badAxes axes) ∷ row 3 (wrongBlurLists axes 16 volume scratch) ∷ row 13 (badCoefficients volume) ∷ []
 
 unfoldable pub coefficientBlurRefusal : Axes → List Float → List Float → ℕ
 coefficientBlurRefusal axes volume scratch = firstOf (coefficientBlurRows axes volume scratch)

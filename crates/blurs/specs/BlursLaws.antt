@@ -17,8 +17,8 @@ use Rattle.limits.specs.LimitsLaws.{axes-row, either}
 use Rattle.limits.specs.Some.{some}
 use Rattle.means.specs.Box.{lightBlurOf, squareAt, coefficientBlurOf, meanAt, meanIn, around, along}
 use Rattle.means.specs.BoxLaws.{Neighbour}
-use Rattle.passed.specs.Passed.{passed}
-use Rattle.blurs.specs.Blurs.{wrongLists, lightBlurRows, lightBlurRefusal, LightBlurred, coefficientBlurRows, coefficientBlurRefusal, CoefficientsBlurred}
+use Rattle.names.specs.Passed.{passed}
+use Rattle.blurs.specs.Blurs.{wrongBlurLists, lightBlurRows, lightBlurRefusal, LightBlurred, coefficientBlurRows, coefficientBlurRefusal, CoefficientsBlurred}
 
 -- ---- one result
 
@@ -46,9 +46,9 @@ pub record FittingLists (axes : Axes) (stride : ℕ) (list scratch : List Float)
   pub list-fits : length list ≡ voxels axes * stride
   pub scratch-fits : length scratch ≡ voxels axes * stride
 
-fitting : (axes : Axes) (stride : ℕ) (list scratch : List Float) → badAxes axes ≡ false → wrongLists axes stride list scratch ≡ false
+fitting : (axes : Axes) (stride : ℕ) (list scratch : List Float) → badAxes axes ≡ false → wrongBlurLists axes stride list scratch ≡ false
     → FittingLists axes stride list scratch
-unfolding wrongLists
+unfolding wrongBlurLists
 fitting axes stride list scratch a e =
     let p = either (wrongLength (length list) (voxels axes * stride)) (wrongLength (length scratch) (voxels axes * stride)) .0 e in
     record {
@@ -103,7 +103,7 @@ abbrev axesOf : ℕ → ℕ → ℕ → Axes
 axesOf w h d = record { width = w; height = h; depth = d }
 
 pub half-accepted : lightBlurRefusal (axesOf 1 1 1) (half32 ∷ []) (zero32 ∷ []) ≡ 0
-unfolding lightBlurRefusal firstOf badAxes wrongLists badLights some within ofBits ofFields odd neg le lt eq
+unfolding lightBlurRefusal firstOf badAxes wrongBlurLists badLights some within ofBits ofFields odd neg le lt eq
 half-accepted = refl
 
 pub half-blurred : lightBlurOf (half32 ∷ []) 1 1 1 ≡ lit 0x3e800000 ∷ []
@@ -111,7 +111,7 @@ unfolding lightBlurOf squareAt meanAt meanIn around along fold tab ofBits ofFiel
 half-blurred = refl
 
 pub pair-accepted : lightBlurRefusal (axesOf 2 1 1) (one32 ∷ zero32 ∷ []) (zero32 ∷ zero32 ∷ []) ≡ 0
-unfolding lightBlurRefusal firstOf badAxes wrongLists badLights some within ofBits ofFields odd neg le lt eq
+unfolding lightBlurRefusal firstOf badAxes wrongBlurLists badLights some within ofBits ofFields odd neg le lt eq
 pair-accepted = refl
 
 pub pair-blurred : lightBlurOf (one32 ∷ zero32 ∷ []) 2 1 1 ≡ lit 0x3e800000 ∷ lit 0x3e800000 ∷ []

@@ -2,7 +2,7 @@
 ghost use mathlib.Core.Path.{_≡_};
 ghost use Prim.Native.Nat.{_≤_};
 ghost use Rattle.grid.specs.Grid.{AxesWithin};
-ghost use Rattle.blurs.specs.Blurs.{LightBlurred, CoefficientsBlurred, lightBlurRefusal, coefficientBlurRefusal, wrongLists};
+ghost use Rattle.blurs.specs.Blurs.{LightBlurred, CoefficientsBlurred, lightBlurRefusal, coefficientBlurRefusal, wrongBlurLists};
 use grid::Axes;
 
 // Light: scratch gets the light as it was, and the light the square of its 3×3×3 mean. Answers 0, or 1, 3 or 13, and then writes nothing.
@@ -64,7 +64,7 @@ fn coefficient_refusal(axes: Axes, volume: &[f32], scratch: &[f32]) -> u32
 // Whether one of the two lists does not have `stride` numbers for each voxel.
 fn wrong_lists(axes: Axes, stride: usize, list: &[f32], scratch: &[f32]) -> bool
     requires { ⌜ AxesWithin axes × (stride ≤ 16) ⌝ }
-    ensures { λ r. ⌜ r ≡ wrongLists axes stride (now (list .entry)) (now (scratch .entry)) ⌝ }
+    ensures { λ r. ⌜ r ≡ wrongBlurLists axes stride (now (list .entry)) (now (scratch .entry)) ⌝ }
 {
     let n = grid::inner::voxel_count(axes) * stride;
     (list.len() != n) | (scratch.len() != n)

@@ -4,30 +4,30 @@ use mathlib.Core.Path.{_≡_, refl, sym, ap, _∙_, subst}
 use mathlib.Core.Logic.{_⊎_, inl, inr}
 use Prim.Native.Nat.{ℕ, zero, suc, _+_, _-_, _*_, _/_, _%_, _^_, _≤_, _<_, zero-le, compare}
 use mathlib.Core.Bool.{Bool, true, false, cond, false≢true}
-use native.Mathlib.Nat.{le-refl, le-trans, le-of-eq, le-of-lt, lt-irrefl, lt-of-lt-of-le, lt-of-le-of-lt, lt-of-not-le, mul-one, one-mul, zero-mul, mul-comm, mul-assoc, mul-left-comm, mul-right-comm, mul-mul-mul-comm, add-mul, mul-add, mul-le-mul, mul-le-mul-right, mul-lt-mul-of-pos-right, le-of-mul-le-mul-right, mul-pos, zero-lt-suc, eq-zero-or-pos, div-div-eq-div-mul, div-lt-iff-lt-mul, le-div-iff-mul-le, le-add-right, le-add-left}
+use native.Mathlib.Nat.{le-refl, le-trans, le-of-eq, le-of-lt, lt-irrefl, lt-of-lt-of-le, lt-of-le-of-lt, lt-of-not-le, mul-one, one-mul, zero-mul, mul-comm, mul-assoc, mul-left-comm, mul-right-comm, mul-mul-mul-comm, mul-le-mul, mul-le-mul-right, mul-lt-mul-of-pos-right, le-of-mul-le-mul-right, mul-pos, zero-lt-suc, eq-zero-or-pos, div-lt-iff-lt-mul, le-div-iff-mul-le, le-add-right, le-add-left}
 use native.Mathlib.Decide.{decLe}
 use native.Mathlib.Omega.{arith}
 use lib.IntN.{ℤ}
 use lib.Dec.{T, ltb, eqb, lit<}
 use borrow.Author.Tests.{ne-eqb, ltb-true}
 use lib.Pow.{pow-pos, pow-mono, pow-add}
-use lib.Ieee.{Float, nan, inf, fin, binary32, up, down, unlike, size, units, odd, round, add, mul, div, lt, fits, isNan, ofBits}
+use lib.Ieee.{Float, nan, inf, fin, binary32, up, down, unlike, size, units, odd, round, add, mul, div, lt, fits, ofBits}
 use lib.Ieee.Digits.{size-reaches, back}
-use lib.Ieee.Fits.{up-pos, down-pos, round-is, mul-fits, add-fits}
+use lib.Ieee.Fits.{down-pos, round-is, mul-fits, add-fits}
 use lib.Ieee.Exact.{HasValue, odd-sign}
-use lib.Ieee.Nearest.{closest, closest-mono, nearest-ge}
+use lib.Ieee.Nearest.{closest-mono, nearest-ge}
 use lib.Ieee.Order.{drop, kept}
 use lib.Ieee.Scale.{finite}
 use lib.Ieee.Positive.{first-pos}
 use Rattle.names.specs.Bits.{zero32}
 use Rattle.names.specs.Numbers.{thinLimit}
-use Rattle.floats.specs.Root.{rootOf, count}
+use Rattle.floats.specs.Root.{rootOf}
 use Rattle.floats.specs.RootLaws.{root-square}
-use Rattle.floats.specs.RootLaws.Units.{Spread, fits-spread, counted}
+use Rattle.floats.specs.RootLaws.Units.{fits-spread, counted}
 use Rattle.floats.specs.OrderLaws.{lt-transitive}
 use Rattle.vectors.specs.declared.Vec3.{Vec3}
 use Rattle.vectors.specs.Vectors.{dotV, divV, lengthV, normalV}
-use Rattle.bounds.specs.Bounds.{AtMost, Within, EachAtMost}
+use Rattle.bounds.specs.Bounds.{Within, EachAtMost}
 use Rattle.bounds.specs.BoundsLaws.{closest-one, round-at-most}
 
 -- ---- what a fraction rounds to, in units of 2 ^ -149

@@ -1,7 +1,7 @@
 -- How the operations on vectors keep their components within bounds n * 2 ^ k. Each law is `BoundsLaws`' law at x, y and z. Assumes nothing.
-use mathlib.Core.Path.{_≡_, refl, sym, ap, _∙_, subst}
+use mathlib.Core.Path.{_≡_}
 use Prim.Native.Nat.{ℕ, _+_, _*_, _^_, _≤_, _<_}
-use native.Mathlib.Nat.{le-trans, lt-of-le-of-lt, mul-le-mul-right}
+use native.Mathlib.Nat.{lt-of-le-of-lt, mul-le-mul-right}
 use native.Mathlib.Omega.{arith}
 use mathlib.Core.Bool.{false}
 use lib.Ieee.{Float, isNan}

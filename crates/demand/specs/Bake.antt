@@ -5,7 +5,7 @@ use Prim.Native.Nat.{ℕ}
 use lib.Ieee.{Float}
 use Rattle.names.specs.Numbers.{voxelCost}
 use Rattle.spread.specs.Spread.{Stage, Bake, Called, call}
-use Rattle.marks.specs.Marks.{isActive}
+use Rattle.marks.specs.Marks.{isMarked}
 use Rattle.ends.specs.Ends.{ambientAt, meanOver}
 use Rattle.gather.specs.Gather.{GatherInput, gatherOf, gatheredOf, costOf}
 use Rattle.intake.specs.Intake.{BakeInput, voxelNumbers, voxelCount, bakeRefusal}
@@ -18,7 +18,7 @@ bakeOf b =
     record {
       count = voxelCount b;
       size = voxelNumbers;
-      active = isActive (b .active);
+      active = isMarked (b .active);
       cost = costOf (gatherInput b);
       most = voxelCost;
       ambient = ambientAt (b .ambient) (b .lights);

@@ -18,11 +18,11 @@ use Rattle.lists.specs.Fold.{fold}
 use Rattle.vectors.specs.Vectors.{addV, mulV, scaleV, dotV, largerV, clampOf, lerpV}
 use Rattle.floats.specs.Choice.{largerOf, smallerOf}
 use Rattle.scan.specs.Nearest.{nearestOf, nearestTo}
-use Rattle.harmonics.specs.Harmonics.{addedTo, irradianceOf, raisedOf, raisedV, flooredOf, luminanceOf, shortfallOf, blendedOf, blendedV}
+use Rattle.harmonics.specs.Harmonics.{addedTo, irradianceOf, raisedOf, raisedV, flooredOf, luminanceOf, shortfallOf, blendedEach, blendedV}
 use Rattle.gather.specs.Gather.{settingOf, incomingBy, gatheredAlong, gatheringOf, voxelOf, finishedOf, sixteenOf, gatheredOf}
 use Rattle.gather.specs.GatherLaws.{cost-of-nothing}
 use Rattle.names.specs.Bits.{one32}
-use Rattle.marks.specs.Marks.{isActive}
+use Rattle.marks.specs.Marks.{isMarked}
 use Rattle.ends.specs.Ends.{ambientVoxel, ambientAt}
 use Rattle.spread.specs.Demand.{Fair}
 use Rattle.spread.specs.Holds.{no-call-refused, refusals-zero}
@@ -37,7 +37,7 @@ use Rattle.demand.specs.Lasting.{GathersWithin, bake-lasts}
 -- ---- no call is refused
 
 gathers-within : GathersWithin three
-unfolding badCoefficients some within gatheredOf voxelOf gatheringOf fold gatheredAlong incomingBy nearestOf nearestTo settingOf finishedOf sixteenOf addedTo irradianceOf raisedOf raisedV flooredOf luminanceOf shortfallOf blendedOf blendedV largerOf smallerOf scaleV addV mulV lerpV dotV largerV clampOf ofBits ofInt Ieee.add Ieee.sub Ieee.mul Ieee.div Ieee.neg Ieee.le Ieee.lt Ieee.eq Ieee.isNan
+unfolding badCoefficients some within gatheredOf voxelOf gatheringOf fold gatheredAlong incomingBy nearestOf nearestTo settingOf finishedOf sixteenOf addedTo irradianceOf raisedOf raisedV flooredOf luminanceOf shortfallOf blendedEach blendedV largerOf smallerOf scaleV addV mulV lerpV dotV largerV clampOf ofBits ofInt Ieee.add Ieee.sub Ieee.mul Ieee.div Ieee.neg Ieee.le Ieee.lt Ieee.eq Ieee.isNan
 gathers-within zero h = refl
 gathers-within (suc zero) h = refl
 gathers-within (suc (suc zero)) h = refl
@@ -70,7 +70,7 @@ agrees =
       cost = λ i h. cost-of-nothing (gatherInput three) i refl;
     }
   where
-    all-active : (i : ℕ) → i < 3 → isActive (three .active) i ≡ true
+    all-active : (i : ℕ) → i < 3 → isMarked (three .active) i ≡ true
     all-active zero h = refl
     all-active (suc zero) h = refl
     all-active (suc (suc zero)) h = refl
@@ -134,5 +134,5 @@ figure-first =
 
 -- what is gathered for voxel 0 is not what it holds before: its first number is not ambient's 1
 pub gathered-differs : gatheredOf (gatherInput three) 0 ≡ ambientAt (three .ambient) (three .lights) 0 → ⊥
-unfolding gatheredOf voxelOf gatheringOf fold gatheredAlong incomingBy nearestOf nearestTo settingOf finishedOf sixteenOf addedTo irradianceOf raisedOf raisedV flooredOf luminanceOf shortfallOf blendedOf blendedV largerOf smallerOf scaleV addV mulV lerpV dotV largerV clampOf ofBits ofInt Ieee.add Ieee.sub Ieee.mul Ieee.div Ieee.neg Ieee.le Ieee.lt Ieee.eq Ieee.isNan ambientVoxel
+unfolding gatheredOf voxelOf gatheringOf fold gatheredAlong incomingBy nearestOf nearestTo settingOf finishedOf sixteenOf addedTo irradianceOf raisedOf raisedV flooredOf luminanceOf shortfallOf blendedEach blendedV largerOf smallerOf scaleV addV mulV lerpV dotV largerV clampOf ofBits ofInt Ieee.add Ieee.sub Ieee.mul Ieee.div Ieee.neg Ieee.le Ieee.lt Ieee.eq Ieee.isNan ambientVoxel
 gathered-differs e = false≢true (ap (λ (l : List Float). Ieee.eq (getD l 0 nan) one32) e)

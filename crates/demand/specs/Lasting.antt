@@ -18,7 +18,7 @@ use Rattle.lists.specs.Fold.{length-tab}
 use Rattle.bounds.specs.BoundsLaws.{at-most-up, at-most-of-test, test-of-at-most, colour-value, coefficient-value}
 use Rattle.limits.specs.Some.{some}
 use Rattle.limits.specs.Limits.{within, outside, badColour, badAmbient, badLight, badSky, badMask, badLights, badCoefficients}
-use Rattle.limits.specs.LimitsLaws.{either, three, within-between, vector-row, lights-row}
+use Rattle.limits.specs.LimitsLaws.{either, any-of-three, within-between, vector-row, lights-row}
 use Rattle.limits.specs.declared.Ambient.{Ambient}
 use Rattle.means.specs.Box.{meanOf}
 use Rattle.spread.specs.Spread.{Stage, stage, Walked, laid, replaced, filled, started, someActive, ended, accepted, call}
@@ -30,7 +30,7 @@ use Rattle.ends.specs.EndsLaws.{length-ambient}
 use Rattle.gather.specs.Gather.{gatheredOf}
 use Rattle.gather.specs.GatherLaws.{length-gathered}
 use Rattle.intake.specs.Intake.{BakeInput, voxelNumbers, voxelCount, badLighting, badVolume, badContents}
-use Rattle.intake.specs.IntakeLaws.{Passed, Fits, fits, none-refused, still-passed}
+use Rattle.intake.specs.IntakeLaws.{BakePassed, Fits, fits, none-refused, still-passed}
 use Rattle.demand.specs.Bake.{gatherInput, bakeOf}
 use Rattle.demand.specs.Calls.{accepted-call}
 
@@ -86,7 +86,7 @@ ambient-within : (a : Ambient) (light : Float) → badAmbient a ≡ false → wi
 unfolding badAmbient badCoefficients some ambientVoxel
 ambient-within a light h l =
     let p = either _ (badColour (a .c3)) .0 h in
-    let q = three (badColour (a .c0)) (badColour (a .c1)) (badColour (a .c2)) .0 (p .0) in
+    let q = any-of-three (badColour (a .c0)) (badColour (a .c1)) (badColour (a .c2)) .0 (p .0) in
     let c₀ = vector-row colourLimit (a .c0) .0 (q .0) in
     let c₁ = vector-row colourLimit (a .c1) .0 (q .1) in
     let c₂ = vector-row colourLimit (a .c2) .0 (q .2) in
@@ -147,7 +147,7 @@ module _ (b : BakeInput) (gathers : GathersWithin b) where
   unfolding badVolume
   good-volume v p n h = rw (h, and-false _) refl
 
-  module _ (s : Stage Float) (a : ℕ) (p : Passed b s a) where
+  module _ (s : Stage Float) (a : ℕ) (p : BakePassed b s a) where
     start-good : s .progress < voxelCount b → Good b (started (bakeOf b) (s .progress) (s .volume))
     unfolding filled badContents badVolume badLighting badCoefficients
     start-good h = go (s .progress) refl
@@ -162,11 +162,11 @@ module _ (b : BakeInput) (gathers : GathersWithin b) where
               within =
                   none-laid (outside coefficientLimit) (ambientAt (b .ambient) (b .lights)) (voxelCount b) 0
                   (λ j l. ambient-within (b .ambient) (getD (b .lights) j nan)
-                  (three (badLight (b .light)) (badAmbient (b .ambient)) (badSky (b .sky)) .0 (p .lighting) .1)
-                  (lights-row (b .lights) .0 (three (badMask (b .active)) (badLights (b .lights)) _ .0 (p .contents) .1) j (omega (arith, f .lights))));
+                  (any-of-three (badLight (b .light)) (badAmbient (b .ambient)) (badSky (b .sky)) .0 (p .lighting) .1)
+                  (lights-row (b .lights) .0 (any-of-three (badMask (b .active)) (badLights (b .lights)) _ .0 (p .contents) .1) j (omega (arith, f .lights))));
             }
         go (suc q) e =
-            let c = three (badMask (b .active)) (badLights (b .lights)) _ .0 (p .contents) .2 in
+            let c = any-of-three (badMask (b .active)) (badLights (b .lights)) _ .0 (p .contents) .2 in
             rw (ne-eqb (suc q) 0 (λ z. omega arith))
             (record {
               long = f .volume;
@@ -224,7 +224,7 @@ module _ (b : BakeInput) (gathers : GathersWithin b) where
           volume = fits b s a p .volume;
           scratch = fits b s a p .scratch;
           within = fits b s a p .progress;
-          good = three (badMask (b .active)) (badLights (b .lights)) _ .0 (p .contents) .2;
+          good = any-of-three (badMask (b .active)) (badLights (b .lights)) _ .0 (p .contents) .2;
         }))
         (λ l.
         let w = walks (bakeOf b) (voxelCount b - s .progress) (s .progress) a (started (bakeOf b) (s .progress) (s .volume)) in
@@ -233,7 +233,7 @@ module _ (b : BakeInput) (gathers : GathersWithin b) where
         (eq-or-lt-of-le (fits b s a p .progress))
 
 -- the next call is not refused, whatever its allowance from 384 on, where what the gather writes lies within ±2^64 whenever some call is accepted
-pub bake-lasts : (b : BakeInput) → ((s : Stage Float) (a : ℕ) → Passed b s a → GathersWithin b) → Lasts (bakeOf b)
+pub bake-lasts : (b : BakeInput) → ((s : Stage Float) (a : ℕ) → BakePassed b s a → GathersWithin b) → Lasts (bakeOf b)
 bake-lasts b gathers s a next e h =
     let p = none-refused b s a .0 e in
     let f = fits b s a p in

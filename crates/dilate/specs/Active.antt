@@ -8,7 +8,7 @@ use Rattle.lists.specs.Fold.{tab}
 use Rattle.lists.specs.Any.{any}
 use Rattle.grid.specs.declared.Axes.{Axes}
 use Rattle.grid.specs.Grid.{voxels, indexOf, xOf, yOf, zOf}
-use Rattle.marks.specs.Marks.{isActive}
+use Rattle.marks.specs.Marks.{isMarked}
 
 -- how far a voxel may lie from an occupied one on an axis
 abbrev pub reach : ℕ
@@ -24,7 +24,7 @@ someVoxel axes f = any (λ z. any (λ y. any (λ x. f x y z) (axes .width) 0) (a
 
 -- voxel (x, y, z) is active
 unfoldable pub activeIn : Axes → List ℕ → ℕ → ℕ → ℕ → Bool
-activeIn axes occupied x y z = someVoxel axes (λ i j k. isActive occupied (indexOf axes i j k) && (withinReach i x && (withinReach j y && withinReach k z)))
+activeIn axes occupied x y z = someVoxel axes (λ i j k. isMarked occupied (indexOf axes i j k) && (withinReach i x && (withinReach j y && withinReach k z)))
 
 -- entry i of the active mask
 unfoldable pub activeEntry : Axes → List ℕ → ℕ → ℕ

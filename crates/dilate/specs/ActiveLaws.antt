@@ -13,7 +13,7 @@ use Rattle.lists.specs.Fold.{length-tab, getD-tab}
 use Rattle.lists.specs.Any.{any-in, any-out}
 use Rattle.grid.specs.declared.Axes.{Axes}
 use Rattle.grid.specs.Grid.{voxels, indexOf, xOf, yOf, zOf}
-use Rattle.marks.specs.Marks.{isActive}
+use Rattle.marks.specs.Marks.{isMarked}
 use Rattle.dilate.specs.Active.{withinReach, activeIn, activeEntry, activeOf}
 
 -- An occupied voxel (i, j, k) of the grid that lies within 2 of (x, y, z) on every axis
@@ -41,9 +41,9 @@ within-in a b p q = and-both (le-leb _ _ p) (le-leb _ _ q)
 module _ (axes : Axes) (occupied : List ℕ) where
   -- a voxel that passes the definition's test
   found : (x y z i j k : ℕ) → i < axes .width → j < axes .height → k < axes .depth
-      → isActive occupied (indexOf axes i j k) && (withinReach i x && (withinReach j y && withinReach k z)) ≡ true → NearOccupied axes occupied x y z
+      → isMarked occupied (indexOf axes i j k) && (withinReach i x && (withinReach j y && withinReach k z)) ≡ true → NearOccupied axes occupied x y z
   found x y z i j k li lj lk e =
-      let p : (isActive occupied (indexOf axes i j k) ≡ true) × (withinReach i x && (withinReach j y && withinReach k z) ≡ true) = both e in
+      let p : (isMarked occupied (indexOf axes i j k) ≡ true) × (withinReach i x && (withinReach j y && withinReach k z) ≡ true) = both e in
       let q : (withinReach i x ≡ true) × (withinReach j y && withinReach k z ≡ true) = both (p .1) in
       let r : (withinReach j y ≡ true) × (withinReach k z ≡ true) = both (q .1) in
       record {
@@ -79,7 +79,7 @@ module _ (axes : Axes) (occupied : List ℕ) where
   unfolding activeOf
   active-length = length-tab _ (voxels axes) 0
 
-  pub active-at : (i : ℕ) → i < voxels axes → isActive (activeOf axes occupied) i ≡ activeIn axes occupied (xOf axes i) (yOf axes i) (zOf axes i)
+  pub active-at : (i : ℕ) → i < voxels axes → isMarked (activeOf axes occupied) i ≡ activeIn axes occupied (xOf axes i) (yOf axes i) (zOf axes i)
   unfolding activeOf activeEntry
   active-at i h = rw (getD-tab (activeEntry axes occupied) (voxels axes) 0 i 0 h, zero-add i) (bit (activeIn axes occupied (xOf axes i) (yOf axes i) (zOf axes i)))
     where

@@ -3,7 +3,7 @@ use mathlib.Core.Bool.{Bool, cond}
 use mathlib.Core.List.{List}
 use Prim.Native.Nat.{ℕ, _+_, _-_, _*_, _/_, _%_, min}
 use Rattle.lists.specs.Any.{any}
-use Rattle.marks.specs.Marks.{isActive}
+use Rattle.marks.specs.Marks.{isMarked}
 use Rattle.dilate.specs.Active.{reach}
 
 -- the first coordinate within 2 of x, which is 0 where x is less; and the one past the last on an axis of n
@@ -15,7 +15,7 @@ pastWithin x n = min (x + (reach + 1)) n
 
 -- whether a row has an occupied voxel from f to t, a plane from g to u, and a box from m to n
 abbrev pub hasCell : List ℕ → ℕ → ℕ → Bool
-hasCell occupied row x = isActive occupied (row + x)
+hasCell occupied row x = isMarked occupied (row + x)
 
 unfoldable pub rowHas : List ℕ → ℕ → ℕ → ℕ → Bool
 rowHas occupied row f t = any (hasCell occupied row) (t - f) f

@@ -13,7 +13,7 @@ use Rattle.spread.specs.Spread.{laid}
 use Rattle.grid.specs.declared.Axes.{Axes}
 use Rattle.limits.specs.declared.Ambient.{Ambient}
 use Rattle.means.specs.Box.{coefficientBlurOf}
-use Rattle.marks.specs.Marks.{isActive}
+use Rattle.marks.specs.Marks.{isMarked}
 
 -- the sixteen numbers of a voxel that is not baked, by its light
 unfoldable pub ambientVoxel : Ambient → Float → List Float
@@ -33,7 +33,7 @@ filledOf a lights = laid (ambientAt a lights) (length lights) 0
 
 -- "if any voxel is active", of the whole mask
 abbrev pub anyActive : List ℕ → Bool
-anyActive active = any (isActive active) (length active) 0
+anyActive active = any (isMarked active) (length active) 0
 
 -- the mean of the sixteen numbers a voxel
 abbrev pub meanOver : Axes → List Float → List Float

@@ -4,7 +4,7 @@ use mathlib.Core.List.{List}
 use Prim.Native.Nat.{ℕ, _<_, _*_}
 use lib.ListN.{length}
 use lib.Ieee.{Float}
-use Rattle.spread.specs.Spread.{partOf}
+use Rattle.spread.specs.Spread.{voxelPart}
 use Rattle.spread.specs.Contents.{length-laid, part-of-laid}
 use Rattle.limits.specs.declared.Ambient.{Ambient}
 use Rattle.ends.specs.Ends.{ambientVoxel, ambientAt, filledOf}
@@ -17,6 +17,6 @@ pub length-filled : (a : Ambient) (lights : List Float) → length (filledOf a l
 unfolding filledOf
 length-filled a lights = length-laid 16 (ambientAt a lights) (λ i. length-ambient a _) (length lights) 0
 
-pub filled-voxel : (a : Ambient) (lights : List Float) (i : ℕ) → i < length lights → partOf 16 i (filledOf a lights) ≡ ambientAt a lights i
+pub filled-voxel : (a : Ambient) (lights : List Float) (i : ℕ) → i < length lights → voxelPart 16 i (filledOf a lights) ≡ ambientAt a lights i
 unfolding filledOf
 filled-voxel a lights i h = part-of-laid 16 (ambientAt a lights) (λ j. length-ambient a _) i (length lights) h

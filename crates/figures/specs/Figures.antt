@@ -6,7 +6,7 @@ use Prim.Native.Nat.{ℕ, zero, suc}
 use lib.ListN.{replicate}
 use lib.Ieee as Ieee
 use lib.Ieee.{Float, binary32, toBits}
-use Rattle.names.specs.Bits.{lit, zero32, half32, one32, inf32}
+use Rattle.names.specs.Bits.{lit, zero32, quarter32, half32, one32, inf32}
 use Rattle.names.specs.Refusals.{firstOf, unlessRefused}
 use Rattle.names.specs.Scene.{Scene, sceneOf}
 use Rattle.lists.specs.Fold.{fold, tab}
@@ -29,11 +29,11 @@ use Rattle.scan.specs.Hits.{before, insertOf, withMeet, hitsOf}
 use Rattle.scan.specs.Transmittance.{passOf, transmittanceOf}
 use Rattle.rays.specs.Rays.{meetRefusal, testValues, meetValues, wrongScratch, transmittanceRefusal}
 use Rattle.means.specs.Box.{lightBlurOf, squareAt, meanAt, meanIn, around, along}
-use Rattle.blurs.specs.Blurs.{wrongLists, lightBlurRefusal}
+use Rattle.blurs.specs.Blurs.{wrongBlurLists, lightBlurRefusal}
 use Rattle.samples.specs.Samples.{smallestEdgeOf, targetOf, countOf, sampleCount, sideFrom, sideOf, shareOf, pointOf, cellOf, cellOn, indexWithin, sampleCell}
 use Rattle.occupy.specs.Occupied.{sampledIn, touches, occupiedIn, occupiedEntry, occupiedOf}
 use Rattle.dilate.specs.Active.{activeIn, activeEntry, activeOf}
-use Rattle.marks.specs.Marks.{activeCount}
+use Rattle.marks.specs.Marks.{markedCount}
 use Rattle.masks.specs.Masks.{wrongMasks, masksRefusal, activeMaskOf, markedOf}
 use Rattle.lookup.specs.Place.{clamped, clampedCell, betweenOf, cellsFrom, cellsOf, blendOf, blendedOf}
 use Rattle.lookup.specs.Lookup.{badLightCells, lightAtOf}
@@ -45,9 +45,6 @@ use Rattle.demand.specs.Figure.{figure-384, figure-448, figure-383}
 -- the bits of floats
 abbrev pub bits : List Float → List ℕ
 bits l = map (toBits binary32) l
-
-abbrev pub quarter32 : Float
-quarter32 = lit 0x3e800000
 
 -- ---- rays: "Triangle Q is (0,0,0),(1,0,0),(0,1,0); direction (0,0,−1)."
 
@@ -61,8 +58,8 @@ unfoldable pub downFrom : Float → Float → Float → Ray
 downFrom a b c = record { origin = vec a b c; direction = vec zero32 zero32 (lit 0xbf800000); shortest = zero32; longest = inf32 }
 
 -- refusal, hit or not, place, distance, u, v
-unfoldable pub met : Ray → List ℕ
-met ray = let a = meetValues ray triangleQ in a .number ∷ a .hit ∷ a .place ∷ bits (a .t ∷ a .u ∷ a .v ∷ [])
+unfoldable pub meetAnswer : Ray → List ℕ
+meetAnswer ray = let a = meetValues ray triangleQ in a .number ∷ a .hit ∷ a .place ∷ bits (a .t ∷ a .u ∷ a .v ∷ [])
 
 -- so many sheets of Q, each of the second of two materials, which is translucent at 0.5; the first is opaque
 unfoldable pub stacked : ℕ → List Float
@@ -111,8 +108,8 @@ masked =
 
 -- ---- light blur: refusal, then the light after the call
 
-unfoldable pub blurred : Axes → List Float → List Float → List ℕ
-blurred axes light scratch =
+unfoldable pub blurAnswer : Axes → List Float → List Float → List ℕ
+blurAnswer axes light scratch =
     let r = lightBlurRefusal axes light scratch in
     r ∷ bits (unlessRefused r (lightBlurOf light (axes .width) (axes .height) (axes .depth)) light)
 
@@ -125,32 +122,32 @@ looked x =
 
 -- ---- bake: "3×1×1 all active, no triangles", called with each allowance in turn: refusals, rays, then the progress at the end
 
-unfoldable pub baked : List ℕ → List ℕ
-baked allowances =
+unfoldable pub bakeAnswers : List ℕ → List ℕ
+bakeAnswers allowances =
     let r = run (bakeOf three) allowances begun in
     r .refusals ++ (r .rays ++ (r .stage .progress ∷ []))
 
 -- those that are computed, and those that follow from the laws of a spread bake
 unfoldable pub computed : List (List ℕ)
 computed =
-    met (downFrom quarter32 quarter32 one32)
-    ∷ met (downFrom half32 half32 one32)
-    ∷ met (downFrom half32 (lit 0x3f400000) one32)
-    ∷ met (downFrom quarter32 quarter32 (lit 0xbf800000))
+    meetAnswer (downFrom quarter32 quarter32 one32)
+    ∷ meetAnswer (downFrom half32 half32 one32)
+    ∷ meetAnswer (downFrom half32 (lit 0x3f400000) one32)
+    ∷ meetAnswer (downFrom quarter32 quarter32 (lit 0xbf800000))
     ∷ passing 0
     ∷ passing 13
     ∷ passing 14
     ∷ sampled
     ∷ masked
-    ∷ blurred (axesOf 1 1 1) (half32 ∷ []) (zero32 ∷ [])
-    ∷ blurred (axesOf 2 1 1) (one32 ∷ zero32 ∷ []) (zero32 ∷ zero32 ∷ [])
+    ∷ blurAnswer (axesOf 1 1 1) (half32 ∷ []) (zero32 ∷ [])
+    ∷ blurAnswer (axesOf 2 1 1) (one32 ∷ zero32 ∷ []) (zero32 ∷ zero32 ∷ [])
     ∷ looked (lit 0xbe800000)
     ∷ looked half32
     ∷ looked (lit 0x3fe00000)
     ∷ []
 
 unfoldable pub bakes : List (List ℕ)
-bakes = baked (384 ∷ 384 ∷ 384 ∷ []) ∷ baked (448 ∷ 448 ∷ []) ∷ baked (383 ∷ []) ∷ []
+bakes = bakeAnswers (384 ∷ 384 ∷ 384 ∷ []) ∷ bakeAnswers (448 ∷ 448 ∷ []) ∷ bakeAnswers (383 ∷ []) ∷ []
 
 unfoldable pub answers : List (List ℕ)
 answers = computed ++ bakes
@@ -171,12 +168,12 @@ computed-figures : computed
     ∷ (0 ∷ 0x3f000000 ∷ [])
     ∷ (0 ∷ 0x3f800000 ∷ [])
     ∷ []
-unfolding computed met passing sampled masked blurred looked triangleQ pointsQ downFrom stacked sheets upToCorner firstOf unlessRefused fold tab any magnitudeOf largerOf smallerOf toward rootOf addV subV scaleV dotV crossV lengthV edgesOf within upTo outsideV badAxes badCorners badEdges wrongShare wrongScene tooMany badPoints badTriangle badKinds badFrom badUses badMaterials badRay badLights some absentOf solvedOf judgedOf meetOf triangleAt before insertOf withMeet hitsOf passOf transmittanceOf meetRefusal testValues meetValues wrongScratch transmittanceRefusal lightBlurOf squareAt meanAt meanIn around along wrongLists lightBlurRefusal smallestEdgeOf targetOf countOf sideFrom sideOf shareOf pointOf cellOn indexWithin cellOf sampleCell sampledIn touches occupiedIn occupiedEntry occupiedOf activeIn activeEntry activeOf activeCount wrongMasks masksRefusal clamped clampedCell betweenOf cellsFrom cellsOf blendOf blendedOf badLightCells lightAtOf Ieee.ofBits Ieee.ofFields Ieee.odd Ieee.toBits Ieee.neg Ieee.le Ieee.lt Ieee.eq Ieee.isNan Ieee.add Ieee.sub Ieee.mul Ieee.div Ieee.ofInt Ieee.toUnsigned Ieee.round Ieee.sum Ieee.units Ieee.size Ieee.span Ieee.climb
+unfolding computed meetAnswer passing sampled masked blurAnswer looked triangleQ pointsQ downFrom stacked sheets upToCorner firstOf unlessRefused fold tab any magnitudeOf largerOf smallerOf toward rootOf addV subV scaleV dotV crossV lengthV edgesOf within upTo outsideV badAxes badCorners badEdges wrongShare wrongScene tooMany badPoints badTriangle badKinds badFrom badUses badMaterials badRay badLights some absentOf solvedOf judgedOf meetOf triangleAt before insertOf withMeet hitsOf passOf transmittanceOf meetRefusal testValues meetValues wrongScratch transmittanceRefusal lightBlurOf squareAt meanAt meanIn around along wrongBlurLists lightBlurRefusal smallestEdgeOf targetOf countOf sideFrom sideOf shareOf pointOf cellOn indexWithin cellOf sampleCell sampledIn touches occupiedIn occupiedEntry occupiedOf activeIn activeEntry activeOf markedCount wrongMasks masksRefusal clamped clampedCell betweenOf cellsFrom cellsOf blendOf blendedOf badLightCells lightAtOf Ieee.ofBits Ieee.ofFields Ieee.odd Ieee.toBits Ieee.neg Ieee.le Ieee.lt Ieee.eq Ieee.isNan Ieee.add Ieee.sub Ieee.mul Ieee.div Ieee.ofInt Ieee.toUnsigned Ieee.round Ieee.sum Ieee.units Ieee.size Ieee.span Ieee.climb
 computed-figures = refl
 
 bake-figures : bakes
     ≡ (0 ∷ 0 ∷ 0 ∷ 64 ∷ 64 ∷ 64 ∷ 3 ∷ []) ∷ (0 ∷ 0 ∷ 128 ∷ 64 ∷ 3 ∷ []) ∷ (10 ∷ 0 ∷ 0 ∷ []) ∷ []
-unfolding bakes baked
+unfolding bakes bakeAnswers
 bake-figures =
     rw (
       figure-384 .0,

@@ -1,17 +1,15 @@
 -- What a test `x != x` says of `isNan`, the NaN that 0.0 / 0.0 is, and the two choices. Assumes nothing.
 use mathlib.Core.Path.{_≡_, refl, sym, ap, _∙_, subst}
-use Prim.Native.Nat.{ℕ, zero, suc, _+_, _*_, _/_, _%_, _^_, _≤_, _<_}
+use Prim.Native.Nat.{ℕ, zero, suc, _+_, _/_, _%_, _^_, _≤_, _<_}
 use mathlib.Core.Bool.{Bool, true, false, not, cond, _||_}
 use native.Mathlib.Nat.{mod-lt, mod-mod}
 use lib.Dec.{T, leb, ltb, eqb, lit<, lt→ltb}
 use lib.Arith.{lt→nleb, le→nltb}
 use lib.Bits.{bitAnd, and-mask}
 use lib.Pow.{mod-mod-pow}
-use lib.Ieee as Ieee
 use lib.Ieee.{Float, nan, inf, fin, binary32, isNan, ne, lt, ofBits, toBits, div, fits, ofFields, odd, nanBits}
-use lib.Ieee.Compare.{differs-from-itself, nan-differs}
-use native.Mathlib.Omega.{arith}
-use lib.Ieee.Bits.{ofBits-toBits, toBits-ofBits, is-false, is-true, nanBits-is, nanBits-above}
+use lib.Ieee.Compare.{differs-from-itself}
+use lib.Ieee.Bits.{ofBits-toBits, is-false, is-true, nanBits-is, nanBits-above}
 use Rattle.floats.specs.Choice.{magnitudeOf, largerOf, smallerOf}
 
 pub no-number : nan ≡ div binary32 (ofBits binary32 0) (ofBits binary32 0)

@@ -1,10 +1,9 @@
 -- Which numbers are finite: those between two bounds, and the larger and the smaller of two. And of two equals, larger and smaller give the second. Assumes nothing.
 use mathlib.Core.Path.{_≡_, refl, sym, ap, _∙_, subst}
 use mathlib.Core.Bool.{Bool, true, false, cond, _||_, false≢true}
-use Prim.Native.Nat.{ℕ, _*_}
-use lib.Ieee.{Float, nan, inf, fin, up, down, isNan, lt, eq, le, neg}
+use lib.Ieee.{Float, nan, inf, fin, isNan, lt, eq, le, neg}
 use lib.Ieee.Scale.{finite}
-use Rattle.floats.specs.Choice.{largerOf, smallerOf, magnitudeOf}
+use Rattle.floats.specs.Choice.{largerOf, smallerOf}
 use Rattle.floats.specs.OrderLaws.{lt-asymmetric, lt-irreflexive, eq-not-lt, eq-symmetric, eq-numbers}
 
 pub finite-number : (x : Float) → finite x ≡ true → isNan x ≡ false

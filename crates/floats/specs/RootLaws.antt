@@ -4,23 +4,21 @@ pub mod Square
 pub mod Units
 pub mod Digits
 use mathlib.Core.Path.{_≡_, refl, sym, ap, _∙_, subst}
-use mathlib.Core.Logic.{_⊎_, inl, inr}
 use Prim.Native.Nat.{ℕ, zero, suc, _+_, _-_, _*_, _/_, _%_, _^_, _≤_, _<_}
-use mathlib.Core.Bool.{Bool, true, false, cond, _&&_}
+use mathlib.Core.Bool.{true, false, _&&_}
 use native.Mathlib.Nat.{le-trans, le-of-eq, le-antisymm, lt-irrefl, lt-trans, add-comm, lt-of-not-le, mul-le-mul-right, mul-lt-mul-of-pos-right, mul-right-comm, mul-assoc, mul-mul-mul-comm, mul-pos, zero-lt-suc, div-lt-iff-lt-mul}
 use native.Mathlib.Decide.{decLe}
 use native.Mathlib.Omega.{arith}
 use lib.IntN.{ℤ}
 use lib.Dec.{T, ltb, leb, eqb, ltb→lt}
-use lib.Pow.{pow-pos, pow-mono, pow-add}
+use lib.Pow.{pow-pos, pow-add}
 use lib.Ieee.{Float, nan, inf, fin, binary32, up, down, size, units, odd, fits, toBits, ofBits}
-use lib.Ieee.Fits.{and-r, down-pos, up-pos, odd-fits, cond-fits, inf-fits}
+use lib.Ieee.Fits.{and-r, down-pos, odd-fits, cond-fits, inf-fits}
 use lib.Ieee.Exact.{HasValue, units-val}
 use lib.Ieee.Bits.{ofBits-toBits}
 use Rattle.floats.specs.Root.{count, fours, closestRoot, Nearer, NearestRoot, RootOf, rootOf, rootOfUnits}
-use Rattle.floats.specs.RootParts.{Rounds}
-use Rattle.floats.specs.RootLaws.Units.{Spread, fits-spread, nearest-root}
-use Rattle.floats.specs.RootLaws.Digits.{Cut, cut-of}
+use Rattle.floats.specs.RootLaws.Units.{fits-spread, nearest-root}
+use Rattle.floats.specs.RootLaws.Digits.{cut-of}
 
 -- ---- it is nearest
 

@@ -1,11 +1,9 @@
 -- What floor and ceiling mean: the whole number next to x. And a floored number from 0 up and below 65,536 is whole, and the integer that it is loses nothing. Assumes nothing.
 pub mod Steps
 use mathlib.Core.Path.{_≡_, refl, sym, ap, _∙_, subst}
-use mathlib.Core.Logic.{_⊎_, inl, inr}
 use Prim.Native.Nat.{ℕ, zero, suc, _+_, _*_, _/_, _%_, _^_, _≤_, _<_}
 use mathlib.Core.Bool.{Bool, true, false, cond, _&&_, _||_, Bool·beq, false≢true}
 use native.Mathlib.Nat.{le-trans, le-of-eq, lt-of-not-le, mul-one, mul-right-comm, mul-lt-mul-of-pos-right, lt-of-mul-lt-mul-right, lt-of-lt-of-le, lt-of-le-of-lt, zero-mul, one-mul, add-mul, mul-assoc, mul-pos, zero-add, zero-div, mod-lt, div-mul-le-self, div-add-mod', div-lt-iff-lt-mul}
-use native.Mathlib.Decide.{decLe}
 use native.Mathlib.Omega.{arith}
 use borrow.Author.Tests.{ltb-true, ltb-false, lt-ltb, eq-eqb, eqb-true}
 use lib.IntN.{ℤ, pos, negsuc}
@@ -20,7 +18,7 @@ use lib.Pow.{pow-pos, pow-mono, pow-add}
 use lib.Ieee.Back.{round-whole, unsigned-back}
 use Rattle.names.specs.Bits.{lit, zero32}
 use Rattle.floats.specs.OrderLaws.{le-not-lt, lt-le-transitive}
-use Rattle.floats.specs.Whole.{step, toward, floorOf, ceilingOf, wholeOf, SmallWhole}
+use Rattle.floats.specs.Whole.{step, toward, floorOf, wholeOf, SmallWhole}
 use Rattle.floats.specs.WholeLaws.Steps.{step-whole, step-le, toward-of, round-neg}
 
 -- ---- the meaning

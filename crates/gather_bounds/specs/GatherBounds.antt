@@ -30,7 +30,7 @@ use Rattle.directions.specs.Rule.{unitsOf, isFinite}
 use Rattle.directions.specs.RuleLaws.{Small, number-small}
 use Rattle.grid.specs.Grid.{xOf, yOf, zOf, floatOf, edgesOf}
 use Rattle.limits.specs.Limits.{within, upTo, wrongScene, tooMany, badPoints, badMaterials, badDirection, badColour, badLight, badAmbient, badSky, badLights}
-use Rattle.limits.specs.LimitsLaws.{within-between, vector-row, either, three, points-row, materials-row, transmission-within, colour-within, sound, direction-row, sky-row, lights-row}
+use Rattle.limits.specs.LimitsLaws.{within-between, vector-row, either, any-of-three, points-row, materials-row, transmission-within, colour-within, sound, direction-row, sky-row, lights-row}
 use Rattle.limits.specs.declared.Light.{Light}
 use Rattle.limits.specs.declared.Ambient.{Ambient}
 use Rattle.triangle.specs.Places.{vecAt}
@@ -166,7 +166,7 @@ ambient-small : (a : Ambient) → badAmbient a ≡ false → AllAtMost 1 16 (amb
 unfolding badAmbient
 ambient-small a h =
     let p = either (badColour (a .c0) || badColour (a .c1) || badColour (a .c2)) (badColour (a .c3)) .0 h in
-    let q = three (badColour (a .c0)) (badColour (a .c1)) (badColour (a .c2)) .0 (p .0) in
+    let q = any-of-three (badColour (a .c0)) (badColour (a .c1)) (badColour (a .c2)) .0 (p .0) in
     record { c0 = each-colour (a .c0) (q .0); c1 = each-colour (a .c1) (q .1); c2 = each-colour (a .c2) (q .2); c3 = each-colour (a .c3) (p .1) }
 
 setting-small : (edges : Vec3) (l : Light) (a : Ambient) → badLight l ≡ false → badAmbient a ≡ false → ModestSetting (settingOf edges l a)

@@ -17,7 +17,7 @@ use Rattle.bounds.specs.Bounds.{AtMost, EachAtMost}
 use Rattle.bounds.specs.BoundsLaws.{at-most-up, at-most-finite, add-at-most, sub-at-most, mul-at-most, larger-at-most, clamp-at-most, zero-at-most}
 use Rattle.bounds.specs.VectorLaws.{neg-each, add-each, mul-each, scale-each, larger-each, dot-at-most}
 use Rattle.harmonics.specs.declared.Coefficients.{Coefficients}
-use Rattle.harmonics.specs.Harmonics.{zeroV, linearBasis, primaryWeight, addWeighted, projected, addedTo, irradianceOf, evaluatedAt, raisedV, raisedOf, floor32, luminanceOf, blendedV, blendedOf, shortfallOf, flooredOf}
+use Rattle.harmonics.specs.Harmonics.{zeroV, linearBasis, primaryWeight, addWeighted, projected, addedTo, irradianceOf, evaluatedAt, raisedV, raisedOf, floor32, luminanceOf, blendedV, blendedEach, shortfallOf, flooredOf}
 use Rattle.bounce.specs.Light.{facingOf, slantOf, sunlightOf, skylightOf, bouncedOf, reflectedOf}
 use Rattle.gather_bounds.specs.Each.{each-up, div-each, zero-each, taken-each, AllAtMost, all-up, taken-all, constant-basis-small, linear-basis-small, primary-weight-small, constant-irradiance-small, linear-irradiance-small, floor-small, red-small, green-small, blue-small, quarter-small, one-small, pi-least}
 
@@ -170,8 +170,8 @@ blended-each c a t h g k =
     let q = scale-each _ t 1 16 1 0 (lit< tt) (lit< tt) (scale-each a floor32 1 16 1 0 (lit< tt) (lit< tt) g floor-small) k in
     add-each _ _ 6144 1 18 (lit< tt) (lit< tt) p (each-up _ 1 16 1 18 (lit≤ tt) q)
 
-blended-all : (c a : Coefficients) (t : Float) → AllAtMost 3072 18 c → AllAtMost 1 16 a → AtMost 1 0 t → AllAtMost 6145 18 (blendedOf c a t)
-unfolding blendedOf
+blended-all : (c a : Coefficients) (t : Float) → AllAtMost 3072 18 c → AllAtMost 1 16 a → AtMost 1 0 t → AllAtMost 6145 18 (blendedEach c a t)
+unfolding blendedEach
 blended-all c a t h g k =
     record { c0 = blended-each (c .c0) (a .c0) t (h .c0) (g .c0) k; c1 = blended-each (c .c1) (a .c1) t (h .c1) (g .c1) k; c2 = blended-each (c .c2) (a .c2) t (h .c2) (g .c2) k; c3 = blended-each (c .c3) (a .c3) t (h .c3) (g .c3) k }
 
@@ -188,7 +188,7 @@ floored-all c a h g = go (Ieee.le least zero32) refl
     kept : AllAtMost 6145 18 c
     kept = all-up c 3072 18 6145 18 (lit≤ tt) h
 
-    go : (b : Bool) → Ieee.le least zero32 ≡ b → AllAtMost 6145 18 (cond b c (cond (Ieee.le least present) c (blendedOf c a (shortfallOf least present))))
+    go : (b : Bool) → Ieee.le least zero32 ≡ b → AllAtMost 6145 18 (cond b c (cond (Ieee.le least present) c (blendedEach c a (shortfallOf least present))))
     go true e = kept
     go false e =
         let l = floor-luminance (a .c0) (g .c0) in

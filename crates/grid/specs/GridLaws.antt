@@ -1,7 +1,7 @@
 -- What the definitions of a grid mean: index and coordinates are each other's inverse within the grid, an index lies below the
 -- number of voxels, and a grid within the limits has between 1 and 32,768 voxels.
-use mathlib.Core.Path.{_≡_, refl, sym, ap, _∙_}
-use Prim.Native.Nat.{ℕ, _+_, _*_, _/_, _%_, _<_, _≤_}
+use mathlib.Core.Path.{_≡_, _∙_}
+use Prim.Native.Nat.{ℕ, _+_, _*_, _/_, _<_, _≤_}
 use native.Mathlib.Omega.{arith}
 use native.Mathlib.Nat.{mul-le-mul, mod-lt, div-add-mod', div-lt-iff-lt-mul, mul-add-div-right, mul-add-mod-self-right, div-eq-of-lt, mod-eq-of-lt}
 use Rattle.names.specs.Numbers.{axisLimit, voxelLimit}

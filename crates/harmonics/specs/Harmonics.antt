@@ -83,8 +83,8 @@ luminanceOf c =
 unfoldable pub blendedV : Vec3 → Vec3 → Float → Vec3
 blendedV coefficient ambient t = lerpV coefficient (scaleV ambient floor32) t
 
-unfoldable pub blendedOf : Coefficients → Coefficients → Float → Coefficients
-blendedOf c a t =
+unfoldable pub blendedEach : Coefficients → Coefficients → Float → Coefficients
+blendedEach c a t =
     coefficients (blendedV (c .c0) (a .c0) t) (blendedV (c .c1) (a .c1) t) (blendedV (c .c2) (a .c2) t) (blendedV (c .c3) (a .c3) t)
 
 -- how far a luminance stands below the floor, 0..1
@@ -96,4 +96,4 @@ unfoldable pub flooredOf : Coefficients → Coefficients → Coefficients
 flooredOf c a =
     let least = luminanceOf (scaleV (a .c0) floor32) in
     let current = luminanceOf (c .c0) in
-    cond (Ieee.le least zero32) c (cond (Ieee.le least current) c (blendedOf c a (shortfallOf least current)))
+    cond (Ieee.le least zero32) c (cond (Ieee.le least current) c (blendedEach c a (shortfallOf least current)))

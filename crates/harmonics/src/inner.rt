@@ -1,6 +1,6 @@
 // What the gather computes of four coefficients. Each function is total; its contract is one equation.
 ghost use mathlib.Core.Path.{_≡_};
-ghost use Rattle.harmonics.specs.Harmonics.{addWeighted, projected, addedTo, raisedV, raisedOf, blendedV, irradianceOf, evaluatedAt, luminanceOf, blendedOf, flooredOf};
+ghost use Rattle.harmonics.specs.Harmonics.{addWeighted, projected, addedTo, raisedV, raisedOf, blendedV, irradianceOf, evaluatedAt, luminanceOf, blendedEach, flooredOf};
 use super::Coefficients;
 use vectors::Vec3;
 
@@ -109,7 +109,7 @@ fn blend_one(coefficient: Vec3, ambient: Vec3, t: f32) -> Vec3
 }
 
 fn blend(coefficients: Coefficients, ambient: Coefficients, t: f32) -> Coefficients
-    ensures { λ r. ⌜ r ≡ blendedOf coefficients ambient t ⌝ }
+    ensures { λ r. ⌜ r ≡ blendedEach coefficients ambient t ⌝ }
 {
     let c0 = blend_one(coefficients.c0, ambient.c0, t);
     let c1 = blend_one(coefficients.c1, ambient.c1, t);

@@ -6,13 +6,13 @@ use lib.ListN.{length}
 use lib.Ieee.{Float}
 use Rattle.spread.specs.Spread.{Stage}
 use Rattle.limits.specs.Limits.{wrongScene}
-use Rattle.intake.specs.Intake.{BakeInput, voxelCount, triangleCount, wrongLengths, wrongLists}
+use Rattle.intake.specs.Intake.{BakeInput, voxelCount, triangleCount, wrongLengths, wrongBakeLists}
 
 module _ (b : BakeInput) (s : Stage Float) where
   pub lists-row : {n : ℕ} {x y t : Bool} → n ≡ voxelCount b → x ≡ wrongScene (b .scene .points) (b .scene .uses) (b .scene .kinds) (b .scene .numbers)
       → y ≡ wrongLengths n (triangleCount b) (length (b .sky)) (length (b .active)) (length (b .lights)) (length (s .volume)) (length (s .scratch))
       (b .distances) (b .places)
       → x || y ≡ t
-      → wrongLists b s ≡ t
-  unfolding wrongLists
+      → wrongBakeLists b s ≡ t
+  unfolding wrongBakeLists
   lists-row e p q h = rw (← e, ← p, ← q) h

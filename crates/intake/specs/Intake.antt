@@ -85,8 +85,8 @@ module _ (b : BakeInput) where
   abbrev pub triangleCount : ℕ
   triangleCount = length (b .scene .uses)
 
-  unfoldable pub wrongLists : Stage Float → Bool
-  wrongLists s =
+  unfoldable pub wrongBakeLists : Stage Float → Bool
+  wrongBakeLists s =
       wrongScene (b .scene .points) (b .scene .uses) (b .scene .kinds) (b .scene .numbers)
       || wrongLengths voxelCount triangleCount (length (b .sky)) (length (b .active)) (length (b .lights)) (length (s .volume)) (length (s .scratch))
       (b .distances) (b .places)
@@ -96,7 +96,7 @@ module _ (b : BakeInput) where
   bakeRows s allowance =
       row 1 (badAxes (b .axes))
       ∷ row 2 (badGrid (b .corners) (b .axes))
-      ∷ row 3 (wrongLists s)
+      ∷ row 3 (wrongBakeLists s)
       ∷ row 4 (tooMany triangleCount (length (b .scene .kinds)))
       ∷ row 5 (badPoints (b .scene .points))
       ∷ row 6 (badMaterials (b .scene .uses) (b .scene .kinds) (b .scene .numbers))

@@ -14,14 +14,14 @@ use Rattle.names.specs.Scene.{Sound}
 use Rattle.spread.specs.Spread.{Stage}
 use Rattle.grid.specs.Grid.{AxesWithin}
 use Rattle.limits.specs.Limits.{badAxes, badGrid, wrongLength, tooMany, badPoints, badMaterials, pastCount, belowCost, badMask, badLights}
-use Rattle.limits.specs.LimitsLaws.{either, three, axes-row, sound}
-use Rattle.intake.specs.Intake.{BakeInput, skyNumbers, voxelNumbers, voxelCount, triangleCount, wrongLengths, wrongLists, badLighting, badVolume, badContents, bakeRows, bakeRefusal}
+use Rattle.limits.specs.LimitsLaws.{either, any-of-three, axes-row, sound}
+use Rattle.intake.specs.Intake.{BakeInput, skyNumbers, voxelNumbers, voxelCount, triangleCount, wrongLengths, wrongBakeLists, badLighting, badVolume, badContents, bakeRows, bakeRefusal}
 
 -- no row holds of a call at the stage s with the allowance a
-pub record Passed (b : BakeInput) (s : Stage Float) (a : ℕ) : Type 0 where
+pub record BakePassed (b : BakeInput) (s : Stage Float) (a : ℕ) : Type 0 where
   pub axes : badAxes (b .axes) ≡ false
   pub grid : badGrid (b .corners) (b .axes) ≡ false
-  pub lists : wrongLists b s ≡ false
+  pub lists : wrongBakeLists b s ≡ false
   pub few : tooMany (triangleCount b) (length (b .scene .kinds)) ≡ false
   pub points : badPoints (b .scene .points) ≡ false
   pub materials : badMaterials (b .scene .uses) (b .scene .kinds) (b .scene .numbers) ≡ false
@@ -60,16 +60,16 @@ module _ (b : BakeInput) (s : Stage Float) (a : ℕ) where
   unfolding bakeRows
   numbered = omega arith
 
-  pub none-refused : (bakeRefusal b s a ≡ 0) ↔ Passed b s a
+  pub none-refused : (bakeRefusal b s a ≡ 0) ↔ BakePassed b s a
   unfolding bakeRefusal bakeRows
   none-refused = (λ e. out (none-found (bakeRows b s a) numbered e), back)
     where
-      back : Passed b s a → firstOf (bakeRows b s a) ≡ 0
+      back : BakePassed b s a → firstOf (bakeRows b s a) ≡ 0
       back p =
           rw (p .axes, p .grid, p .lists, p .few, p .points, p .materials, p .lighting, p .progress, p .allowance, p .contents)
           (none-given (later (later (later (later (later (later (later (later (later (later none)))))))))))
 
-      out : NoneHolds (bakeRows b s a) → Passed b s a
+      out : NoneHolds (bakeRows b s a) → BakePassed b s a
       out h =
           let r₁ = passes h in
           let r₂ = passes (r₁ .1) in
@@ -99,14 +99,14 @@ module _ (b : BakeInput) (s : Stage Float) (a : ℕ) where
   exactly : (x y : ℕ) → wrongLength x y ≡ false → x ≡ y
   exactly x y e = eqb-true x y (not-false _ e)
 
-  pub fits : Passed b s a → Fits b s a
-  unfolding wrongLists wrongLengths
+  pub fits : BakePassed b s a → Fits b s a
+  unfolding wrongBakeLists wrongLengths
   fits p =
       let l = either _ _ .0 (p .lists) in
       let places = either _ _ .0 (l .1) in
       let distances = either _ _ .0 (places .0) in
       let lengths = either _ _ .0 (distances .0) in
-      let one = three _ _ _ .0 (lengths .0) in
+      let one = any-of-three _ _ _ .0 (lengths .0) in
       let sixteen = either _ _ .0 (lengths .1) in
       record {
         axes = axes-row (b .axes) .0 (p .axes);
@@ -125,14 +125,14 @@ module _ (b : BakeInput) (s : Stage Float) (a : ℕ) where
   -- ---- a later call
 
   -- at a stage whose lists are as long, whose progress lies within the count and whose volume holds good coefficients
-  pub still-passed : (t : Stage Float) (c : ℕ) → Passed b s a → length (t .volume) ≡ length (s .volume) → length (t .scratch) ≡ length (s .scratch)
+  pub still-passed : (t : Stage Float) (c : ℕ) → BakePassed b s a → length (t .volume) ≡ length (s .volume) → length (t .scratch) ≡ length (s .scratch)
       → t .progress ≤ voxelCount b
       → voxelCost ≤ c
       → badVolume (t .volume) (t .progress) (voxelCount b) ≡ false
-      → Passed b t c
-  unfolding wrongLists badContents
+      → BakePassed b t c
+  unfolding wrongBakeLists badContents
   still-passed t c p v x q h g =
-      let k = three (badMask (b .active)) (badLights (b .lights)) _ .0 (p .contents) in
+      let k = any-of-three (badMask (b .active)) (badLights (b .lights)) _ .0 (p .contents) in
       record {
         axes = p .axes;
         grid = p .grid;
@@ -143,5 +143,5 @@ module _ (b : BakeInput) (s : Stage Float) (a : ℕ) where
         lighting = p .lighting;
         progress = le-ltb _ _ q;
         allowance = le-ltb _ _ h;
-        contents = three (badMask (b .active)) (badLights (b .lights)) _ .1 (k .0, k .1, g);
+        contents = any-of-three (badMask (b .active)) (badLights (b .lights)) _ .1 (k .0, k .1, g);
       }

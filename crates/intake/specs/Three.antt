@@ -12,7 +12,7 @@ use Rattle.vectors.specs.Vectors.{vec, dotV}
 use Rattle.grid.specs.Grid.{edgesOf}
 use Rattle.limits.specs.Some.{some}
 use Rattle.limits.specs.Limits.{within, upTo, outsideV, badAxes, badCorners, badEdges, wrongShare, wrongScene, tooMany, badPoints, badKinds, badFrom, badUses, badMaterials, badDirection, badLight, badAmbient, badSky, badMask, badLights, badCoefficients}
-use Rattle.intake.specs.Intake.{BakeInput, inputOf, wrongLengths, wrongLists, badLighting, badVolume, badContents, bakeRows, bakeRefusal}
+use Rattle.intake.specs.Intake.{BakeInput, inputOf, wrongLengths, wrongBakeLists, badLighting, badVolume, badContents, bakeRows, bakeRefusal}
 
 abbrev pub three : BakeInput
 three =
@@ -37,5 +37,5 @@ abbrev pub begun : Stage Float
 begun = stage 0 (replicate 48 zero32) (replicate 48 zero32)
 
 pub three-accepted : (bakeRefusal three begun 384 ≡ 0) × (bakeRefusal three begun 383 ≡ 10)
-unfolding bakeRefusal bakeRows firstOf some within upTo outsideV badAxes badCorners badEdges wrongShare wrongScene tooMany badPoints badKinds badFrom badUses badMaterials badDirection badLight badAmbient badSky badMask badLights badCoefficients wrongLengths wrongLists badLighting badVolume badContents edgesOf dotV ofBits ofInt Ieee.add Ieee.sub Ieee.mul Ieee.div Ieee.neg Ieee.le Ieee.lt Ieee.eq
+unfolding bakeRefusal bakeRows firstOf some within upTo outsideV badAxes badCorners badEdges wrongShare wrongScene tooMany badPoints badKinds badFrom badUses badMaterials badDirection badLight badAmbient badSky badMask badLights badCoefficients wrongLengths wrongBakeLists badLighting badVolume badContents edgesOf dotV ofBits ofInt Ieee.add Ieee.sub Ieee.mul Ieee.div Ieee.neg Ieee.le Ieee.lt Ieee.eq
 three-accepted = (refl, refl)

@@ -3,7 +3,7 @@
 -- list of such rows in its own order; a row that speaks of voxels or edges stands after row 1. Assumes nothing.
 use mathlib.Core.Bool.{Bool, true, false, cond, not, _&&_, _||_}
 use mathlib.Core.List.{List, [], _∷_}
-use Prim.Native.Nat.{ℕ, _+_, _*_, _/_, _%_}
+use Prim.Native.Nat.{ℕ, _+_, _/_, _%_}
 use lib.Dec.{ltb, leb, eqb}
 use lib.ListN.{length}
 use lib.Ieee as Ieee
@@ -21,7 +21,7 @@ use Rattle.limits.specs.Some.{some}
 use Rattle.limits.specs.declared.Light.{Light}
 use Rattle.limits.specs.declared.Ambient.{Ambient}
 
--- ---- one number, and three
+-- ---- one number, and any-of-three
 
 -- finite, and of magnitude at most b
 unfoldable pub within : Float → Float → Bool

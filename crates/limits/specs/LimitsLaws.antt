@@ -1,21 +1,21 @@
 -- What the rows mean: of each, what holds exactly when it is not given. And what follows once several have passed.
 use mathlib.Core.Path.{_≡_, refl, sym, ap, _∙_}
-use mathlib.Core.Bool.{Bool, true, false, cond, not, _&&_, _||_, and-false, false≢true, Bool·beq}
+use mathlib.Core.Bool.{Bool, true, false, not, _&&_, _||_, false≢true}
 use mathlib.Core.Logic.{_↔_}
 use mathlib.Core.List.{List, [], _∷_}
 use Prim.Native.Nat.{ℕ, zero, suc, _+_, _*_, _/_, _%_, _≤_, _<_}
 use native.Mathlib.Nat.{div-add-mod', add-zero, zero-add, mul-div-cancel, mul-mod-left}
 use native.Mathlib.Numerals.{add-one}
 use native.Mathlib.Omega.{arith}
-use lib.Dec.{T, ltb, leb, eqb, eqb-refl}
-use borrow.Author.Tests.{lt-ltb, le-ltb, le-leb, lt-leb, eq-eqb, ne-eqb, ltb-false, leb-false, eqb-true, not-false}
+use lib.Dec.{ltb, leb, eqb}
+use borrow.Author.Tests.{le-ltb, lt-leb, eq-eqb, ne-eqb, ltb-false, leb-false, eqb-true, not-false}
 use lib.ListN.{length, getD, drop, drop-of-length-le}
 use lib.Seq.{drop-cons}
 use lib.Ieee as Ieee
 use lib.Ieee.{Float, nan, inf, fin, isNan}
 use Rattle.names.specs.Bits.{one32}
-use Rattle.names.specs.Numbers.{axisLimit, triangleLimit, materialLimit, voxelLimit, pointLimit, edgeLimit, colourLimit, directionLimit, thinLimit, lightLimit, coefficientLimit}
-use Rattle.names.specs.Scene.{Scene, sceneOf, Sound}
+use Rattle.names.specs.Numbers.{axisLimit, triangleLimit, materialLimit, pointLimit, edgeLimit, colourLimit, directionLimit, thinLimit, lightLimit, coefficientLimit}
+use Rattle.names.specs.Scene.{sceneOf, Sound}
 use Rattle.vectors.specs.declared.Vec3.{Vec3}
 use Rattle.vectors.specs.declared.Ray.{Ray}
 use Rattle.vectors.specs.Vectors.{dotV}
@@ -23,7 +23,7 @@ use Rattle.grid.specs.declared.Axes.{Axes}
 use Rattle.grid.specs.declared.Corners.{Corners}
 use Rattle.grid.specs.Grid.{edgesOf, AxesWithin}
 use Rattle.limits.specs.Some.{some, none-out, none-in}
-use Rattle.limits.specs.Limits.{within, outside, upTo, outsideV, badAxis, badAxes, badEdge, badCorners, badEdges, badGrid, wrongShare, wrongScene, tooMany, badPoints, lastKind, badKinds, badNumber, badFrom, badNumbers, badUses, badMaterials, badDirection, badSky, badRay, badMask, badLights, badCoefficients}
+use Rattle.limits.specs.Limits.{within, outside, upTo, outsideV, badAxis, badAxes, badCorners, badEdges, badGrid, wrongShare, wrongScene, tooMany, badPoints, lastKind, badKinds, badNumber, badFrom, badNumbers, badUses, badMaterials, badDirection, badSky, badRay, badMask, badLights, badCoefficients}
 
 -- ---- tests joined
 
@@ -34,12 +34,12 @@ or-out false b e = (refl, e)
 or-in : (a b : Bool) → (a ≡ false) × (b ≡ false) → a || b ≡ false
 or-in a b h = rw (h .0) (h .1)
 
--- a test of two parts, and of three
+-- a test of two parts, and of any-of-three
 pub either : (a b : Bool) → (a || b ≡ false) ↔ ((a ≡ false) × (b ≡ false))
 either a b = (or-out a b, or-in a b)
 
-pub three : (a b c : Bool) → (a || b || c ≡ false) ↔ ((a ≡ false) × (b ≡ false) × (c ≡ false))
-three a b c = (out, in')
+pub any-of-three : (a b c : Bool) → (a || b || c ≡ false) ↔ ((a ≡ false) × (b ≡ false) × (c ≡ false))
+any-of-three a b c = (out, in')
   where
     out : a || b || c ≡ false → (a ≡ false) × (b ≡ false) × (c ≡ false)
     out e = let p = or-out (a || b) c e in let q = or-out a b (p .0) in (q .0, q .1, p .1)
@@ -63,14 +63,14 @@ finite (inf s) = false
 finite (fin s m e) = true
 
 -- what lies within a finite bound is finite
-pub within-finite : (b x : Float) → finite b ≡ true → within b x ≡ true → finite x ≡ true
+pub limit-finite : (b x : Float) → finite b ≡ true → within b x ≡ true → finite x ≡ true
 unfolding finite within Ieee.neg Ieee.le Ieee.lt Ieee.eq
-within-finite nan x h e = absurd (false≢true h)
-within-finite (inf t) x h e = absurd (false≢true h)
-within-finite (fin t n d) nan h e = absurd (false≢true e)
-within-finite (fin t n d) (inf true) h e = absurd (false≢true e)
-within-finite (fin t n d) (inf false) h e = absurd (false≢true e)
-within-finite (fin t n d) (fin s m q) h e = refl
+limit-finite nan x h e = absurd (false≢true h)
+limit-finite (inf t) x h e = absurd (false≢true h)
+limit-finite (fin t n d) nan h e = absurd (false≢true e)
+limit-finite (fin t n d) (inf true) h e = absurd (false≢true e)
+limit-finite (fin t n d) (inf false) h e = absurd (false≢true e)
+limit-finite (fin t n d) (fin s m q) h e = refl
 
 -- and lies between the bounds
 pub within-between : (b x : Float) → (within b x ≡ true) ↔ ((Ieee.le (Ieee.neg b) x ≡ true) × (Ieee.le x b ≡ true))
@@ -86,7 +86,7 @@ differs (inf false) = refl
 differs (fin true m e) = rw (eq-eqb (m * Ieee.up e * Ieee.down e) (m * Ieee.up e * Ieee.down e) refl)
 differs (fin false m e) = rw (eq-eqb (m * Ieee.up e * Ieee.down e) (m * Ieee.up e * Ieee.down e) refl)
 
--- ---- three numbers
+-- ---- any-of-three numbers
 
 pub vector-row : (b : Float) (v : Vec3)
     → (outsideV b v ≡ false) ↔ ((within b (v .x) ≡ true) × (within b (v .y) ≡ true) × (within b (v .z) ≡ true))
@@ -94,7 +94,7 @@ unfolding outsideV
 vector-row b v = (out, in')
   where
     out : outside b (v .x) || outside b (v .y) || outside b (v .z) ≡ false → (within b (v .x) ≡ true) × (within b (v .y) ≡ true) × (within b (v .z) ≡ true)
-    out e = let p = three _ _ _ .0 e in (not-false _ (p .0), not-false _ (p .1), not-false _ (p .2))
+    out e = let p = any-of-three _ _ _ .0 e in (not-false _ (p .0), not-false _ (p .1), not-false _ (p .2))
 
     in' : (within b (v .x) ≡ true) × (within b (v .y) ≡ true) × (within b (v .z) ≡ true) → outside b (v .x) || outside b (v .y) || outside b (v .z) ≡ false
     in' h = rw (h .0, h .1, h .2)
@@ -119,7 +119,7 @@ axes-row a = (out, in')
 
     out : badAxis (a .width) || badAxis (a .height) || badAxis (a .depth) ≡ false → AxesWithin a
     out e =
-        let p = three _ _ _ .0 e in
+        let p = any-of-three _ _ _ .0 e in
         let w = axis (a .width) (p .0) in
         let h = axis (a .height) (p .1) in
         let d = axis (a .depth) (p .2) in
@@ -127,7 +127,7 @@ axes-row a = (out, in')
 
     in' : AxesWithin a → badAxis (a .width) || badAxis (a .height) || badAxis (a .depth) ≡ false
     in' h =
-        three _ _ _ .1
+        any-of-three _ _ _ .1
         (fits (a .width) (h .width) (h .widest), fits (a .height) (h .height) (h .highest), fits (a .depth) (h .depth) (h .deepest))
 
 -- ---- 2
@@ -145,7 +145,7 @@ grid-row c a = (
   λ e.
       let p = or-out (outsideV pointLimit (c .min) || outsideV pointLimit (c .max)) _ e in
       let q = or-out _ _ (p .0) in
-      let r = three _ _ _ .0 (p .1) in
+      let r = any-of-three _ _ _ .0 (p .1) in
       (q .0, q .1, not-false _ (r .0), not-false _ (r .1), not-false _ (r .2)),
   λ h. rw (h .0, h .1, h .2, h .3, h .4),
 )
@@ -250,7 +250,7 @@ pub materials-row : (uses kinds : List ℕ) (numbers : List Float)
     → (badMaterials uses kinds numbers ≡ false)
     ↔ ((badKinds kinds ≡ false) × (badNumbers numbers ≡ false) × (badUses uses (length kinds) ≡ false))
 unfolding badMaterials
-materials-row uses kinds numbers = three (badKinds kinds) (badNumbers numbers) (badUses uses (length kinds))
+materials-row uses kinds numbers = any-of-three (badKinds kinds) (badNumbers numbers) (badUses uses (length kinds))
 
 -- ---- 3, 4 and 6 passed: the lists of a scene fit
 
@@ -293,7 +293,7 @@ unfolding badRay
 ray-row r = (
   λ e.
       let p = or-out _ (isNan (r .longest)) e in
-      let q = three _ _ _ .0 (p .0) in
+      let q = any-of-three _ _ _ .0 (p .0) in
       (q .0, q .1, not-false _ (q .2), p .1),
   λ h. rw (h .0, h .1, h .2, h .3),
 )

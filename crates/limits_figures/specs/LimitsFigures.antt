@@ -73,9 +73,9 @@ unfolding badMaterials badKinds badFrom badUses some upTo within ofBits neg lt l
 materials = refl
 
 -- 7: no direction; 1e-6, whose squared length is 1e-12 and not above it; the next float up; 4,096 and the next float; NaN
-pub directions : map (λ (x : ℕ). badDirection (vec (lit x) zero32 zero32)) (0 ∷ 0x358637bd ∷ 0x358637be ∷ 0x45800000 ∷ 0x45800001 ∷ 0x7fc00000 ∷ []) ≡ true ∷ true ∷ false ∷ false ∷ true ∷ true ∷ []
+pub direction-figures : map (λ (x : ℕ). badDirection (vec (lit x) zero32 zero32)) (0 ∷ 0x358637bd ∷ 0x358637be ∷ 0x45800000 ∷ 0x45800001 ∷ 0x7fc00000 ∷ []) ≡ true ∷ true ∷ false ∷ false ∷ true ∷ true ∷ []
 unfolding badDirection outsideV dotV within ofBits neg add mul lt le eq
-directions = refl
+direction-figures = refl
 
 -- 8: no direction at all is accepted, and so is every longest distance but NaN
 abbrev ray : ℕ → ℕ → Ray

@@ -88,7 +88,7 @@ pub record Inside (n : ℕ) (c : Cells) : Type 0 where
   pub c111 : c .c111 < n
 
 -- what the cells of a position are, and that they lie in the grid
-pub record Found (a : Axes) (c : Corners) (p : Vec3) (r : Cells) : Type 0 where
+pub record CellsFound (a : Axes) (c : Corners) (p : Vec3) (r : Cells) : Type 0 where
   pub same : r ≡ cellsOf a c p
   pub inside : Inside (voxels a) r
 

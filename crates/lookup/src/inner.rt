@@ -6,7 +6,7 @@ ghost use lib.Ieee.{nan, toUnsigned};
 ghost use Rattle.names.specs.Numbers.{axisLimit, lightLimit};
 ghost use Rattle.grid.specs.Grid.{AxesWithin};
 ghost use Rattle.limits.specs.Limits.{outside, badCoefficients};
-ghost use Rattle.lookup.specs.Place.{clamped, Placed, Along, Found, Inside, Readable, cellsFrom, blendOf, blendedOf};
+ghost use Rattle.lookup.specs.Place.{clamped, Placed, Along, CellsFound, Inside, Readable, cellsFrom, blendOf, blendedOf};
 ghost use Rattle.lookup.specs.Lookup.{badLightCells, badVolumeCells, sixteen, coefficientBlend};
 use super::Between;
 use super::Cells;
@@ -19,7 +19,7 @@ use vectors::Vec3;
 // The eight cells around a position.
 pub fn cells(axes: Axes, corners: Corners, p: Vec3) -> Cells
     requires { ⌜ AxesWithin axes ⌝ }
-    ensures { λ r. ⌜ Found axes corners p r ⌝ }
+    ensures { λ r. ⌜ CellsFound axes corners p r ⌝ }
 {
     let e = grid::inner::edges(corners, axes);
     let x = between(axes.width, (p.x - corners.min.x) / e.x);

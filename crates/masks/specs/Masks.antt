@@ -11,7 +11,7 @@ use Rattle.grid.specs.declared.Axes.{Axes}
 use Rattle.grid.specs.declared.Corners.{Corners}
 use Rattle.grid.specs.Grid.{voxels}
 use Rattle.limits.specs.Limits.{badAxes, badGrid, wrongLength, tooMany, badPoints}
-use Rattle.marks.specs.Marks.{activeCount}
+use Rattle.marks.specs.Marks.{markedCount}
 use Rattle.occupy.specs.Occupied.{occupiedOf}
 use Rattle.dilate.specs.Active.{activeOf}
 use Rattle.masks.specs.declared.Marked.{Marked}
@@ -43,8 +43,8 @@ abbrev pub markedOf : ℕ → Axes → Corners → List Float → Marked
 markedOf r axes corners points =
     record {
       refusal = r;
-      occupied = unlessRefused r (activeCount (occupiedOf axes corners points)) 0;
-      active = unlessRefused r (activeCount (activeMaskOf axes corners points)) 0;
+      occupied = unlessRefused r (markedCount (occupiedOf axes corners points)) 0;
+      active = unlessRefused r (markedCount (activeMaskOf axes corners points)) 0;
     }
 
 pub record MasksFilled (axes : Axes) (corners : Corners) (points : List Float) (occupied active : List ℕ) (r : Marked) (occupied' active' : List ℕ) : Type 0 where

@@ -24,9 +24,9 @@ use Rattle.limits.specs.Some.{some}
 use Rattle.triangle.specs.Meet.{absentOf}
 use Rattle.triangle.specs.Places.{triangleAt}
 use Rattle.samples.specs.Samples.{targetOf, countOf, sideFrom, sideOf, shareOf, pointOf, cellOn, indexWithin, cellOf, sampleCell}
-use Rattle.limits.specs.LimitsLaws.{axes-row, three}
-use Rattle.passed.specs.Passed.{passed}
-use Rattle.marks.specs.Marks.{isActive, activeCount}
+use Rattle.limits.specs.LimitsLaws.{axes-row, any-of-three}
+use Rattle.names.specs.Passed.{passed}
+use Rattle.marks.specs.Marks.{isMarked, markedCount}
 use Rattle.occupy.specs.Occupied.{sampledIn, touches, occupiedIn, occupiedEntry, occupiedOf}
 use Rattle.occupy.specs.OccupiedLaws.{Sampled, occupied-at, occupied-sampled, sampled-occupied}
 use Rattle.dilate.specs.Active.{activeIn, activeEntry, activeOf}
@@ -65,7 +65,7 @@ unfolding masksRefusal wrongMasks
 masks-fitting axes corners points occupied active e =
     let p = passed (masksRows axes corners points occupied active) (omega arith, (omega arith, (omega arith, (omega arith, (omega arith, tt))))) e in
     let q =
-    three (wrongLength (length points % 9) 0) (wrongLength (length occupied) (voxels axes)) (wrongLength (length active) (voxels axes)) .0 (p .1 .1 .0)
+    any-of-three (wrongLength (length points % 9) 0) (wrongLength (length occupied) (voxels axes)) (wrongLength (length active) (voxels axes)) .0 (p .1 .1 .0)
     in
     record {
       axes-within = axes-row axes .0 (p .0);
@@ -77,19 +77,19 @@ masks-fitting axes corners points occupied active e =
 
 module _ (axes : Axes) (corners : Corners) (points : List Float) (i : ℕ) (h : i < voxels axes) where
   -- an occupied voxel has a sample of a present triangle in it, and such a voxel is occupied
-  pub mask-sampled : isActive (occupiedOf axes corners points) i ≡ true → Sampled axes corners points i
+  pub mask-sampled : isMarked (occupiedOf axes corners points) i ≡ true → Sampled axes corners points i
   mask-sampled e = occupied-sampled axes corners points i (sym (occupied-at axes corners points i h) ∙ e)
 
-  pub sampled-mask : Sampled axes corners points i → isActive (occupiedOf axes corners points) i ≡ true
+  pub sampled-mask : Sampled axes corners points i → isMarked (occupiedOf axes corners points) i ≡ true
   sampled-mask s = occupied-at axes corners points i h ∙ sampled-occupied axes corners points i s
 
   -- an active voxel has an occupied one within 2 on every axis, and such a voxel is active
-  pub mask-near : isActive (activeMaskOf axes corners points) i ≡ true
+  pub mask-near : isMarked (activeMaskOf axes corners points) i ≡ true
       → NearOccupied axes (occupiedOf axes corners points) (xOf axes i) (yOf axes i) (zOf axes i)
   mask-near e = active-near axes (occupiedOf axes corners points) _ _ _ (sym (active-at axes (occupiedOf axes corners points) i h) ∙ e)
 
   pub near-mask : NearOccupied axes (occupiedOf axes corners points) (xOf axes i) (yOf axes i) (zOf axes i)
-      → isActive (activeMaskOf axes corners points) i ≡ true
+      → isMarked (activeMaskOf axes corners points) i ≡ true
   near-mask n = active-at axes (occupiedOf axes corners points) i h ∙ near-active axes (occupiedOf axes corners points) _ _ _ n
 
 -- ---- how a call meets its contract
@@ -100,7 +100,7 @@ pub masks-refused : (axes : Axes) (corners : Corners) (points : List Float) (occ
 masks-refused axes corners points occupied active r e n =
     record {
       answer =
-          rw (← e, ← kept r (activeCount (occupiedOf axes corners points)) 0 n, ← kept r (activeCount (activeMaskOf axes corners points)) 0 n) refl;
+          rw (← e, ← kept r (markedCount (occupiedOf axes corners points)) 0 n, ← kept r (markedCount (activeMaskOf axes corners points)) 0 n) refl;
       occupied-after = rw (← e) (kept r _ occupied n);
       active-after = rw (← e) (kept r _ active n);
     }
@@ -109,12 +109,12 @@ pub masks-filled : (axes : Axes) (corners : Corners) (points : List Float) (occu
     → 0 ≡ masksRefusal axes corners points occupied active
     → occupied' ≡ occupiedOf axes corners points
     → active' ≡ activeOf axes occupied'
-    → o ≡ activeCount occupied' → a ≡ activeCount active'
+    → o ≡ markedCount occupied' → a ≡ markedCount active'
     → MasksFilled axes corners points occupied active (record { refusal = 0; occupied = o; active = a }) occupied' active'
 masks-filled axes corners points occupied active occupied' active' o a e p q s t =
     record {
       answer =
-          rw (← e, ← given 0 (activeCount (occupiedOf axes corners points)) 0 refl, ← given 0 (activeCount (activeMaskOf axes corners points)) 0 refl, ← p, ← q, ← s, ← t) refl;
+          rw (← e, ← given 0 (markedCount (occupiedOf axes corners points)) 0 refl, ← given 0 (markedCount (activeMaskOf axes corners points)) 0 refl, ← p, ← q, ← s, ← t) refl;
       occupied-after = rw (← e) (p ∙ given 0 _ occupied refl);
       active-after = rw (← e) (q ∙ rw p (given 0 _ active refl));
     }

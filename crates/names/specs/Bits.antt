@@ -9,6 +9,9 @@ lit bits = ofBits binary32 bits
 abbrev pub zero32 : Float
 zero32 = lit 0
 
+abbrev pub quarter32 : Float
+quarter32 = lit 0x3e800000
+
 abbrev pub half32 : Float
 half32 = lit 0x3f000000
 

@@ -21,7 +21,7 @@ use Rattle.grid.specs.Grid.{voxels, edgesOf, smallestEdgeOf}
 use Rattle.triangle.specs.Meet.{absentOf}
 use Rattle.triangle.specs.Places.{triangleAt}
 use Rattle.samples.specs.Samples.{sampleCount, sideOf, sampleCell}
-use Rattle.marks.specs.Marks.{isActive}
+use Rattle.marks.specs.Marks.{isMarked}
 use Rattle.occupy.specs.Occupied.{sampledIn, touches, occupiedIn, occupiedEntry, occupiedOf}
 use Rattle.occupy.specs.Marking.{unmarked, markSample, markRow, markRows, markTriangle, markPlace, markAll}
 
@@ -87,7 +87,7 @@ module _ (axes : Axes) (corners : Corners) (points : List Float) where
   unfolding occupiedOf occupiedEntry
   entry-at i h = rw (getD-tab (occupiedEntry axes corners points) (voxels axes) 0 i 0 h, zero-add i) refl
 
-  pub occupied-at : (i : ℕ) → i < voxels axes → isActive (occupiedOf axes corners points) i ≡ occupiedIn axes corners points i
+  pub occupied-at : (i : ℕ) → i < voxels axes → isMarked (occupiedOf axes corners points) i ≡ occupiedIn axes corners points i
   occupied-at i h = rw (entry-at i h) (bit (occupiedIn axes corners points i))
     where
       bit : (b : Bool) → eqb (cond {A = ℕ} b 1 0) 1 ≡ b

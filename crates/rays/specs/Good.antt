@@ -2,7 +2,7 @@
 use mathlib.Core.Path.{_≡_, refl}
 use mathlib.Core.List.{[], _∷_}
 use lib.Ieee.{Float, ofBits, ofFields, odd, neg, le, lt, eq, isNan}
-use Rattle.names.specs.Bits.{lit, zero32, one32, inf32}
+use Rattle.names.specs.Bits.{lit, zero32, quarter32, one32, inf32}
 use Rattle.names.specs.Refusals.{firstOf}
 use Rattle.names.specs.Scene.{Scene, sceneOf}
 use Rattle.vectors.specs.Vectors.{vec}
@@ -11,9 +11,6 @@ use Rattle.vectors.specs.declared.Triangle.{Triangle}
 use Rattle.limits.specs.Limits.{within, upTo, outsideV, wrongShare, wrongScene, tooMany, badPoints, badTriangle, badKinds, badFrom, badUses, badMaterials, badRay}
 use Rattle.limits.specs.Some.{some}
 use Rattle.rays.specs.Rays.{meetRefusal, nearestRefusal, wrongScratch, transmittanceRefusal}
-
-abbrev pub quarter32 : Float
-quarter32 = lit 0x3e800000
 
 -- from (.25, .25, 1) down, from 0 to infinity
 unfoldable pub down : Ray

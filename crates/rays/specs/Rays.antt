@@ -82,8 +82,8 @@ pub record MeetAnswered (ray : Ray) (triangle : Triangle) (r : Met) : Type 0 whe
 
 -- ---- a scene's rows
 
-abbrev pub wrongLists : Scene → Bool
-wrongLists scene = wrongScene (scene .points) (scene .uses) (scene .kinds) (scene .numbers)
+abbrev pub wrongSceneLists : Scene → Bool
+wrongSceneLists scene = wrongScene (scene .points) (scene .uses) (scene .kinds) (scene .numbers)
 
 -- where `wrong` says whether a length is
 abbrev pub sceneRows : Bool → Scene → Ray → List Row
@@ -98,7 +98,7 @@ sceneRows wrong scene ray =
 -- ---- the nearest hit
 
 unfoldable pub nearestRefusal : Scene → Ray → ℕ
-nearestRefusal scene ray = firstOf (sceneRows (wrongLists scene) scene ray)
+nearestRefusal scene ray = firstOf (sceneRows (wrongSceneLists scene) scene ray)
 
 unfoldable pub foundCase : Nearest → Found
 foundCase Nearest.Nothing = Found.Nothing
@@ -125,7 +125,7 @@ pub record NearestAnswered (scene : Scene) (ray : Ray) (r : Found) : Type 0 wher
 -- a list of the scene has the wrong length, or hit scratch is shorter than the triangle count
 unfoldable pub wrongScratch : Scene → ℕ → ℕ → Bool
 wrongScratch scene distances places =
-    wrongLists scene || tooShort distances (length (scene .uses)) || tooShort places (length (scene .uses))
+    wrongSceneLists scene || tooShort distances (length (scene .uses)) || tooShort places (length (scene .uses))
 
 unfoldable pub transmittanceRefusal : Scene → Ray → List Float → List ℕ → ℕ
 transmittanceRefusal scene ray distances places =

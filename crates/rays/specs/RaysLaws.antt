@@ -14,8 +14,8 @@ use Rattle.names.specs.Scene.{Scene, Sound}
 use Rattle.vectors.specs.declared.Ray.{Ray}
 use Rattle.vectors.specs.declared.Triangle.{Triangle}
 use Rattle.limits.specs.Limits.{tooShort}
-use Rattle.limits.specs.LimitsLaws.{three, sound}
-use Rattle.passed.specs.Passed.{passed}
+use Rattle.limits.specs.LimitsLaws.{any-of-three, sound}
+use Rattle.names.specs.Passed.{passed}
 use Rattle.triangle.specs.Meet.{meetOf}
 use Rattle.triangle.specs.declared.Meet.{Meet}
 use Rattle.scan.specs.Nearest.{nearestOf}
@@ -23,7 +23,7 @@ use Rattle.scan.specs.declared.Nearest.{Nearest}
 use Rattle.rays.specs.declared.Met.{Met}
 use Rattle.rays.specs.declared.Found.{Found}
 use Rattle.rays.specs.declared.Transmitted.{Transmitted}
-use Rattle.rays.specs.Rays.{Values, metValues, foundValues, meetRows, meetRefusal, metCase, testValues, metOf, meetValues, MeetAnswered, wrongLists, sceneRows, nearestRefusal, foundCase, scanValues, foundOf, nearestValues, NearestAnswered, wrongScratch, transmittanceRefusal, TransmittanceAnswered}
+use Rattle.rays.specs.Rays.{Values, metValues, foundValues, meetRows, meetRefusal, metCase, testValues, metOf, meetValues, MeetAnswered, wrongSceneLists, sceneRows, nearestRefusal, foundCase, scanValues, foundOf, nearestValues, NearestAnswered, wrongScratch, transmittanceRefusal, TransmittanceAnswered}
 
 -- ---- k is refused exactly when row k holds and none before it, and a call is accepted exactly when none holds
 
@@ -37,14 +37,14 @@ module _ (ray : Ray) (triangle : Triangle) where
   meet-passed-by = (none-found (meetRows ray triangle) (omega arith, (omega arith, tt)), none-given)
 
 module _ (scene : Scene) (ray : Ray) where
-  pub nearest-refused-by : (k : ℕ) → 0 < k → (nearestRefusal scene ray ≡ k) ↔ FirstIs k (sceneRows (wrongLists scene) scene ray)
+  pub nearest-refused-by : (k : ℕ) → 0 < k → (nearestRefusal scene ray ≡ k) ↔ FirstIs k (sceneRows (wrongSceneLists scene) scene ray)
   unfolding nearestRefusal
-  nearest-refused-by k h = (first-found k (sceneRows (wrongLists scene) scene ray) h, first-given)
+  nearest-refused-by k h = (first-found k (sceneRows (wrongSceneLists scene) scene ray) h, first-given)
 
-  pub nearest-passed-by : (nearestRefusal scene ray ≡ 0) ↔ NoneHolds (sceneRows (wrongLists scene) scene ray)
+  pub nearest-passed-by : (nearestRefusal scene ray ≡ 0) ↔ NoneHolds (sceneRows (wrongSceneLists scene) scene ray)
   unfolding nearestRefusal
   nearest-passed-by =
-      (none-found (sceneRows (wrongLists scene) scene ray) (omega arith, (omega arith, (omega arith, (omega arith, (omega arith, tt))))), none-given)
+      (none-found (sceneRows (wrongSceneLists scene) scene ray) (omega arith, (omega arith, (omega arith, (omega arith, (omega arith, tt))))), none-given)
 
   module _ (distances : List Float) (places : List ℕ) where
     pub transmittance-refused-by : (k : ℕ) → 0 < k
@@ -129,7 +129,7 @@ nearest-answered scene ray r e =
 
 -- ---- what an accepted call has
 
-scene-sound : (wrong : Bool) (scene : Scene) (ray : Ray) → (wrong ≡ false → wrongLists scene ≡ false) → firstOf (sceneRows wrong scene ray) ≡ 0
+scene-sound : (wrong : Bool) (scene : Scene) (ray : Ray) → (wrong ≡ false → wrongSceneLists scene ≡ false) → firstOf (sceneRows wrong scene ray) ≡ 0
     → (wrong ≡ false) × Sound scene
 scene-sound wrong scene ray w e =
     let p = passed (sceneRows wrong scene ray) (omega arith, (omega arith, (omega arith, (omega arith, (omega arith, tt))))) e in
@@ -137,20 +137,20 @@ scene-sound wrong scene ray w e =
 
 pub nearest-sound : (scene : Scene) (ray : Ray) → nearestRefusal scene ray ≡ 0 → Sound scene
 unfolding nearestRefusal
-nearest-sound scene ray e = scene-sound (wrongLists scene) scene ray (λ w. w) e .1
+nearest-sound scene ray e = scene-sound (wrongSceneLists scene) scene ray (λ w. w) e .1
 
-pub record Ready (scene : Scene) (distances places : ℕ) : Type 0 where
+pub record TransmittanceReady (scene : Scene) (distances places : ℕ) : Type 0 where
   pub scene-fits : Sound scene
   pub distances-fit : length (scene .uses) ≤ distances
   pub places-fit : length (scene .uses) ≤ places
 
 pub transmittance-ready : (scene : Scene) (ray : Ray) (distances : List Float) (places : List ℕ) → transmittanceRefusal scene ray distances places ≡ 0
-    → Ready scene (length distances) (length places)
+    → TransmittanceReady scene (length distances) (length places)
 unfolding transmittanceRefusal wrongScratch
 transmittance-ready scene ray distances places e =
     let n = length (scene .uses) in
     let all : (b : wrongScratch scene (length distances) (length places) ≡ false)
-    → (wrongLists scene ≡ false) × (tooShort (length distances) n ≡ false) × (tooShort (length places) n ≡ false)
-    = three (wrongLists scene) (tooShort (length distances) n) (tooShort (length places) n) .0 in
+    → (wrongSceneLists scene ≡ false) × (tooShort (length distances) n ≡ false) × (tooShort (length places) n ≡ false)
+    = any-of-three (wrongSceneLists scene) (tooShort (length distances) n) (tooShort (length places) n) .0 in
     let s = scene-sound (wrongScratch scene (length distances) (length places)) scene ray (λ w. all w .0) e in
     record { scene-fits = s .1; distances-fit = ltb-false _ _ (all (s .0) .1); places-fit = ltb-false _ _ (all (s .0) .2) }

@@ -15,7 +15,7 @@ use Rattle.vectors.specs.declared.Vec3.{Vec3}
 use Rattle.vectors.specs.declared.Ray.{Ray}
 use Rattle.vectors.specs.declared.Triangle.{Triangle}
 use Rattle.limits.specs.Limits.{outsideV, badTriangle, badRay}
-use Rattle.limits.specs.LimitsLaws.{within-between, vector-row, three, ray-row}
+use Rattle.limits.specs.LimitsLaws.{within-between, vector-row, any-of-three, ray-row}
 use Rattle.bounds.specs.Bounds.{AtMost, AtLeast, EachAtMost}
 use Rattle.bounds.specs.BoundsLaws.{at-most-up, at-most-of-test, test-of-at-most, at-least-of-test, at-most-finite, magnitude-at-most, mul-at-most, div-at-most, one-value, point-value, colour-value, direction-value}
 use Rattle.bounds.specs.VectorLaws.{sub-each, dot-at-most, cross-each}
@@ -82,7 +82,7 @@ pub test-bounded : (ray : Ray) (triangle : Triangle) → badTriangle triangle �
     → le (magnitudeOf (solvedOf ray triangle .det)) flatLimit ≡ false → Bounded ray triangle
 unfolding badTriangle solvedOf
 test-bounded ray triangle bt br h =
-    let tri = three _ _ _ .0 bt in
+    let tri = any-of-three _ _ _ .0 bt in
     let rows = ray-row ray .0 br in
     let p0 = each pointLimit 1 12 (triangle .p0) point-value (tri .0) in
     let p1 = each pointLimit 1 12 (triangle .p1) point-value (tri .1) in

@@ -81,9 +81,9 @@ count-least x = go (Ieee.lt one32 x) refl (Ieee.lt x mostTarget)
     go true e false = omega arith
     go false e b = omega arith
 
-pub count-most : (x : Float) → countOf x ≤ mostSamples
+pub samples-most : (x : Float) → countOf x ≤ mostSamples
 unfolding countOf
-count-most x = go (Ieee.lt one32 x) (Ieee.lt x mostTarget) refl
+samples-most x = go (Ieee.lt one32 x) (Ieee.lt x mostTarget) refl
   where
     go : (a b : Bool) → Ieee.lt x mostTarget ≡ b → cond a (cond b (toUnsigned 64 x) mostSamples) 1 ≤ mostSamples
     go true true e = most-cast x e
@@ -92,7 +92,7 @@ count-most x = go (Ieee.lt one32 x) (Ieee.lt x mostTarget) refl
 
 -- so at most 64 a side
 pub side-most : (x : Float) → sideOf (countOf x) ≤ 64
-side-most x = side-least (countOf x) 64 (omega (arith, count-most x))
+side-most x = side-least (countOf x) 64 (omega (arith, samples-most x))
 
 -- ---- the cell
 
@@ -111,16 +111,16 @@ cell-floor m e n h l = go (Ieee.le zero32 (fin false m e)) l
     go false k = absurd (omega arith)
 
 -- and a number that has no cell on the axis, and is not below 0, is n or more
-pub cell-past : (m : ℕ) (e : ℤ) (n : ℕ) → n < 2 ^ 64 → Ieee.le zero32 (fin false m e) ≡ true → cellOn (fin false m e) n ≡ n → n * down e ≤ m * up e
+pub cell-on-past : (m : ℕ) (e : ℤ) (n : ℕ) → n < 2 ^ 64 → Ieee.le zero32 (fin false m e) ≡ true → cellOn (fin false m e) n ≡ n → n * down e ≤ m * up e
 unfolding cellOn toUnsigned
-cell-past m e n h l c =
+cell-on-past m e n h l c =
     let k : min (min (m * up e / down e) (2 ^ 64 - 1)) n ≡ n = rw l at c in
     le-div-iff-mul-le (den-pos (fin false m e)) .0 (omega arith)
 
 -- what falls below 0 is outside
-pub cell-below : (f : Float) (n : ℕ) → Ieee.le zero32 f ≡ false → cellOn f n ≡ n
+pub cell-on-below : (f : Float) (n : ℕ) → Ieee.le zero32 f ≡ false → cellOn f n ≡ n
 unfolding cellOn
-cell-below f n e = rw e refl
+cell-on-below f n e = rw e refl
 
 -- −0 is cell 0
 pub cell-of-minus-zero : (n : ℕ) → cellOn (fin true 0 (pos 0)) (suc n) ≡ 0

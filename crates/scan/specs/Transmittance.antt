@@ -1,7 +1,7 @@
 -- How much light passes along a ray. "Transmittance: start 1.0; hits by t, then by place; opaque gives 0; multiply; a product at most 0.0001
 -- gives 0." A hit's material is the one that its triangle uses.
 use mathlib.Core.Path.{_≡_}
-use mathlib.Core.Bool.{Bool, cond}
+use mathlib.Core.Bool.{cond}
 use mathlib.Core.List.{List, [], _∷_}
 use Prim.Native.Nat.{ℕ, _+_, _*_, _<_}
 use lib.ListN.{length, getD}

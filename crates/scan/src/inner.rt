@@ -2,7 +2,6 @@
 ghost use mathlib.Core.Path.{_≡_};
 ghost use Prim.Native.Nat.{ℕ, _+_, _*_, _≤_, _<_};
 ghost use lib.ListN.{length, getD, take};
-ghost use lib.Ieee.{nan};
 ghost use Rattle.names.specs.Bits.{one32};
 ghost use Rattle.names.specs.Scene.{Sound, sceneOf};
 ghost use Rattle.triangle.specs.Meet.{meetOf};

@@ -10,7 +10,7 @@ use lib.Dec.{ltb}
 use lib.ListN.{length, take, drop, length-append, length-take, length-drop}
 use lib.Seq.{take-at, drop-at}
 use borrow.Author.Tests.{ltb-true, ltb-false, lt-ltb, le-ltb}
-use Rattle.spread.specs.Spread.{Bake, Walked, laid, replaced, partOf, filled, unblurred, standing, stands}
+use Rattle.spread.specs.Spread.{Bake, Walked, laid, replaced, voxelPart, filled, unblurred, standing, stands}
 use Rattle.spread.specs.Walks.{Walks, none, skip, stop, taken}
 
 module _ {A : Type 0} where
@@ -49,8 +49,8 @@ module _ {A : Type 0} where
         let z : 0 + i ≡ i = omega arith in
         ap (λ (m : ℕ). laid f m 0) e ∙ laid-split f i (suc (n - (i + 1))) 0 ∙ rw z refl
 
-    pub part-of-laid : (f : ℕ → List A) → ((i : ℕ) → length (f i) ≡ size) → (i n : ℕ) → i < n → partOf size i (laid f n 0) ≡ f i
-    unfolding partOf
+    pub part-of-laid : (f : ℕ → List A) → ((i : ℕ) → length (f i) ≡ size) → (i n : ℕ) → i < n → voxelPart size i (laid f n 0) ≡ f i
+    unfolding voxelPart
     part-of-laid f e i n h =
         rw (laid-at f i n h, drop-at (laid f i 0) (f i ++ laid f (n - (i + 1)) (i + 1)) (i * size) (length-laid f e i 0))
         (take-at (f i) (laid f (n - (i + 1)) (i + 1)) size (e i))

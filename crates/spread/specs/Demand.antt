@@ -5,7 +5,7 @@ use mathlib.Core.List.{List}
 use Prim.Native.Nat.{ℕ, _+_, _-_, _*_, _/_, _≤_, _<_}
 use lib.ListN.{length}
 use Rattle.names.specs.Numbers.{primaryRays}
-use Rattle.spread.specs.Spread.{Stage, Bake, partOf, call, unbroken, actives, costs, standing, stands, run, sum, EachAtLeast, NoneRefused}
+use Rattle.spread.specs.Spread.{Stage, Bake, voxelPart, call, unbroken, actives, costs, standing, stands, run, sum, EachAtLeast, NoneRefused}
 use Rattle.spread.specs.Contents.{Sized}
 
 -- what is asked of a bake: it has voxels; each has as many numbers as its place; an active one costs 64 rays at least and what a voxel may
@@ -41,7 +41,7 @@ module _ {A : Type 0} (b : Bake A) where
         → run b l s .stage ≡ unbroken b (s .scratch)
     -- before the end "voxels below progress are final but unblurred, the others ambient, scratch untouched"
     pub before : (l : List ℕ) (s : Stage A) → s .progress ≡ 0 → 0 < run b l s .stage .progress → run b l s .stage .progress < b .count
-        → ((i : ℕ) → i < b .count → partOf (b .size) i (run b l s .stage .volume) ≡ standing b (run b l s .stage .progress) i)
+        → ((i : ℕ) → i < b .count → voxelPart (b .size) i (run b l s .stage .volume) ≡ standing b (run b l s .stage .progress) i)
         × (run b l s .stage .volume ≡ stands b (run b l s .stage .progress))
         × (run b l s .stage .scratch ≡ s .scratch)
     -- "No call fires more than its allowance"

@@ -9,7 +9,7 @@ use native.Mathlib.Nat.{zero-add, suc-mul, zero-mul, le-div-iff-mul-le, lt-div-m
 use lib.Dec.{eqb}
 use lib.ListN.{length, replicate}
 use borrow.Author.Tests.{eq-eqb, ne-eqb, eqb-true}
-use Rattle.spread.specs.Spread.{Stage, stage, Bake, Called, Walked, partOf, started, walk, someActive, blurred, ended, baked, accepted, call, unblurred, unbroken, actives, costs, standing, stands, run, sum, EachAtLeast, NoneRefused}
+use Rattle.spread.specs.Spread.{Stage, stage, Bake, Called, Walked, voxelPart, started, walk, someActive, blurred, ended, baked, accepted, call, unblurred, unbroken, actives, costs, standing, stands, run, sum, EachAtLeast, NoneRefused}
 use Rattle.spread.specs.Walks.{walks, walk-from, walk-to, walk-goes, walk-costs, walk-rays, walk-passed, actives-split, costs-least, costs-most}
 use Rattle.spread.specs.Contents.{length-standing, walk-stands, stands-filled, stands-unblurred, part-of-laid}
 use Rattle.spread.specs.Demand.{Fair, Lasts, roundedUp, allActive, finished, Demand}
@@ -198,7 +198,7 @@ module _ {A : Type 0} (b : Bake A) (fair : Fair b) where
   whole-run l s e f = ⊎-elim (λ h. absurd (omega (arith, h .before))) (λ h. h) (along-run l (s .scratch) s (begins s e))
 
   before-end : (l : List ℕ) (s : Stage A) → s .progress ≡ 0 → 0 < run b l s .stage .progress → run b l s .stage .progress < b .count
-      → ((i : ℕ) → i < b .count → partOf (b .size) i (run b l s .stage .volume) ≡ standing b (run b l s .stage .progress) i)
+      → ((i : ℕ) → i < b .count → voxelPart (b .size) i (run b l s .stage .volume) ≡ standing b (run b l s .stage .progress) i)
       × (run b l s .stage .volume ≡ stands b (run b l s .stage .progress)) × (run b l s .stage .scratch ≡ s .scratch)
   before-end l s e p f =
       ⊎-elim

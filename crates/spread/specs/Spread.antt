@@ -65,8 +65,8 @@ laid f (suc k) i = f i ++ laid f k (i + 1)
 unfoldable pub replaced : {A : Type 0} → ℕ → ℕ → List A → List A → List A
 replaced size i numbers v = take (i * size) v ++ (numbers ++ drop (i * size + size) v)
 
-unfoldable pub partOf : {A : Type 0} → ℕ → ℕ → List A → List A
-partOf size i v = take size (drop (i * size) v)
+unfoldable pub voxelPart : {A : Type 0} → ℕ → ℕ → List A → List A
+voxelPart size i v = take size (drop (i * size) v)
 
 module _ {A : Type 0} (b : Bake A) where
   -- ---- one call

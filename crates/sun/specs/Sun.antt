@@ -22,7 +22,7 @@ use Rattle.grid.specs.declared.Axes.{Axes}
 use Rattle.grid.specs.declared.Corners.{Corners}
 use Rattle.limits.specs.Limits.{badAxes, badGrid, wrongScene, wrongLength, tooShort, tooMany, badPoints, badMaterials, badDirection, badMask}
 use Rattle.means.specs.Box.{lightBlurOf}
-use Rattle.marks.specs.Marks.{isActive, activeCount}
+use Rattle.marks.specs.Marks.{isMarked, markedCount}
 use Rattle.scan.specs.Transmittance.{transmittanceOf}
 use Rattle.sun.specs.declared.Sunned.{Sunned}
 
@@ -43,7 +43,7 @@ sunRay l ahead centre = record { origin = addV centre (scaleV l ahead); directio
 -- what voxel i sees of the sun, from the grid's lower corner, its edges, the light's direction and the way ahead
 unfoldable pub figureOf : Axes → Vec3 → Vec3 → Vec3 → Float → Scene → List ℕ → ℕ → Float
 figureOf axes low edges l ahead scene active i =
-    cond (isActive active i)
+    cond (isMarked active i)
     (transmittanceOf scene (sunRay l ahead (centreFrom low edges (xOf axes i) (yOf axes i) (zOf axes i))))
     one32
 
@@ -58,7 +58,7 @@ sunBefore axes corners scene direction active = tab (sunAt axes corners scene di
 -- ---- after it
 
 abbrev pub noneActive : List ℕ → Bool
-noneActive active = eqb (activeCount active) 0
+noneActive active = eqb (markedCount active) 0
 
 -- 1.0 for each voxel
 abbrev pub allOnes : Axes → List Float
@@ -115,7 +115,7 @@ pub record Traceable (axes : Axes) (scene : Scene) (active distances places : �
 pub record SunAnswered (axes : Axes) (corners : Corners) (scene : Scene) (direction : Vec3) (active : List ℕ) (light scratch distances : List Float)
     (places : List ℕ) (r : Sunned) (light' scratch' distances' : List Float) (places' : List ℕ) : Type 0 where
   pub answer : r .refusal ≡ sunRefusal axes corners scene direction active (length light) (length scratch) (length distances) (length places)
-  pub rays : r .rays ≡ unlessRefused (r .refusal) (activeCount active) 0
+  pub rays : r .rays ≡ unlessRefused (r .refusal) (markedCount active) 0
   pub light-after : light' ≡ unlessRefused (r .refusal) (sunLight axes corners scene direction active) light
   pub scratch-after : scratch' ≡ unlessRefused (r .refusal) (sunScratch axes corners scene direction active scratch) scratch
   pub distances-kept : r .rays ≡ 0 → distances' ≡ distances

@@ -14,8 +14,8 @@ use Rattle.grid.specs.declared.Axes.{Axes}
 use Rattle.grid.specs.declared.Corners.{Corners}
 use Rattle.limits.specs.Limits.{upTo}
 use Rattle.limits.specs.LimitsLaws.{materials-row}
-use Rattle.passed.specs.Passed.{passed}
-use Rattle.marks.specs.Marks.{isActive}
+use Rattle.names.specs.Passed.{passed}
+use Rattle.marks.specs.Marks.{isMarked}
 use Rattle.scan_laws.specs.TransmittanceLaws.{transmittance-within, one-is-within}
 use Rattle.sun.specs.Sun.{sunBefore, sunRows, sunRefusal}
 use Rattle.sun.specs.SunLaws.{inactive-before, active-before, sun-ready}
@@ -24,9 +24,9 @@ pub before-within : (axes : Axes) (corners : Corners) (scene : Scene) (direction
     → sunRefusal axes corners scene direction active lights scratches distances places ≡ 0 → (i : ℕ) → i < voxels axes
     → upTo one32 (getD (sunBefore axes corners scene direction active) i nan) ≡ true
 unfolding sunRefusal
-before-within axes corners scene direction active lights scratches distances places e i h = by (isActive active i) refl
+before-within axes corners scene direction active lights scratches distances places e i h = by (isMarked active i) refl
   where
-    by : (b : Bool) → isActive active i ≡ b → upTo one32 (getD (sunBefore axes corners scene direction active) i nan) ≡ true
+    by : (b : Bool) → isMarked active i ≡ b → upTo one32 (getD (sunBefore axes corners scene direction active) i nan) ≡ true
     by false f = rw (inactive-before axes corners scene direction active i h f) one-is-within
     by true f =
         let p = passed (sunRows axes corners scene direction active lights scratches distances places)

@@ -20,8 +20,8 @@ use Rattle.grid.specs.declared.Axes.{Axes}
 use Rattle.grid.specs.declared.Corners.{Corners}
 use Rattle.limits.specs.Limits.{wrongLength}
 use Rattle.limits.specs.LimitsLaws.{either, axes-row, sound}
-use Rattle.passed.specs.Passed.{passed}
-use Rattle.marks.specs.Marks.{isActive, activeCount}
+use Rattle.names.specs.Passed.{passed}
+use Rattle.marks.specs.Marks.{isMarked, markedCount}
 use Rattle.marks.specs.MarksLaws.{active-some}
 use Rattle.scan.specs.Transmittance.{transmittanceOf}
 use Rattle.sun.specs.declared.Sunned.{Sunned}
@@ -38,11 +38,11 @@ module _ (axes : Axes) (corners : Corners) (scene : Scene) (direction : Vec3) (a
   unfolding sunBefore
   before-at i h = getD-tab (sunAt axes corners scene direction active) (voxels axes) 0 i nan h ∙ ap (sunAt axes corners scene direction active) (zero-add i)
 
-  pub inactive-before : (i : ℕ) → i < voxels axes → isActive active i ≡ false → getD (sunBefore axes corners scene direction active) i nan ≡ one32
+  pub inactive-before : (i : ℕ) → i < voxels axes → isMarked active i ≡ false → getD (sunBefore axes corners scene direction active) i nan ≡ one32
   unfolding figureOf
   inactive-before i h e = before-at i h ∙ rw e
 
-  pub active-before : (i : ℕ) → i < voxels axes → isActive active i ≡ true
+  pub active-before : (i : ℕ) → i < voxels axes → isMarked active i ≡ true
       → getD (sunBefore axes corners scene direction active) i nan
       ≡ transmittanceOf scene (sunRay (normalV direction) (aheadOf (edgesOf corners axes)) (centreOf corners axes (xOf axes i) (yOf axes i) (zOf axes i)))
   unfolding figureOf
@@ -56,11 +56,11 @@ module _ (axes : Axes) (corners : Corners) (scene : Scene) (direction : Vec3) (a
       ap₂ (λ (x : Float) (l : List Float). x ∷ l) (e i (omega arith) (omega arith)) (tab-same f g k (i + 1) (λ j p q. e j (omega arith) (omega arith)))
 
   -- where no voxel is active every figure is 1.0
-  pub none-before : length active ≡ voxels axes → activeCount active ≡ 0 → sunBefore axes corners scene direction active ≡ allOnes axes
+  pub none-before : length active ≡ voxels axes → markedCount active ≡ 0 → sunBefore axes corners scene direction active ≡ allOnes axes
   unfolding sunBefore figureOf
-  none-before l z = tab-same (sunAt axes corners scene direction active) (λ (i : ℕ). one32) (voxels axes) 0 (λ j p q. at j (isActive active j) refl (omega arith))
+  none-before l z = tab-same (sunAt axes corners scene direction active) (λ (i : ℕ). one32) (voxels axes) 0 (λ j p q. at j (isMarked active j) refl (omega arith))
     where
-      at : (j : ℕ) (b : Bool) → isActive active j ≡ b → j < voxels axes → sunAt axes corners scene direction active j ≡ one32
+      at : (j : ℕ) (b : Bool) → isMarked active j ≡ b → j < voxels axes → sunAt axes corners scene direction active j ≡ one32
       at j true e h = absurd (omega (arith, active-some active j (omega arith) e))
       at j false e h = rw e
 
@@ -109,7 +109,7 @@ sun-answered-once axes corners scene direction active l s d p r₁ r₂ l₁ s�
 
 -- ---- what an accepted call has
 
-pub record Ready (axes : Axes) (scene : Scene) (active lights scratches distances places : ℕ) : Type 0 where
+pub record SunReady (axes : Axes) (scene : Scene) (active lights scratches distances places : ℕ) : Type 0 where
   pub traceable : Traceable axes scene active distances places
   pub lights-fit : lights ≡ voxels axes
   pub scratches-fit : scratches ≡ voxels axes
@@ -119,7 +119,7 @@ right len n e = eqb-true _ _ (not-false _ e)
 
 pub sun-ready : (axes : Axes) (corners : Corners) (scene : Scene) (direction : Vec3) (active : List ℕ) (lights scratches distances places : ℕ)
     → sunRefusal axes corners scene direction active lights scratches distances places ≡ 0
-    → Ready axes scene (length active) lights scratches distances places
+    → SunReady axes scene (length active) lights scratches distances places
 unfolding sunRefusal wrongSun
 sun-ready axes corners scene direction active lights scratches distances places e =
     let p = passed (sunRows axes corners scene direction active lights scratches distances places)

@@ -64,9 +64,9 @@ module _ (axes : Axes) (corners : Corners) (scene : Scene) (direction : Vec3) (a
   before-accepted = units-accepted _ before-units
 
   -- what the light holds
-  pub light-accepted : badLights (sunLight axes corners scene direction active) ≡ false
+  pub sun-light-accepted : badLights (sunLight axes corners scene direction active) ≡ false
   unfolding sunLight lightBlurOf
-  light-accepted = by (noneActive active)
+  sun-light-accepted = by (noneActive active)
     where
       ones : (i : ℕ) → i < length (allOnes axes) → AtMost 1 0 (getD (allOnes axes) i nan)
       ones i h =

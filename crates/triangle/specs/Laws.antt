@@ -1,5 +1,5 @@
 -- What the test means: an absent triangle is met nowhere, and a hit's numbers pass every bound.
-use mathlib.Core.Path.{_≡_, refl, sym, ap, _∙_}
+use mathlib.Core.Path.{_≡_, refl}
 use mathlib.Core.Bool.{Bool, true, false, cond, false≢true}
 use lib.Ieee as Ieee
 use lib.Ieee.{Float, binary32}
@@ -9,7 +9,6 @@ use Rattle.vectors.specs.declared.Ray.{Ray}
 use Rattle.vectors.specs.declared.Triangle.{Triangle}
 use Rattle.triangle.specs.declared.Meet.{Meet}
 use Rattle.triangle.specs.declared.Meet.the-variants.{Miss, Hit}
-use Rattle.triangle.specs.declared.Solved.{Solved}
 use Rattle.triangle.specs.Meet.{flatLimit, largest32, absentOf, solvedOf, judgedOf, meetOf}
 
 pub absent-missed : (ray : Ray) (triangle : Triangle) → absentOf triangle ≡ true → meetOf ray triangle ≡ Miss
@@ -17,7 +16,7 @@ unfolding meetOf
 absent-missed ray triangle h = rw h
 
 -- the distance, u and v of a hit
-pub record Met (ray : Ray) (triangle : Triangle) (t u v : Float) : Type 0 where
+pub record HitPasses (ray : Ray) (triangle : Triangle) (t u v : Float) : Type 0 where
   pub present : absentOf triangle ≡ false
   pub steep : Ieee.le (magnitudeOf (solvedOf ray triangle .det)) flatLimit ≡ false
   pub distance : t ≡ solvedOf ray triangle .t
@@ -40,7 +39,7 @@ into : (b : Bool) (m : Meet) {t u v : Float} → cond b m Miss ≡ Hit t u v →
 into true m e = (refl, e)
 into false m e = absurd (false≢true cc)
 
-pub hit-met : (ray : Ray) (triangle : Triangle) (t u v : Float) → meetOf ray triangle ≡ Hit t u v → Met ray triangle t u v
+pub hit-met : (ray : Ray) (triangle : Triangle) (t u v : Float) → meetOf ray triangle ≡ Hit t u v → HitPasses ray triangle t u v
 unfolding meetOf judgedOf
 hit-met ray triangle t u v e =
     let s = solvedOf ray triangle in

@@ -16,7 +16,7 @@ use Rattle.names.specs.Numbers.{voxelLimit}
 use Rattle.bytes_le.specs.Bytes.{floatsAt, bytesAt}
 use Rattle.limits.specs.Limits.{badAxes, badGrid}
 use Rattle.limits.specs.LimitsLaws.{axes-row}
-use Rattle.marks.specs.Marks.{activeCount}
+use Rattle.marks.specs.Marks.{markedCount}
 use Rattle.contents.specs.Contents.{axesAt, offsetAt}
 use Rattle.volume_file.specs.VolumeFile.{voxelsAt, faulty}
 use Rattle.volume_file.specs.VolumeFileLaws.{Accepted, accepted-row, accepted-axes, accepted-laid}
@@ -172,7 +172,7 @@ module _ (s : List ℕ) (k : Accepted s) (a : Axes) (n : ℕ) (x : a ≡ axesAt 
   room-occupied off e = let d = accepted-laid s k in omega (arith, e, count, d .occupied, d .within)
 
   pub figures-whole : (o₀ o₂ o₃ z m o : ℕ) → o₀ ≡ offsetAt s 0 → o₂ ≡ offsetAt s 2 → o₃ ≡ offsetAt s 3
-      → z ≡ zeroCount (floatsAt s o₀ n) → m ≡ activeCount (bytesAt s o₂ n) → o ≡ activeCount (bytesAt s o₃ n)
+      → z ≡ zeroCount (floatsAt s o₀ n) → m ≡ markedCount (bytesAt s o₂ n) → o ≡ markedCount (bytesAt s o₃ n)
       → record { refusal = 0; width = a .width; height = a .height; depth = a .depth; occupied = o; active = m; zeros = z } ≡ figuresAnswer s
   unfolding figuresAnswer
   figures-whole o₀ o₂ o₃ z m o e f g p q r = rw (p, q, r, e, f, g, count, x) refl

@@ -16,7 +16,7 @@ use Rattle.grid.specs.declared.Axes.{Axes}
 use Rattle.grid.specs.declared.Corners.{Corners}
 use Rattle.grid.specs.Grid.{voxels}
 use Rattle.limits.specs.Limits.{badAxes, badGrid, wrongLength, badLights, badCoefficients, badMask}
-use Rattle.marks.specs.Marks.{activeCount}
+use Rattle.marks.specs.Marks.{markedCount}
 use Rattle.contents.specs.Contents.{axesAt}
 use Rattle.volume_file.specs.VolumeFile.{voxelsAt, lightAt, volumeAt, activeAt, occupiedAt, cornersAt, faulty}
 use Rattle.volume_write.specs.FileBytes.{bytesFor, fileBytes}
@@ -119,8 +119,8 @@ figuresAnswer s =
       width = axesAt s .width;
       height = axesAt s .height;
       depth = axesAt s .depth;
-      occupied = activeCount (occupiedAt s);
-      active = activeCount (activeAt s);
+      occupied = markedCount (occupiedAt s);
+      active = markedCount (activeAt s);
       zeros = zeroCount (lightAt s);
     }
 

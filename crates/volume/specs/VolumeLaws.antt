@@ -11,7 +11,7 @@ use lib.Ieee.{Float}
 use Rattle.grid.specs.declared.Axes.{Axes}
 use Rattle.grid.specs.declared.Corners.{Corners}
 use Rattle.limits.specs.Limits.{wrongLength}
-use Rattle.limits.specs.LimitsLaws.{either, three}
+use Rattle.limits.specs.LimitsLaws.{either, any-of-three}
 use Rattle.contents.specs.Contents.{offsetAt}
 use Rattle.contents.specs.ContentsLaws.{Laid}
 use Rattle.volume_file.specs.VolumeFile.{voxelsAt, lightAt, volumeAt, activeAt, occupiedAt}
@@ -48,7 +48,7 @@ pub lists-row : (n l v m o : ℕ) → wrongVolumeLists n l v m o ≡ false → (
 unfolding wrongVolumeLists
 lists-row n l v m o e =
     let p = either _ (wrongLength o n) .0 e in
-    let q = three (wrongLength l n) (wrongLength v (n * 16)) (wrongLength m n) .0 (p .0) in
+    let q = any-of-three (wrongLength l n) (wrongLength v (n * 16)) (wrongLength m n) .0 (p .0) in
     (exact l n (q .0), exact v (n * 16) (q .1), exact m n (q .2), exact o n (p .1))
   where
     exact : (x y : ℕ) → not (eqb x y) ≡ false → x ≡ y

@@ -6,7 +6,7 @@ ghost use Prim.Native.Nat.{_+_, _*_, _<_, _≤_};
 ghost use lib.ListN.{length};
 ghost use Rattle.names.specs.Numbers.{voxelLimit};
 ghost use Rattle.bytes_le.specs.Bytes.{f32At, floatsAt, bytesAt};
-ghost use Rattle.marks.specs.Marks.{activeCount};
+ghost use Rattle.marks.specs.Marks.{markedCount};
 ghost use Rattle.volume_file.specs.VolumeFile.{lightAt, volumeAt, activeAt, occupiedAt};
 ghost use Rattle.volume_file.specs.VolumeFileLaws.{Accepted};
 ghost use Rattle.volume.specs.Volume.{noHead, headAnswer, noFigures, figuresAnswer, zeroCount, isZero, wrongVolumeLists, wrongBytes, badLists, FileAxes, VolumeBytes, VolumeRead, VolumeWritten, FileFigures};
@@ -192,7 +192,7 @@ fn figures_of(bytes: &[u8]) -> Figures
 // How many of the n bytes from `at` on are 1.
 fn count_ones(bytes: &[u8], at: usize, n: usize) -> u64
     requires { ⌜ at + n ≤ length (now bytes) ⌝ }
-    ensures { λ r. ⌜ r ≡ activeCount (bytesAt (now (bytes .entry)) at n) ⌝ }
+    ensures { λ r. ⌜ r ≡ markedCount (bytesAt (now (bytes .entry)) at n) ⌝ }
 {
     let end = at + n;
     marks::inner::count(&bytes[at..end])

@@ -19,7 +19,7 @@ use Rattle.bytes_le.specs.Bytes.{word, u16At, u32At, f32At, floatsAt, bytesAt, 
 use Rattle.bytes_le.specs.BytesLaws.{half-bytes, word-bytes}
 use Rattle.bytes_le.specs.RoundTrip.{AllBytes, floats-kept}
 use Rattle.limits.specs.Limits.{within}
-use Rattle.limits.specs.LimitsLaws.{finite, within-finite, lights-row, coefficients-row, grid-row, vector-row}
+use Rattle.limits.specs.LimitsLaws.{finite, limit-finite, lights-row, coefficients-row, grid-row, vector-row}
 use Rattle.contents.specs.Contents.{mark, marked, axesAt, entriesAt, entryKindAt, offsetAt, lengthAt, contentsFrom, headOf, entryOf, bodiesFrom}
 use Rattle.contents.specs.ContentsLaws.{Laid}
 use Rattle.volume_file.specs.VolumeFile.{voxelsAt, lightAt, volumeAt, activeAt, occupiedAt, cornersAt}
@@ -137,7 +137,7 @@ run-numbers s at n b f w i h =
     let l : i < length (floatsAt s at n) = rw (length-tab (λ j. f32At s (at + j * 4)) n 0) h in
     let e : getD (floatsAt s at n) i nan ≡ f32At s (at + i * 4) =
     getD-tab (λ j. f32At s (at + j * 4)) n 0 i nan h ∙ ap (λ (j : ℕ). f32At s (at + j * 4)) (zero-add i) in
-    finite-number (f32At s (at + i * 4)) (within-finite b (f32At s (at + i * 4)) f (rw e at (w i l)))
+    finite-number (f32At s (at + i * 4)) (limit-finite b (f32At s (at + i * 4)) f (rw e at (w i l)))
 
 below-six : (P : ℕ → Type 0) → P 0 → P 1 → P 2 → P 3 → P 4 → P 5 → (i : ℕ) → i < 6 → P i
 below-six P a b c d e f zero h = a
@@ -149,7 +149,7 @@ below-six P a b c d e f (suc (suc (suc (suc (suc zero))))) h = f
 below-six P a b c d e f (suc (suc (suc (suc (suc (suc i)))))) h = absurd (omega arith)
 
 point-number : (x : Float) → within pointLimit x ≡ true → isNan x ≡ false
-point-number x w = finite-number x (within-finite pointLimit x point-finite w)
+point-number x w = finite-number x (limit-finite pointLimit x point-finite w)
 
 corners-list : (s : List ℕ) → floatsAt s (offsetAt s 4) 6 ≡ cornersList (cornersAt s)
 unfolding cornersAt tab

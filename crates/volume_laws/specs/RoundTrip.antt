@@ -19,7 +19,7 @@ use Rattle.grid.specs.Grid.{voxels}
 use Rattle.bytes_le.specs.Bytes.{f32At, bytesAt}
 use Rattle.bytes_le.specs.RoundTrip.{AllFit, AllBytes}
 use Rattle.limits.specs.Limits.{badAxes, badGrid, badLights, badCoefficients, badMask}
-use Rattle.limits.specs.LimitsLaws.{either, three}
+use Rattle.limits.specs.LimitsLaws.{either, any-of-three}
 use Rattle.contents.specs.Contents.{axesAt, entriesAt, offsetAt}
 use Rattle.contents.specs.ContentsLaws.{Laid}
 use Rattle.volume_file.specs.VolumeFile.{voxelsAt, lightAt, volumeAt, activeAt, occupiedAt, cornersAt, faulty}
@@ -57,7 +57,7 @@ lists-good : (l v : List Float) (m o : List ℕ) → badLists l v m o ≡ false 
 unfolding badLists
 lists-good l v m o e =
     let p = either _ (badMask o) .0 e in
-    let q = three (badLights l) (badCoefficients v) (badMask m) .0 (p .0) in
+    let q = any-of-three (badLights l) (badCoefficients v) (badMask m) .0 (p .0) in
     (q .0, q .1, q .2, p .1)
 
 -- what the writer's answer 0 says of what it was given

@@ -16,7 +16,7 @@ use Rattle.grid.specs.declared.Corners.{Corners}
 use Rattle.grid.specs.Grid.{edgesOf}
 use Rattle.limits.specs.Some.{some}
 use Rattle.limits.specs.Limits.{within, outsideV, badAxes, badCorners, badEdges, badMask, badLights, badCoefficients}
-use Rattle.marks.specs.Marks.{activeCount}
+use Rattle.marks.specs.Marks.{markedCount}
 use Rattle.bytes_le.specs.Bytes.{f32At, encode}
 use Rattle.contents.specs.Contents.{marked, headed, kindOf, bodyFits, entryGood, contentsFrom, offsetAt}
 use Rattle.volume_file.specs.VolumeFile.{cornersAt, badBodies, faulty}
@@ -45,7 +45,7 @@ unfolding smallest figuresRefusal firstOf faulty headed marked contentsFrom entr
 smallest-accepted = refl
 
 pub smallest-figures : figuresAnswer smallest ≡ record { refusal = 0; width = 1; height = 1; depth = 1; occupied = 1; active = 1; zeros = 0 }
-unfolding smallest figuresAnswer zeroCount activeCount fold tab f32At Ieee.ofBits Ieee.eq
+unfolding smallest figuresAnswer zeroCount markedCount fold tab f32At Ieee.ofBits Ieee.eq
 smallest-figures = refl
 
 pub smallest-written : fileBytes one-voxel unit-cube (quarter ∷ []) (replicate 16 zero32) (1 ∷ []) (1 ∷ []) ≡ smallest

@@ -4,7 +4,7 @@ use native.Mathlib.Omega.{arith}
 use native.Mathlib.Nat.{mul-le-mul}
 use borrow.Author.Needs.{needs}
 use Rattle.grid.specs.GridLaws.{voxels-most}
-use Rattle.blurs.specs.Blurs.{wrongLists}
+use Rattle.blurs.specs.Blurs.{wrongBlurLists}
 use Rattle.blurs.proofs.wrong_lists.Statement.{statement}
 use Rattle.blurs.proofs.wrong_lists.Tie as tie
 
@@ -15,7 +15,7 @@ mul-n : tie.Need-mul-n
 mul-n c = rw (c .voxel-count .ensures) (omega (arith, mul-le-mul (voxels-most (c .before .before .before .args .axes) (c .before .before .before .pre .0)) (c .before .before .before .pre .1)))
 
 returns : tie.Need-returns
-unfolding wrongLists
+unfolding wrongBlurLists
 returns c = rw (c .voxel-count .ensures) refl
 
 pub wrong-lists-spec : {M : Type 1} → statement M

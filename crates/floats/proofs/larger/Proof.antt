@@ -1,5 +1,5 @@
 -- `floats::larger` meets its contract: past the tests for NaN the definition's choice is the code's.
-use mathlib.Core.Path.{_≡_, sym, _∙_}
+use mathlib.Core.Path.{sym, _∙_}
 use mathlib.Core.Bool.{true, false}
 use lib.Ieee.{lt}
 use Rattle.floats.proofs.Choose.{no-number, pick-left, pick-right, pick-by, larger-is}

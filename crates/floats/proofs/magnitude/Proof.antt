@@ -1,5 +1,5 @@
 -- `floats::magnitude` meets its contract: a pattern with its sign cleared stands for the number with its sign made plus.
-use mathlib.Core.Path.{_≡_, sym, _∙_, subst}
+use mathlib.Core.Path.{sym, _∙_, subst}
 use lib.Dec.{T}
 use lib.Ieee.{binary32, fits}
 use Rattle.floats.proofs.Choose.{no-number, no-nan, nan-magnitude, magnitude-of, magnitude-pattern}

@@ -1,5 +1,5 @@
 -- `floats::number` meets its contract: past the infinity's pattern every pattern is a NaN's, and `ofBits` makes that the one NaN.
-use mathlib.Core.Path.{_≡_, sym, _∙_}
+use mathlib.Core.Path.{sym, _∙_}
 use Rattle.floats.proofs.Choose.{no-number, nan-pattern, number-pattern}
 use Rattle.floats.proofs.number.Statement.{statement}
 use Rattle.floats.proofs.number.Tie as tie

@@ -1,5 +1,5 @@
 -- `floats::pattern` meets its contract: only a NaN differs from itself, and its pattern is the one that `toBits` writes.
-use mathlib.Core.Path.{_≡_, sym, ap, _∙_}
+use mathlib.Core.Path.{sym, ap, _∙_}
 use borrow.Author.Needs.{needs}
 use lib.Ieee.{binary32, toBits}
 use Rattle.floats.proofs.Choose.{is-nan, no-nan, nan-written}

@@ -6,7 +6,7 @@ use borrow.Author.Tests.{eq-eqb, ne-eqb}
 use Rattle.names.specs.Scene.{sceneOf}
 use Rattle.names.specs.Refusals.{unlessRefused, kept}
 use Rattle.sun.specs.Sun.{sunLight, sunScratch}
-use Rattle.sun.specs.SunLaws.{Ready, sun-ready}
+use Rattle.sun.specs.SunLaws.{SunReady, sun-ready}
 use borrow.Author.Needs.{needs}
 use Rattle.sun.proofs.sun.Statement.{statement}
 use Rattle.sun.proofs.sun.Tie as tie
@@ -14,7 +14,7 @@ use Rattle.sun.proofs.sun.Tie as tie
 -- what an accepted call has
 ready : (c : tie.Then1)
     → let a = c .before .before .before .before .before .before .before .before .before .before .before .args in
-    Ready (a .axes) (sceneOf (a .points .now) (a .uses .now) (a .kinds .now) (a .numbers .now)) (length (a .active .now)) (length (a .light .now)) (length (a .scratch .now)) (length (a .distances .now)) (length (a .places .now))
+    SunReady (a .axes) (sceneOf (a .points .now) (a .uses .now) (a .kinds .now) (a .numbers .now)) (length (a .active .now)) (length (a .light .now)) (length (a .scratch .now)) (length (a .distances .now)) (length (a .places .now))
 ready c = sun-ready _ _ _ _ _ _ _ _ _ (sym (c .before .judge .ensures) ∙ c .if1 .taken)
 
 judge-requires : tie.Need-judge-requires

@@ -4,13 +4,13 @@ use mathlib.Core.Path.{_≡_, refl, sym, _∙_}
 use mathlib.Core.Bool.{Bool, true, false}
 use mathlib.Core.List.{List}
 use Prim.Native.Nat.{ℕ}
-use Rattle.marks.specs.Marks.{activeCount}
+use Rattle.marks.specs.Marks.{markedCount}
 use Rattle.marks.specs.MarksLaws.{none-active, active-none}
 use Rattle.ends.specs.Ends.{anyActive}
 use Rattle.ends.proofs.inner.finish.Statement.{statement}
 use Rattle.ends.proofs.inner.finish.Tie as tie
 
-some-active : (mask : List ℕ) → (activeCount mask ≡ 0 → ⊥) → anyActive mask ≡ true
+some-active : (mask : List ℕ) → (markedCount mask ≡ 0 → ⊥) → anyActive mask ≡ true
 some-active mask n = go (anyActive mask) refl
   where
     go : (b : Bool) → anyActive mask ≡ b → anyActive mask ≡ true

@@ -1,5 +1,5 @@
 -- `floats::inner::whole_of` meets its contract: −0 is set aside, and every other such number is the float of the integer that it is cast to.
-use mathlib.Core.Path.{_≡_, sym}
+use mathlib.Core.Path.{sym}
 use Rattle.floats.specs.WholeLaws.{whole-zero, whole-cast}
 use Rattle.floats.proofs.inner.whole_of.Statement.{statement}
 use Rattle.floats.proofs.inner.whole_of.Tie as tie

@@ -1,5 +1,5 @@
 -- `grid::inner::index` meets its contract: a row lies below depth times height, the index below the number of voxels, so nothing wraps.
-use Prim.Native.Nat.{ℕ, _+_, _*_, _<_, _≤_}
+use Prim.Native.Nat.{ℕ, _+_, _*_, _<_}
 use borrow.Author.Needs.{needs}
 use native.Mathlib.Omega.{arith}
 use Rattle.names.specs.Numbers.{axisLimit, voxelLimit}

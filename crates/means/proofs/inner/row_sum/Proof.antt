@@ -3,7 +3,7 @@ use Prim.Native.Nat.{_+_, _-_, _*_, _≤_, _<_}
 use mathlib.Core.Path.{_≡_, refl, sym, _∙_}
 use native.Mathlib.Omega.{arith}
 use lib.ListN.{length}
-use Rattle.lists.specs.Fold.{fold, fold-step, fold-end, within, factor}
+use Rattle.lists.specs.Fold.{fold, fold-step, fold-end, place-within, factor}
 use Rattle.means.specs.Sums.{plusCell, rowSum}
 use Rattle.means.proofs.inner.row_sum.Statement.{statement}
 use Rattle.means.proofs.inner.row_sum.Tie as tie
@@ -20,7 +20,7 @@ at : (c : tie.In-loop Inv-loop μ-loop)
     → (c .before .before .args .row + c .before .loop .x) * c .before .before .args .stride + c .before .before .args .c < length (c .before .before .args .src .now)
 at c =
     let a = c .before .before .args in
-    within (a .row) (c .before .loop .x) (a .t) (a .c) (a .stride) (c .loop-test .taken) (c .before .before .pre .0) (c .before .before .pre .2)
+    place-within (a .row) (c .before .loop .x) (a .t) (a .c) (a .stride) (c .loop-test .taken) (c .before .before .pre .0) (c .before .before .pre .2)
 
 loop-holds : tie.Need-loop-holds Inv-loop μ-loop
 unfolding rowSum

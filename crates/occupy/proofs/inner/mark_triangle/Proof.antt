@@ -2,7 +2,7 @@
 use mathlib.Core.Path.{refl, sym, _∙_}
 use borrow.Author.Needs.{needs}
 use Rattle.samples.specs.Samples.{targetOf}
-use Rattle.samples.specs.SamplesLaws.{count-most, side-most}
+use Rattle.samples.specs.SamplesLaws.{samples-most, side-most}
 use Rattle.occupy.specs.Marking.{markTriangle}
 use Rattle.occupy.proofs.inner.mark_triangle.Statement.{statement}
 use Rattle.occupy.proofs.inner.mark_triangle.Tie as tie
@@ -18,7 +18,7 @@ sample-count-requires : tie.Need-sample-count-requires
 sample-count-requires c κs = search needs
 
 side-requires : tie.Need-side-requires
-side-requires c κs = rw (c .sample-count .ensures) (count-most (targetOf (c .before .before .before .before .args .t) (c .before .before .before .before .args .e)))
+side-requires c κs = rw (c .sample-count .ensures) (samples-most (targetOf (c .before .before .before .before .args .t) (c .before .before .before .before .args .e)))
 
 mark-rows-requires : tie.Need-mark-rows-requires
 mark-rows-requires c κs =

@@ -1,8 +1,7 @@
 -- `scan::inner::transmittance` meets its contract: the hits are collected in order, every place of them stands in the list of uses, and the product
 -- is taken over them.
-use mathlib.Core.Path.{_≡_, sym}
-use Prim.Native.Nat.{ℕ, _<_}
-use lib.ListN.{length, getD}
+use mathlib.Core.Path.{sym}
+use lib.ListN.{length}
 use lib.Seq.{length-take-le}
 use native.Mathlib.Omega.{arith}
 use Rattle.scan.specs.HitLaws.{places-below}

@@ -1,2 +1,0 @@
--- What an accepted call knows of its rows.
-pub mod Passed
