@@ -1,21 +1,23 @@
--- The contracts of the blurs leave one result, an accepted call has lists that fit its grid, and a good call is accepted.
+-- The contracts of the blurs leave one result, a call is refused by row k exactly when that row holds and none before it, an accepted call has lists that
+-- fit its grid, and a good call is accepted.
 use mathlib.Core.Path.{_≡_, refl, sym, _∙_}
 use mathlib.Core.Bool.{false}
+use mathlib.Core.Logic.{_↔_}
 use mathlib.Core.List.{List, [], _∷_}
 use Prim.Native.Nat.{ℕ, _+_, _*_, _<_}
 use native.Mathlib.Omega.{arith}
 use lib.ListN.{length}
 use lib.Ieee.{Float, ofBits, ofFields, add, div, mul, neg, le, lt, eq, ofInt, round, sum, units, odd, size, climb, span}
 use borrow.Author.Tests.{eqb-true, not-false}
-use Rattle.names.specs.Bits.{lit, half32, one32, zero32}
-use Rattle.names.specs.Refusals.{firstOf, kept, given}
+use Rattle.names.specs.Bits.{lit, half32, one32, two32, zero32}
+use Rattle.names.specs.Refusals.{firstOf, FirstIs, NoneHolds, first-given, first-found, none-given, none-found, kept, given}
 use Rattle.lists.specs.Fold.{fold, tab, place}
 use Rattle.grid.specs.declared.Axes.{Axes}
 use Rattle.grid.specs.Grid.{voxels, AxesWithin}
-use Rattle.limits.specs.Limits.{within, badAxes, badLights, wrongLength}
+use Rattle.limits.specs.Limits.{within, badAxes, badLights, badCoefficients, wrongLength}
 use Rattle.limits.specs.LimitsLaws.{axes-row, either}
 use Rattle.limits.specs.Some.{some}
-use Rattle.means.specs.Box.{lightBlurOf, squareAt, coefficientBlurOf, meanAt, meanIn, around, along}
+use Rattle.means.specs.Box.{lightBlurOf, squareAt, coefficientBlurOf, meanOf, meanAt, meanIn, around, along}
 use Rattle.means.specs.BoxLaws.{Neighbour}
 use Rattle.names.specs.Passed.{passed}
 use Rattle.blurs.specs.Blurs.{wrongBlurLists, lightBlurRows, lightBlurRefusal, LightBlurred, coefficientBlurRows, coefficientBlurRefusal, CoefficientsBlurred}
@@ -38,6 +40,26 @@ pub coefficients-blurred-once : (axes : Axes) (volume scratch : List Float) (r�
 coefficients-blurred-once axes volume scratch r₁ r₂ v₁ s₁ v₂ s₂ a b =
     let e : r₁ ≡ r₂ = a .answer ∙ sym (b .answer) in
     record { same-answer = e; same-list = a .volume-after ∙ rw e (sym (b .volume-after)); same-scratch = a .scratch-after ∙ rw e (sym (b .scratch-after)) }
+
+-- ---- k is refused exactly when row k holds and none before it, and a call is accepted exactly when none holds
+
+module _ (axes : Axes) (list scratch : List Float) where
+  pub light-blur-refused-by : (k : ℕ) → 0 < k → (lightBlurRefusal axes list scratch ≡ k) ↔ FirstIs k (lightBlurRows axes list scratch)
+  unfolding lightBlurRefusal
+  light-blur-refused-by k h = (first-found k (lightBlurRows axes list scratch) h, first-given)
+
+  pub light-blur-passed-by : (lightBlurRefusal axes list scratch ≡ 0) ↔ NoneHolds (lightBlurRows axes list scratch)
+  unfolding lightBlurRefusal
+  light-blur-passed-by = (none-found (lightBlurRows axes list scratch) (omega arith, (omega arith, (omega arith, tt))), none-given)
+
+  pub coefficient-blur-refused-by : (k : ℕ) → 0 < k
+      → (coefficientBlurRefusal axes list scratch ≡ k) ↔ FirstIs k (coefficientBlurRows axes list scratch)
+  unfolding coefficientBlurRefusal
+  coefficient-blur-refused-by k h = (first-found k (coefficientBlurRows axes list scratch) h, first-given)
+
+  pub coefficient-blur-passed-by : (coefficientBlurRefusal axes list scratch ≡ 0) ↔ NoneHolds (coefficientBlurRows axes list scratch)
+  unfolding coefficientBlurRefusal
+  coefficient-blur-passed-by = (none-found (coefficientBlurRows axes list scratch) (omega arith, (omega arith, (omega arith, tt))), none-given)
 
 -- ---- what an accepted call has
 
@@ -117,3 +139,20 @@ pair-accepted = refl
 pub pair-blurred : lightBlurOf (one32 ∷ zero32 ∷ []) 2 1 1 ≡ lit 0x3e800000 ∷ lit 0x3e800000 ∷ []
 unfolding lightBlurOf squareAt meanAt meanIn around along fold tab ofBits ofFields add div mul ofInt round sum units odd size climb span
 pair-blurred = refl
+
+-- sixteen numbers of one voxel, which is its only neighbour: each is its own mean, and is not squared
+abbrev sixteenNumbers : List Float
+sixteenNumbers =
+    one32 ∷ half32 ∷ zero32 ∷ two32 ∷ half32 ∷ half32 ∷ one32 ∷ zero32 ∷ two32 ∷ one32 ∷ half32 ∷ zero32 ∷ zero32 ∷ one32 ∷ two32 ∷ half32 ∷ []
+
+abbrev sixteenZeros : List Float
+sixteenZeros =
+    zero32 ∷ zero32 ∷ zero32 ∷ zero32 ∷ zero32 ∷ zero32 ∷ zero32 ∷ zero32 ∷ zero32 ∷ zero32 ∷ zero32 ∷ zero32 ∷ zero32 ∷ zero32 ∷ zero32 ∷ zero32 ∷ []
+
+pub sixteen-accepted : coefficientBlurRefusal (axesOf 1 1 1) sixteenNumbers sixteenZeros ≡ 0
+unfolding coefficientBlurRefusal firstOf badAxes wrongBlurLists badCoefficients some within ofBits ofFields odd neg le lt eq
+sixteen-accepted = refl
+
+pub sixteen-blurred : coefficientBlurOf sixteenNumbers 1 1 1 ≡ sixteenNumbers
+unfolding meanOf meanAt meanIn around along fold tab ofBits ofFields add div mul ofInt round sum units odd size climb span
+sixteen-blurred = refl
