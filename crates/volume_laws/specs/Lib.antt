@@ -4,3 +4,4 @@ pub mod Kept
 pub mod RoundTrip
 pub mod InWords
 pub mod Smallest
+pub mod VolumeRefusals

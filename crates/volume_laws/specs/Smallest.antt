@@ -1,27 +1,28 @@
--- Document 01's file of 166 bytes: 1 by 1 by 1, light .25, zero coefficients, masks 1, corners 0,0,0 and 1,1,1. It is accepted, its
--- figures are 1 1 1 1 1 0, and it is what the writer writes of these. The empty input is refused 12. All by computation.
-use mathlib.Core.Path.{_≡_, refl}
+-- Document 01's file of 166 bytes: 1 by 1 by 1, light .25, zero coefficients, masks 1, corners 0,0,0 and 1,1,1. Each call
+-- accepts it, its figures are 1 1 1 1 1 0, and it is what the writer writes of these. The empty input is refused 12. All by computation.
+use mathlib.Core.Path.{_≡_, refl, ap}
 use mathlib.Core.Bool.{Bool, false}
 use mathlib.Core.List.{List, [], _∷_, _++_}
 use Prim.Native.Nat.{ℕ}
+use lib.Dec.{ltb}
 use lib.ListN.{length, replicate}
 use lib.Ieee as Ieee
 use lib.Ieee.{Float}
 use Rattle.names.specs.Bits.{lit, zero32, one32}
-use Rattle.names.specs.Refusals.{firstOf, unlessRefused}
+use Rattle.names.specs.Refusals.{row, firstOf}
 use Rattle.lists.specs.Fold.{fold, tab}
 use Rattle.vectors.specs.Vectors.{vec}
 use Rattle.grid.specs.declared.Axes.{Axes}
 use Rattle.grid.specs.declared.Corners.{Corners}
-use Rattle.grid.specs.Grid.{edgesOf}
+use Rattle.grid.specs.Grid.{voxels, edgesOf}
 use Rattle.limits.specs.Some.{some}
 use Rattle.limits.specs.Limits.{within, outsideV, badAxes, badCorners, badEdges, badMask, badLights, badCoefficients}
 use Rattle.marks.specs.Marks.{markedCount}
 use Rattle.bytes_le.specs.Bytes.{f32At, encode}
 use Rattle.contents.specs.Contents.{marked, headed, kindOf, bodyFits, entryGood, contentsFrom, offsetAt}
-use Rattle.volume_file.specs.VolumeFile.{cornersAt, badBodies, faulty}
-use Rattle.volume_write.specs.FileBytes.{contentsOf, fileBytes}
-use Rattle.volume.specs.Volume.{fileRefusal, figuresRefusal, figuresAnswer, zeroCount, wrongVolumeLists, wrongBytes, badLists, writeRefusal}
+use Rattle.volume_file.specs.VolumeFile.{voxelsAt, cornersAt, badBodies, faulty}
+use Rattle.volume_write.specs.FileBytes.{bytesFor, contentsOf, fileBytes}
+use Rattle.volume.specs.Volume.{fileRefusal, neededRefusal, readRefusal, figuresLimit, figuresRefusal, figuresAnswer, zeroCount, wrongVolumeLists, wrongBytes, badLists, writeRefusal}
 
 pub smallest : List ℕ
 smallest =
@@ -40,13 +41,31 @@ pub smallest-offsets : (offsetAt smallest 0 ≡ 72) × (offsetAt smallest 1 ≡ 
 unfolding smallest
 smallest-offsets = (refl, refl, refl, refl, refl)
 
+-- the judge accepts it, and so does each call that reads a file
+pub smallest-sound : faulty smallest ≡ false
+unfolding smallest faulty headed marked contentsFrom entryGood kindOf bodyFits badAxes badBodies cornersAt f32At tab some within outsideV badCorners badEdges edgesOf badMask badLights badCoefficients Ieee.ofBits Ieee.neg Ieee.le Ieee.lt Ieee.eq Ieee.sub Ieee.div Ieee.add Ieee.ofInt
+smallest-sound = refl
+
 pub smallest-accepted : figuresRefusal smallest ≡ 0
-unfolding smallest figuresRefusal firstOf faulty headed marked contentsFrom entryGood kindOf bodyFits badAxes badBodies cornersAt f32At tab some within outsideV badCorners badEdges edgesOf badMask badLights badCoefficients Ieee.ofBits Ieee.neg Ieee.le Ieee.lt Ieee.eq Ieee.sub Ieee.div Ieee.add Ieee.ofInt
-smallest-accepted = refl
+unfolding smallest figuresRefusal firstOf
+smallest-accepted = ap (λ (b : Bool). firstOf (row 14 (ltb figuresLimit (length smallest)) ∷ row 12 b ∷ [])) smallest-sound
+
+pub smallest-axes-accepted : fileRefusal smallest ≡ 0
+unfolding fileRefusal firstOf
+smallest-axes-accepted = ap (λ (b : Bool). firstOf (row 12 b ∷ [])) smallest-sound
+
+pub smallest-read-accepted : readRefusal smallest (zero32 ∷ []) (replicate 16 zero32) (0 ∷ []) (0 ∷ []) ≡ 0
+unfolding smallest readRefusal firstOf wrongVolumeLists
+smallest-read-accepted = ap (λ (b : Bool). firstOf (row 12 b ∷ row 3 (wrongVolumeLists (voxelsAt smallest) 1 16 1 1) ∷ [])) smallest-sound
 
 pub smallest-figures : figuresAnswer smallest ≡ record { refusal = 0; width = 1; height = 1; depth = 1; occupied = 1; active = 1; zeros = 0 }
 unfolding smallest figuresAnswer zeroCount markedCount fold tab f32At Ieee.ofBits Ieee.eq
 smallest-figures = refl
+
+-- the bytes that the writer asks for
+pub smallest-needed : (neededRefusal one-voxel ≡ 0) × (bytesFor (voxels one-voxel) ≡ 166)
+unfolding one-voxel neededRefusal firstOf badAxes
+smallest-needed = (refl, refl)
 
 pub smallest-written : fileBytes one-voxel unit-cube (quarter ∷ []) (replicate 16 zero32) (1 ∷ []) (1 ∷ []) ≡ smallest
 unfolding smallest one-voxel unit-cube quarter fileBytes contentsOf encode Ieee.toBits Ieee.ofBits
