@@ -1,6 +1,8 @@
--- The contract leaves one result, an accepted call has masks that fit its grid, what its entries mean, and a good call is accepted.
+-- The contract leaves one result, a call is refused by row k exactly when that row holds and none before it, an accepted call has masks that fit its
+-- grid, what its entries mean, and a good call is accepted.
 use mathlib.Core.Path.{_≡_, refl, sym, _∙_}
 use mathlib.Core.Bool.{true}
+use mathlib.Core.Logic.{_↔_}
 use mathlib.Core.List.{List, [], _∷_}
 use Prim.Native.Nat.{ℕ, _%_, _<_}
 use native.Mathlib.Omega.{arith}
@@ -9,7 +11,7 @@ use lib.Ieee as Ieee
 use lib.Ieee.{Float}
 use borrow.Author.Tests.{eqb-true, not-false}
 use Rattle.names.specs.Bits.{zero32, one32}
-use Rattle.names.specs.Refusals.{firstOf, kept, given}
+use Rattle.names.specs.Refusals.{firstOf, FirstIs, NoneHolds, first-given, first-found, none-given, none-found, kept, given}
 use Rattle.lists.specs.Fold.{tab}
 use Rattle.lists.specs.Any.{any}
 use Rattle.floats.specs.Root.{rootOf}
@@ -50,6 +52,19 @@ masks-filled-once axes corners points occupied active r₁ r₂ o₁ a₁ o₂ a
       same-occupied = p .occupied-after ∙ sym (q .occupied-after);
       same-active = p .active-after ∙ sym (q .active-after);
     }
+
+-- ---- k is refused exactly when row k holds and none before it, and a call is accepted exactly when none holds
+
+module _ (axes : Axes) (corners : Corners) (points : List Float) (occupied active : List ℕ) where
+  pub masks-refused-by : (k : ℕ) → 0 < k
+      → (masksRefusal axes corners points occupied active ≡ k) ↔ FirstIs k (masksRows axes corners points occupied active)
+  unfolding masksRefusal
+  masks-refused-by k h = (first-found k (masksRows axes corners points occupied active) h, first-given)
+
+  pub masks-passed-by : (masksRefusal axes corners points occupied active ≡ 0) ↔ NoneHolds (masksRows axes corners points occupied active)
+  unfolding masksRefusal
+  masks-passed-by =
+      (none-found (masksRows axes corners points occupied active) (omega arith, (omega arith, (omega arith, (omega arith, (omega arith, tt))))), none-given)
 
 -- ---- what an accepted call has
 
