@@ -1,0 +1,2 @@
+-- When a triangle is met: exactly when every test is passed.
+pub mod MeetLaws

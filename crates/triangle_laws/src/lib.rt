@@ -1,0 +1,1 @@
+// Laws only: specs/ says when a triangle is met, both ways.
