@@ -1,20 +1,22 @@
--- What the places mean: a clamped cell is the cell itself within the axis and the last past its end; the cells read lie in the grid.
+-- What the places mean: a clamped cell is the cell itself within the axis and the last past its end; a coordinate's cell is its floor; the cells read lie
+-- in the grid.
 use mathlib.Core.Path.{_≡_, refl, sym, ap, _∙_}
 use mathlib.Core.Bool.{Bool, true, false, _||_, _&&_, or-false, false≢true}
-use Prim.Native.Nat.{ℕ, _+_, _-_, _*_, _≤_, _<_}
-use native.Mathlib.Nat.{not-le-of-lt, zero-mul, mul-one, mul-right-comm, mul-pos, le-min, le-div-iff-mul-le, le-of-mul-le-mul-right}
+use Prim.Native.Nat.{ℕ, _+_, _-_, _*_, _/_, _^_, _≤_, _<_, min}
+use native.Mathlib.Nat.{not-le-of-lt, zero-mul, mul-one, mul-right-comm, mul-pos, le-min, le-div-iff-mul-le, div-lt-iff-lt-mul, le-of-mul-le-mul-right, lt-of-lt-of-le}
 use native.Mathlib.Omega.{arith}
-use lib.Dec.{ltb, eqb}
-use lib.IntN.{pos}
+use lib.Dec.{ltb, eqb, le→leb}
+use lib.IntN.{ℤ, pos}
 use lib.Ieee as Ieee
-use lib.Ieee.{Float, nan, inf, fin, up, down, binary32, lt, le, eq, toUnsigned}
+use lib.Ieee.{Float, nan, inf, fin, up, down, binary32, lt, le, eq, round, inFloat, toUnsigned}
 use lib.Ieee.Exact.{HasValue}
-use lib.Ieee.Back.{round-whole}
+use lib.Ieee.Back.{round-whole, unsigned-back}
 use lib.Ieee.Fits.{down-pos}
+use lib.Pow.{pow-mono}
 use Rattle.names.specs.Bits.{zero32}
 use Rattle.names.specs.Numbers.{axisLimit}
 use borrow.Author.Tests.{lt-ltb, le-ltb, ltb-true, ltb-false, eqb-true}
-use Rattle.floats.specs.Whole.{floorOf}
+use Rattle.floats.specs.Whole.{step, toward, floorOf}
 use Rattle.vectors.specs.declared.Vec3.{Vec3}
 use Rattle.grid.specs.declared.Axes.{Axes}
 use Rattle.grid.specs.declared.Corners.{Corners}
@@ -161,3 +163,33 @@ whole-most n h k (fin false m e) (fin false l d) v q =
 pub cell-past : (n : ℕ) (g : Float) → 1 ≤ n → n ≤ axisLimit → le (floatOf n) g ≡ true → clampedCell n g ≡ n - 1
 unfolding clampedCell Ieee.ofInt
 cell-past n g h k e = clamped-last n _ (whole-most n h k (floatOf n) g (round-whole binary32 false n (omega arith)) e)
+
+-- ---- within an axis
+
+-- the floor of a number from k up and below k + 1, m·up / down, is k
+floor-is : (k m : ℕ) (e : ℤ) → k * down e ≤ m * up e → m * up e < (k + 1) * down e → floorOf (fin false m e) ≡ floatOf k
+unfolding toward step Ieee.ofInt
+floor-is k m e h l =
+    let a : k ≤ m * up e / down e = le-div-iff-mul-le (down-pos e) .1 h in
+    let b : m * up e / down e < k + 1 = div-lt-iff-lt-mul (down-pos e) .1 l in
+    let q : m * up e / down e ≡ k = omega arith in
+    ap (λ (c : ℕ). round binary32 false c 1) q
+
+cell-of-whole : (n k : ℕ) → k < n → n ≤ axisLimit → clampedCell n (floatOf k) ≡ k
+unfolding clampedCell inFloat
+cell-of-whole n k h w =
+    ap (clamped n) (unsigned-back binary32 64 k (le→leb k 16777216 (omega arith)) (lt-of-lt-of-le {m = 2 ^ 16} (omega arith) (pow-mono {i = 16} {j = 64} (omega arith))) .1)
+    ∙ clamped-same n k h
+
+clamped-next : (n k : ℕ) → k < n → clamped n (k + 1) ≡ min (k + 1) (n - 1)
+clamped-next n k h = go (ltb (k + 1) n) refl
+  where
+    go : (b : Bool) → ltb (k + 1) n ≡ b → clamped n (k + 1) ≡ min (k + 1) (n - 1)
+    go true e = let p = ltb-true (k + 1) n e in clamped-same n (k + 1) p ∙ (omega arith)
+    go false e = let p = ltb-false (k + 1) n e in clamped-last n (k + 1) p ∙ (omega arith)
+
+-- k ≤ f < k + 1 ≤ n, where f is m·up / down: the cell is k, the next is the one above it or the last, and the fraction is f less k
+pub floor-between : (n k m : ℕ) (e : ℤ) → k + 1 ≤ n → n ≤ axisLimit → k * down e ≤ m * up e → m * up e < (k + 1) * down e
+    → betweenOf n (fin false m e) ≡ record { cell = k; next = min (k + 1) (n - 1); fraction = Ieee.sub binary32 (fin false m e) (floatOf k) }
+unfolding betweenOf
+floor-between n k m e c w h l = rw (floor-is k m e h l, cell-of-whole n k (omega arith) w, clamped-next n k (omega arith))
