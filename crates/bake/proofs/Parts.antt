@@ -116,6 +116,8 @@ module _ {b : BakeInput} {s : Stage Float} {a : ℕ} where
         volume = ap (λ (y : Called Float). y .stage .volume) c;
         scratch = ap (λ (y : Called Float). y .stage .scratch) c;
         hits = record { distances = λ z. refl; places = λ z. refl };
+        distances-long = refl;
+        places-long = refl;
       }
 
   pub accepts : {n : ℕ} → n ≡ bakeRefusal b s a → n ≡ 0 → Fits b s a
@@ -123,8 +125,10 @@ module _ {b : BakeInput} {s : Stage Float} {a : ℕ} where
 
   pub answers : {n : ℕ} {r : Reached} {v x d d' : List Float} {q q' : List ℕ} → n ≡ bakeRefusal b s a → n ≡ 0
       → Accepts (accepted (bakeOf b) a s) r v x d d' q q'
+      → length d' ≡ length d
+      → length q' ≡ length q
       → Baked b s a (record { refusal = 0; progress = r .progress; rays = r .rays }) v x d d' q q'
-  answers e z w =
+  answers e z w m n =
       let c = sym (accepted-call b s a (sym e ∙ z)) in
       record {
         refusal = sym (accepted-none b s a) ∙ ap (λ (y : Called Float). y .refusal) c;
@@ -133,4 +137,6 @@ module _ {b : BakeInput} {s : Stage Float} {a : ℕ} where
         volume = w .volume ∙ ap (λ (y : Called Float). y .stage .volume) c;
         scratch = w .scratch ∙ ap (λ (y : Called Float). y .stage .scratch) c;
         hits = w .hits;
+        distances-long = m;
+        places-long = n;
       }

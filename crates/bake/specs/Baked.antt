@@ -1,5 +1,5 @@
 -- What a call of the bake comes to, by what it is handed: the answer and the lists of `call` of the crate spread, of the bake that the input makes up.
--- Hit scratch is as it was where no ray is fired, and otherwise open. Assumes nothing.
+-- Hit scratch keeps its lengths; it is as it was where no ray is fired, and otherwise open. Assumes nothing.
 use mathlib.Core.Path.{_≡_}
 use mathlib.Core.List.{List}
 use Prim.Native.Nat.{ℕ}
@@ -21,6 +21,8 @@ pub record Baked (b : BakeInput) (s : Stage Float) (allowance : ℕ) (r : BakeAn
   pub volume : v ≡ bakeCall b s allowance .stage .volume
   pub scratch : x ≡ bakeCall b s allowance .stage .scratch
   pub hits : Unhit (r .rays) d d' p p'
+  pub distances-long : length d' ≡ length d
+  pub places-long : length p' ≡ length p
 
 -- the end, where the walk reached it: elsewhere both lists are as they were
 pub record Ends (axes : Axes) (active : List ℕ) (reached : ℕ) (v x v' x' : List Float) : Type 0 where
