@@ -1,5 +1,6 @@
--- Document 01's file of 166 bytes: 1 by 1 by 1, light .25, zero coefficients, masks 1, corners 0,0,0 and 1,1,1. Each call
--- accepts it, its figures are 1 1 1 1 1 0, and it is what the writer writes of these. The empty input is refused 12. All by computation.
+-- Document 01's file of 166 bytes: 1 by 1 by 1, light .25, zero coefficients, masks 1, corners 0,0,0 and 1,1,1. Each call that
+-- reads a file accepts it, its figures are 1 1 1 1 1 0, the writer accepts what it holds, asks for 166 bytes and writes it. The empty input is
+-- refused 12. All by computation.
 use mathlib.Core.Path.{_≡_, refl, ap}
 use mathlib.Core.Bool.{Bool, false}
 use mathlib.Core.List.{List, [], _∷_, _++_}
@@ -20,9 +21,9 @@ use Rattle.limits.specs.Limits.{within, outsideV, badAxes, badCorners, badEdges
 use Rattle.marks.specs.Marks.{markedCount}
 use Rattle.bytes_le.specs.Bytes.{f32At, encode}
 use Rattle.contents.specs.Contents.{marked, headed, kindOf, bodyFits, entryGood, contentsFrom, offsetAt}
-use Rattle.volume_file.specs.VolumeFile.{voxelsAt, cornersAt, badBodies, faulty}
+use Rattle.volume_file.specs.VolumeFile.{voxelsAt, lightAt, volumeAt, activeAt, occupiedAt, cornersAt, badBodies, faulty}
 use Rattle.volume_write.specs.FileBytes.{bytesFor, contentsOf, fileBytes}
-use Rattle.volume.specs.Volume.{fileRefusal, neededRefusal, readRefusal, figuresLimit, figuresRefusal, figuresAnswer, zeroCount, wrongVolumeLists, wrongBytes, badLists, writeRefusal}
+use Rattle.volume.specs.Volume.{headAnswer, fileRefusal, neededRefusal, readRefusal, figuresLimit, figuresRefusal, figuresAnswer, zeroCount, wrongVolumeLists, wrongBytes, badLists, writeRefusal}
 
 pub smallest : List ℕ
 smallest =
@@ -57,6 +58,15 @@ smallest-axes-accepted = ap (λ (b : Bool). firstOf (row 12 b ∷ [])) smallest-
 pub smallest-read-accepted : readRefusal smallest (zero32 ∷ []) (replicate 16 zero32) (0 ∷ []) (0 ∷ []) ≡ 0
 unfolding smallest readRefusal firstOf wrongVolumeLists
 smallest-read-accepted = ap (λ (b : Bool). firstOf (row 12 b ∷ row 3 (wrongVolumeLists (voxelsAt smallest) 1 16 1 1) ∷ [])) smallest-sound
+
+-- what they answer and fill
+pub smallest-head : headAnswer smallest ≡ record { refusal = 0; axes = one-voxel; corners = unit-cube }
+unfolding smallest one-voxel unit-cube headAnswer cornersAt f32At Ieee.ofBits
+smallest-head = refl
+
+pub smallest-read : (lightAt smallest ≡ quarter ∷ []) × (volumeAt smallest ≡ replicate 16 zero32) × (activeAt smallest ≡ 1 ∷ []) × (occupiedAt smallest ≡ 1 ∷ [])
+unfolding smallest quarter tab f32At Ieee.ofBits
+smallest-read = (refl, refl, refl, refl)
 
 pub smallest-figures : figuresAnswer smallest ≡ record { refusal = 0; width = 1; height = 1; depth = 1; occupied = 1; active = 1; zeros = 0 }
 unfolding smallest figuresAnswer zeroCount markedCount fold tab f32At Ieee.ofBits Ieee.eq
