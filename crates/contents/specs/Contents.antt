@@ -1,7 +1,7 @@
 -- "`VGRD`, three u16 axes, u16 entry count (5..16); then the table of contents, entries of u32 kind, u32 offset (from the file's
 -- first byte), u32 length; then bodies in that order, no gaps, nothing after. Kinds ascend strictly: 1 light, 2 SH4, 3 active,
 -- 4 occupied, 5 six corner floats, all required; 128..255 are foreign bodies of any length, skipped; every other kind is refused."
--- Kinds that ascend and hold 1 to 5 begin with them, so entry i is judged by its place (ContentsLaws shows both ways). Offsets and
+-- Kinds that ascend and hold 1 to 5 begin with them, so entry i is judged by its place (`contents-in-words` of volume_laws shows both ways). Offsets and
 -- lengths are whole numbers here: their sums cannot wrap. Assumes nothing.
 use mathlib.Core.Bool.{Bool, true, false, cond, _&&_}
 use mathlib.Core.List.{List, [], _∷_, _++_}
