@@ -2,8 +2,8 @@
 -- in the grid.
 use mathlib.Core.Path.{_≡_, refl, sym, ap, _∙_}
 use mathlib.Core.Bool.{Bool, true, false, _||_, _&&_, or-false, false≢true}
-use Prim.Native.Nat.{ℕ, _+_, _-_, _*_, _/_, _^_, _≤_, _<_, min}
-use native.Mathlib.Nat.{not-le-of-lt, zero-mul, mul-one, mul-right-comm, mul-pos, le-min, le-div-iff-mul-le, div-lt-iff-lt-mul, le-of-mul-le-mul-right, lt-of-lt-of-le}
+use Prim.Native.Nat.{ℕ, zero, suc, _+_, _-_, _*_, _/_, _^_, _≤_, _<_, min}
+use native.Mathlib.Nat.{not-le-of-lt, zero-mul, mul-one, mul-right-comm, mul-pos, le-min, le-div-iff-mul-le, div-lt-iff-lt-mul, le-of-mul-le-mul-right, lt-of-mul-lt-mul-right, lt-of-lt-of-le}
 use native.Mathlib.Omega.{arith}
 use lib.Dec.{ltb, eqb, le→leb}
 use lib.IntN.{ℤ, pos}
@@ -17,6 +17,7 @@ use Rattle.names.specs.Bits.{zero32}
 use Rattle.names.specs.Numbers.{axisLimit}
 use borrow.Author.Tests.{lt-ltb, le-ltb, ltb-true, ltb-false, eqb-true}
 use Rattle.floats.specs.Whole.{step, toward, floorOf}
+use Rattle.floats.specs.WholeLaws.Steps.{step-whole}
 use Rattle.vectors.specs.declared.Vec3.{Vec3}
 use Rattle.grid.specs.declared.Axes.{Axes}
 use Rattle.grid.specs.declared.Corners.{Corners}
@@ -193,3 +194,100 @@ pub floor-between : (n k m : ℕ) (e : ℤ) → k + 1 ≤ n → n ≤ axisLimit 
     → betweenOf n (fin false m e) ≡ record { cell = k; next = min (k + 1) (n - 1); fraction = Ieee.sub binary32 (fin false m e) (floatOf k) }
 unfolding betweenOf
 floor-between n k m e c w h l = rw (floor-is k m e h l, cell-of-whole n k (omega arith) w, clamped-next n k (omega arith))
+
+-- the same by comparison of floats
+
+least-whole : (k l : ℕ) (d : ℤ) (x : Float) → HasValue x false k 1 → le x (fin false l d) ≡ true → k * down d ≤ l * up d
+unfolding le lt eq
+least-whole k l d nan v q = absurd v
+least-whole k l d (inf s) v q = absurd v
+least-whole k l d (fin true m e) v q = absurd (false≢true (sym (v .0)))
+least-whole k l d (fin false m e) v q =
+    let r : m * up e * down d ≤ l * up d * down e = at-most _ _ _ q in
+    let s : m * up e ≡ k * down e = sym (mul-one (m * up e)) ∙ v .1 in
+    let t : k * down d * down e ≤ l * up d * down e = rw (mul-right-comm k (down d) (down e), ← s) r in
+    le-of-mul-le-mul-right t (down-pos e)
+
+most-whole : (k l : ℕ) (d : ℤ) (x : Float) → HasValue x false k 1 → lt (fin false l d) x ≡ true → l * up d < k * down d
+unfolding lt
+most-whole k l d nan v q = absurd v
+most-whole k l d (inf s) v q = absurd v
+most-whole k l d (fin true m e) v q = absurd (false≢true (sym (v .0)))
+most-whole k l d (fin false m e) v q =
+    let r : l * up d * down e < m * up e * down d = ltb-true _ _ q in
+    let s : m * up e ≡ k * down e = sym (mul-one (m * up e)) ∙ v .1 in
+    let t : l * up d * down e < k * down d * down e = rw (mul-right-comm k (down d) (down e), ← s) r in
+    lt-of-mul-lt-mul-right (down e) t
+
+-- a whole number that is at most one with a minus is 0, and so is that one
+no-product : (a c : ℕ) → 0 < c → a * c ≡ 0 → a ≡ 0
+no-product zero c h e = refl
+no-product (suc a) c h e = absurd (not-le-of-lt (mul-pos {m = suc a} {n = c} (omega arith) h) (omega (arith, e)))
+
+none-whole : (k l : ℕ) (d : ℤ) (x : Float) → HasValue x false k 1 → le x (fin true l d) ≡ true → (k ≡ 0) × (l * up d ≡ 0)
+unfolding le lt eq
+none-whole k l d nan v q = absurd v
+none-whole k l d (inf s) v q = absurd v
+none-whole k l d (fin true m e) v q = absurd (false≢true (sym (v .0)))
+none-whole k l d (fin false m e) v q =
+    let z : m * up e * down d ≡ 0 = eqb-true _ 0 (and-true-right (eqb (m * up e * down d) (l * up d * down e)) _ q) in
+    let y : m * up e * down d ≡ l * up d * down e = eqb-true _ _ (and-true-left (eqb (m * up e * down d) (l * up d * down e)) _ q) in
+    let s : m * up e ≡ k * down e = sym (mul-one (m * up e)) ∙ v .1 in
+    (no-product k (down e) (down-pos e) (sym s ∙ no-product (m * up e) (down d) (down-pos d) z), no-product (l * up d) (down e) (down-pos e) (sym y ∙ z))
+
+-- −0 lies in cell 0
+minus-whole : (x : Float) (a : ℕ) → HasValue x true a 1 → toUnsigned 64 x ≡ 0
+unfolding toUnsigned
+minus-whole nan a v = absurd v
+minus-whole (inf s) a v = absurd v
+minus-whole (fin true m e) a v = refl
+minus-whole (fin false m e) a v = absurd (false≢true (v .0))
+
+minus-zero-cell : (n m : ℕ) (e : ℤ) → 1 ≤ n → m * up e ≡ 0 → clampedCell n (floorOf (fin true m e)) ≡ 0
+unfolding clampedCell toward
+minus-zero-cell n m e h z =
+    let s : step true (m * up e) (down e) ≡ 0 = ap (λ (a : ℕ). step true a (down e)) (z ∙ sym (zero-mul (down e))) ∙ step-whole true 0 (down e) (down-pos e) in
+    ap (λ (a : ℕ). clamped n (toUnsigned 64 (round binary32 true a 1))) s
+    ∙ ap (clamped n) (minus-whole (round binary32 true 0 1) 0 (round-whole binary32 true 0 (omega arith)))
+    ∙ clamped-same n 0 h
+
+-- neither NaN nor an infinity lies between two whole numbers
+none-below : (y : Float) → lt nan y ≡ true → ⊥
+unfolding lt
+none-below y l = false≢true l
+
+least-of-all : (a : ℕ) (x : Float) → HasValue x false a 1 → le x (inf true) ≡ true → ⊥
+unfolding le lt eq
+least-of-all a nan v h = v
+least-of-all a (inf s) v h = v
+least-of-all a (fin s m e) v h = false≢true h
+
+most-of-all : (a : ℕ) (y : Float) → HasValue y false a 1 → lt (inf false) y ≡ true → ⊥
+unfolding lt
+most-of-all a nan v h = v
+most-of-all a (inf s) v h = v
+most-of-all a (fin s m e) v h = false≢true h
+
+whole-value : (a : ℕ) → a ≤ 16777216 → HasValue (floatOf a) false a 1
+unfolding Ieee.ofInt
+whole-value a h = round-whole binary32 false a h
+
+coordinate-cell : (n k : ℕ) (f : Float) → k + 1 ≤ n → n ≤ axisLimit → le (floatOf k) f ≡ true → lt f (floatOf (k + 1)) ≡ true → clampedCell n (floorOf f) ≡ k
+coordinate-cell n k f c w h l =
+    go f (floatOf k) (floatOf (k + 1)) (whole-value k (omega arith)) (whole-value (k + 1) (omega arith)) h l
+  where
+    go : (f x y : Float) → HasValue x false k 1 → HasValue y false (k + 1) 1 → le x f ≡ true → lt f y ≡ true → clampedCell n (floorOf f) ≡ k
+    go nan x y v u h l = absurd (none-below y l)
+    go (inf true) x y v u h l = absurd (least-of-all k x v h)
+    go (inf false) x y v u h l = absurd (most-of-all (k + 1) y u l)
+    go (fin true m e) x y v u h l = let z = none-whole k m e x v h in minus-zero-cell n m e (omega arith) (z .1) ∙ sym (z .0)
+    go (fin false m e) x y v u h l =
+        ap (clampedCell n) (floor-is k m e (least-whole k m e x v h) (most-whole (k + 1) m e y u l)) ∙ cell-of-whole n k (omega arith) w
+
+-- k ≤ f < k + 1 ≤ n, of floats, −0 too: the cell is k, and the next is the one above it or the last
+pub coordinate-between : (n k : ℕ) (f : Float) → k + 1 ≤ n → n ≤ axisLimit → le (floatOf k) f ≡ true → lt f (floatOf (k + 1)) ≡ true
+    → (betweenOf n f .cell ≡ k) × (betweenOf n f .next ≡ min (k + 1) (n - 1))
+unfolding betweenOf
+coordinate-between n k f c w h l =
+    let e = coordinate-cell n k f c w h l in
+    (e, ap (λ (j : ℕ). clamped n (j + 1)) e ∙ clamped-next n k (omega arith))
