@@ -1,5 +1,6 @@
 -- What the customer demands of a bake that is spread over calls, sentence by sentence. Holds.antt shows it of every fair bake.
 use mathlib.Core.Path.{_≡_}
+use mathlib.Core.Bool.{true}
 use mathlib.Core.Logic.{_⊎_}
 use mathlib.Core.List.{List}
 use Prim.Native.Nat.{ℕ, _+_, _-_, _*_, _/_, _≤_, _<_}
@@ -49,6 +50,15 @@ module _ {A : Type 0} (b : Bake A) where
     -- "each finishes at least as many active voxels as the allowance holds whole 384s, or all that remain"
     pub finishes : (a : ℕ) (s : Stage A) → call b a s .refusal ≡ 0
         → (call b a s .stage .progress ≡ b .count) ⊎ (a / b .most ≤ finished a s)
+    -- "What a call fires, and reports, is the definition's rays of the active voxels it took, no more and no fewer"
+    pub reports : (a : ℕ) (s : Stage A) → call b a s .refusal ≡ 0
+        → call b a s .rays ≡ costs b (call b a s .stage .progress - s .progress) (s .progress)
+    -- "an active one is taken exactly while at least 384 rays remain": so many remain at each that is taken ..
+    pub takes : (a : ℕ) (s : Stage A) → call b a s .refusal ≡ 0 → (i : ℕ) → s .progress ≤ i → i < call b a s .stage .progress → b .active i ≡ true
+        → b .most ≤ a - costs b (i - s .progress) (s .progress)
+    -- .. and fewer at the one where the call stops short of the end
+    pub stops : (a : ℕ) (s : Stage A) → call b a s .refusal ≡ 0 → call b a s .stage .progress < b .count
+        → (b .active (call b a s .stage .progress) ≡ true) × (a - call b a s .rays < b .most)
     -- "the reported counts add up to the rays the definition fires"
     pub sums : (l : List ℕ) (s : Stage A) → s .progress ≡ 0 → run b l s .stage .progress ≡ b .count → sum (run b l s .rays) ≡ costs b (b .count) 0
     -- "64 to 384 for each active voxel"

@@ -10,7 +10,7 @@ use lib.Dec.{eqb}
 use lib.ListN.{length, replicate}
 use borrow.Author.Tests.{eq-eqb, ne-eqb, eqb-true}
 use Rattle.spread.specs.Spread.{Stage, stage, Bake, Called, Walked, voxelPart, started, walk, someActive, blurred, ended, baked, accepted, call, unblurred, unbroken, actives, costs, standing, stands, run, sum, EachAtLeast, NoneRefused}
-use Rattle.spread.specs.Walks.{walks, walk-from, walk-to, walk-goes, walk-costs, walk-rays, walk-passed, actives-split, costs-least, costs-most}
+use Rattle.spread.specs.Walks.{walks, walk-from, walk-to, walk-goes, walk-costs, walk-fires, walk-stops, walk-takes, walk-rays, walk-passed, actives-split, costs-least, costs-most}
 use Rattle.spread.specs.Contents.{length-standing, walk-stands, stands-filled, stands-unblurred, part-of-laid}
 use Rattle.spread.specs.Demand.{Fair, Lasts, roundedUp, allActive, finished, Demand}
 
@@ -95,6 +95,46 @@ module _ {A : Type 0} (b : Bake A) (fair : Fair b) where
           let w = walkOf a s in
           rw (ended-progress (w .progress) (w .volume) (s .scratch))
           (walk-costs b (walks b (b .count - s .progress) (s .progress) a (started b (s .progress) (s .volume))) (b .count) (omega arith))
+
+  reports-costs : (a : ℕ) (s : Stage A) → call b a s .refusal ≡ 0
+      → call b a s .rays ≡ costs b (call b a s .stage .progress - s .progress) (s .progress)
+  unfolding costs
+  reports-costs a s = go (call b a s) (calls a s)
+    where
+      go : (c : Called A) → Calls a s c → c .refusal ≡ 0 → c .rays ≡ costs b (c .stage .progress - s .progress) (s .progress)
+      go c (refused e n) z = absurd (n z)
+      go c (idle e h) z = let m : s .progress - s .progress ≡ 0 = omega arith in rw m refl
+      go c (walks-on e h f) z =
+          let w = walkOf a s in
+          rw (ended-progress (w .progress) (w .volume) (s .scratch))
+          (walk-fires b (walks b (b .count - s .progress) (s .progress) a (started b (s .progress) (s .volume))))
+
+  takes-while : (a : ℕ) (s : Stage A) → call b a s .refusal ≡ 0 → (i : ℕ) → s .progress ≤ i → i < call b a s .stage .progress → b .active i ≡ true
+      → b .most ≤ a - costs b (i - s .progress) (s .progress)
+  takes-while a s = go (call b a s) (calls a s)
+    where
+      go : (c : Called A) → Calls a s c → c .refusal ≡ 0 → (i : ℕ) → s .progress ≤ i → i < c .stage .progress → b .active i ≡ true
+          → b .most ≤ a - costs b (i - s .progress) (s .progress)
+      go c (refused e n) z i p q t = absurd (n z)
+      go c (idle e h) z i p q t = absurd (omega arith)
+      go c (walks-on e h f) z i p q t =
+          let w = walkOf a s in
+          walk-takes b (walks b (b .count - s .progress) (s .progress) a (started b (s .progress) (s .volume))) i p
+          (rw (ended-progress (w .progress) (w .volume) (s .scratch)) at q) t
+
+  stops-short : (a : ℕ) (s : Stage A) → call b a s .refusal ≡ 0 → call b a s .stage .progress < b .count
+      → (b .active (call b a s .stage .progress) ≡ true) × (a - call b a s .rays < b .most)
+  stops-short a s = go (call b a s) (calls a s)
+    where
+      go : (c : Called A) → Calls a s c → c .refusal ≡ 0 → c .stage .progress < b .count
+          → (b .active (c .stage .progress) ≡ true) × (a - c .rays < b .most)
+      go c (refused e n) z q = absurd (n z)
+      go c (idle e h) z q = absurd (omega arith)
+      go c (walks-on e h f) z q =
+          let w = walkOf a s in
+          let short : w .progress < b .count = rw (ended-progress (w .progress) (w .volume) (s .scratch)) at q in
+          rw (ended-progress (w .progress) (w .volume) (s .scratch))
+          (walk-stops b (walks b (b .count - s .progress) (s .progress) a (started b (s .progress) (s .volume))) (omega arith))
 
   run-costs : (l : List ℕ) (s : Stage A)
       → sum (run b l s .rays) + costs b (b .count - run b l s .stage .progress) (run b l s .stage .progress) ≡ costs b (b .count - s .progress) (s .progress)
@@ -274,6 +314,9 @@ module _ {A : Type 0} (b : Bake A) (fair : Fair b) where
         before = before-end;
         within = within-allowance;
         finishes = finishes-enough;
+        reports = reports-costs;
+        takes = takes-while;
+        stops = stops-short;
         sums = sums-up;
         each = (costs-least b (fair .most) (fair .least) (b .count) 0, costs-most b (fair .most) (fair .least) (b .count) 0);
         calls = at-most;

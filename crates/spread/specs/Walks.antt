@@ -1,11 +1,11 @@
 -- How a walk goes, voxel by voxel, as a relation of four cases; and what follows of any walk by these cases.
-use mathlib.Core.Path.{_≡_, refl, sym, _∙_}
+use mathlib.Core.Path.{_≡_, refl, sym, ap, _∙_}
 use mathlib.Core.Bool.{Bool, true, false, cond, false≢true}
 use mathlib.Core.Logic.{_⊎_, inl, inr, ⊎-elim}
 use mathlib.Core.List.{List}
 use Prim.Native.Nat.{ℕ, zero, suc, _+_, _-_, _*_, _/_, _≤_, _<_}
 use native.Mathlib.Omega.{arith}
-use native.Mathlib.Nat.{zero-add, add-zero, add-assoc, sub-add-eq, div-eq-of-lt, le-div-iff-mul-le, suc-mul}
+use native.Mathlib.Nat.{zero-add, add-zero, add-assoc, sub-add-eq, div-eq-of-lt, le-div-iff-mul-le, suc-mul, eq-or-lt-of-le}
 use lib.Dec.{leb}
 use borrow.Author.Tests.{leb-true, leb-false, le-leb, lt-leb}
 use Rattle.names.specs.Numbers.{primaryRays}
@@ -64,6 +64,46 @@ module _ {A : Type 0} (b : Bake A) where
   walk-costs (stop {k} {i} e f) n h =
       let z : n - i ≡ suc k = omega arith in rw (z, e) (zero-add (b .cost i + costs b k (i + 1)))
   walk-costs (taken {w = w} e f s) n h = rw e (omega (arith, walk-costs s n (omega arith)))
+
+  -- the same of those that it passed alone
+  pub walk-fires : {k i l : ℕ} {v : List A} {w : Walked A} → Walks k i l v w → w .rays ≡ costs b (w .progress - i) i
+  unfolding costs
+  walk-fires (none {i}) = let z : i - i ≡ 0 = omega arith in rw z refl
+  walk-fires (skip {i = i} {w = w} e s) =
+      let z : w .progress - i ≡ suc (w .progress - (i + 1)) = omega (arith, walk-from s) in rw (z, e) (walk-fires s)
+  walk-fires (stop {i = i} e f) = let z : i - i ≡ 0 = omega arith in rw z refl
+  walk-fires (taken {i = i} {w = w} e f s) =
+      let z : w .progress - i ≡ suc (w .progress - (i + 1)) = omega (arith, walk-from s) in
+      rw (z, e) (ap (λ (n : ℕ). b .cost i + n) (walk-fires s))
+
+  -- short of the end it stops at an active voxel, with fewer rays left than a voxel may cost
+  pub walk-stops : {k i l : ℕ} {v : List A} {w : Walked A} → Walks k i l v w → w .progress < i + k
+      → (b .active (w .progress) ≡ true) × (l - w .rays < b .most)
+  walk-stops none h = absurd (omega arith)
+  walk-stops (skip e s) h = walk-stops s (omega arith)
+  walk-stops (stop e f) h = (e, omega arith)
+  walk-stops (taken e f s) h = let g = walk-stops s (omega arith) in (g .0, omega (arith, g .1))
+
+  -- and an active voxel that it passed was taken with as many rays left as a voxel may cost
+  pub walk-takes : {k i l : ℕ} {v : List A} {w : Walked A} → Walks k i l v w → (j : ℕ) → i ≤ j → j < w .progress → b .active j ≡ true
+      → b .most ≤ l - costs b (j - i) i
+  unfolding costs
+  walk-takes none j h p t = absurd (omega arith)
+  walk-takes (skip {i = i} e s) j h p t =
+      ⊎-elim
+      (λ z. absurd (false≢true (sym e ∙ ap (b .active) z ∙ t)))
+      (λ (q : i < j).
+      let z : j - i ≡ suc (j - (i + 1)) = omega arith in
+      rw (z, e) (walk-takes s j (omega arith) p t))
+      (eq-or-lt-of-le h)
+  walk-takes (stop e f) j h p t = absurd (omega arith)
+  walk-takes (taken {i = i} e f s) j h p t =
+      ⊎-elim
+      (λ (q : i ≡ j). let z : j - i ≡ 0 = omega arith in rw z (omega arith))
+      (λ (q : i < j).
+      let z : j - i ≡ suc (j - (i + 1)) = omega arith in
+      rw (z, e) (omega (arith, walk-takes s j (omega arith) p t)))
+      (eq-or-lt-of-le h)
 
   -- the active voxels of a stretch of j, and of the k after it
   pub actives-split : (j k i : ℕ) → actives b (j + k) i ≡ actives b j i + actives b k (i + j)
