@@ -19,7 +19,6 @@ const USAGE: &str = "usage: oracle COMMAND ..
   stream MODULE FIRST COUNT     the records of seeds FIRST.. for a module's program, on standard output
   bad MODULE FIRST COUNT        the same for bad inputs
   record FOLDER                 writes each module's recorded answers to FOLDER/replay_MODULE/stdin
-  record-all FOLDER             the same, and those of the fired rays
   compare FOLDER                makes them again and compares
   count FIRST COUNT             how many scenes, triangles and rays those seeds hold
   time SEED                     bakes a seeded scene and says how fast
@@ -113,9 +112,8 @@ fn run(words: &[String]) -> Result<bool, String> {
             }
             Ok(true)
         }
-        ["record", folder] => record(folder, false, false),
-        ["record-all", folder] => record(folder, false, true),
-        ["compare", folder] => record(folder, true, false),
+        ["record", folder] => record(folder, false),
+        ["compare", folder] => record(folder, true),
         ["count", first, count] => tally(number(first, "FIRST")?, number(count, "COUNT")?),
         ["time", seed] => time(number(seed, "SEED")?),
         ["one", name, seed, place] => crate::shrink::one(module(name)?, number(seed, "SEED")?, number(place, "PLACE")? as usize),
@@ -172,7 +170,7 @@ fn recorded(name: &str) -> Vec<Item> {
         "sun" => (80, 2),
         "bake" => (20, 1),
         "lookup" => (60, 2),
-        "fired" => (8, 0),
+        "fired" => (20, 0),
         _ => (0, 0),
     };
     let mut out = Vec::new();
@@ -192,13 +190,10 @@ fn recorded(name: &str) -> Vec<Item> {
     out
 }
 
-/// Writes or compares each module's records; those of fired rays, which no program replays yet, only where all are asked.
-fn record(folder: &str, compare: bool, all: bool) -> Result<bool, String> {
+/// Writes or compares each module's records.
+fn record(folder: &str, compare: bool) -> Result<bool, String> {
     let mut good = true;
     for name in MODULES {
-        if name == "fired" && !all {
-            continue;
-        }
         let path = format!("{folder}/replay_{name}/stdin");
         let items = recorded(name);
         let bytes: Vec<u8> = items.iter().flat_map(Item::bytes).collect();

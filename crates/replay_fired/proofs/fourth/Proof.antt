@@ -1,0 +1,96 @@
+-- Each lent part is the front of an array, no longer than the array.
+use native.Mathlib.Omega.{arith}
+use mathlib.Core.Path.{sym}
+use lib.Seq.{length-take-le}
+use borrow.Author.Needs.{needs}
+use Rattle.replay_fired.proofs.fourth.Statement.{statement}
+use Rattle.replay_fired.proofs.fourth.Tie as tie
+
+room-for-distances-requires : tie.Need-room-for-distances-requires
+room-for-distances-requires c κs = search needs
+
+room-for-places-requires : tie.Need-room-for-places-requires
+room-for-places-requires c κs = search needs
+
+nth-requires : tie.Need-nth-requires
+nth-requires c κs = search needs
+
+fit-requires : tie.Need-fit-requires
+fit-requires c κs = search needs
+
+nth-requires-2 : tie.Need-nth-requires-2
+nth-requires-2 c κs = search needs
+
+pairs-requires : tie.Need-pairs-requires
+pairs-requires c κs = search needs
+
+array-borrow-prefix-distances : tie.Need-array-borrow-prefix-distances
+array-borrow-prefix-distances c = search needs
+
+slice-aggregate-baked : tie.Need-slice-aggregate-baked
+slice-aggregate-baked c = sym (length-take-le _ _ (omega arith))
+
+array-borrow-prefix-places : tie.Need-array-borrow-prefix-places
+array-borrow-prefix-places c = search needs
+
+slice-aggregate-baked-2 : tie.Need-slice-aggregate-baked-2
+slice-aggregate-baked-2 c = sym (length-take-le _ _ (omega arith))
+
+baked-requires : tie.Need-baked-requires
+baked-requires c κs = search needs
+
+same-length : tie.Need-same-length
+same-length c = search needs
+
+same-length-2 : tie.Need-same-length-2
+same-length-2 c = search needs
+
+same-length-3 : tie.Need-same-length-3
+same-length-3 c = search needs
+
+same-length-4 : tie.Need-same-length-4
+same-length-4 c = search needs
+
+same-length-5 : tie.Need-same-length-5
+same-length-5 c = search needs
+
+same-length-6 : tie.Need-same-length-6
+same-length-6 c = search needs
+
+same-length-7 : tie.Need-same-length-7
+same-length-7 c = search needs
+
+same-length-8 : tie.Need-same-length-8
+same-length-8 c = search needs
+
+same-length-9 : tie.Need-same-length-9
+same-length-9 c = search needs
+
+returns : tie.Need-returns
+returns c = search needs
+
+pub fourth-spec : {M : Type 1} → statement M
+fourth-spec =
+    tie.close
+    (tie.spec
+    room-for-distances-requires
+    room-for-places-requires
+    nth-requires
+    fit-requires
+    nth-requires-2
+    pairs-requires
+    array-borrow-prefix-distances
+    slice-aggregate-baked
+    array-borrow-prefix-places
+    slice-aggregate-baked-2
+    baked-requires
+    same-length
+    same-length-2
+    same-length-3
+    same-length-4
+    same-length-5
+    same-length-6
+    same-length-7
+    same-length-8
+    same-length-9
+    returns)

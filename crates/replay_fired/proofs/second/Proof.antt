@@ -1,0 +1,92 @@
+-- Each lent part is the front of an array, no longer than the array.
+use native.Mathlib.Omega.{arith}
+use mathlib.Core.Path.{sym}
+use lib.Seq.{length-take-le}
+use borrow.Author.Needs.{needs}
+use Rattle.replay_fired.proofs.second.Statement.{statement}
+use Rattle.replay_fired.proofs.second.Tie as tie
+
+room-for-numbers-requires : tie.Need-room-for-numbers-requires
+room-for-numbers-requires c κs = search needs
+
+room-for-sky-requires : tie.Need-room-for-sky-requires
+room-for-sky-requires c κs = search needs
+
+room-for-mask-requires : tie.Need-room-for-mask-requires
+room-for-mask-requires c κs = search needs
+
+nth-requires : tie.Need-nth-requires
+nth-requires c κs = search needs
+
+fit-requires : tie.Need-fit-requires
+fit-requires c κs = search needs
+
+nth-requires-2 : tie.Need-nth-requires-2
+nth-requires-2 c κs = search needs
+
+fit-requires-2 : tie.Need-fit-requires-2
+fit-requires-2 c κs = search needs
+
+nth-requires-3 : tie.Need-nth-requires-3
+nth-requires-3 c κs = search needs
+
+fit-requires-3 : tie.Need-fit-requires-3
+fit-requires-3 c κs = search needs
+
+array-borrow-prefix-numbers : tie.Need-array-borrow-prefix-numbers
+array-borrow-prefix-numbers c = search needs
+
+slice-aggregate-third : tie.Need-slice-aggregate-third
+slice-aggregate-third c = sym (length-take-le _ _ (omega arith))
+
+array-borrow-prefix-sky : tie.Need-array-borrow-prefix-sky
+array-borrow-prefix-sky c = search needs
+
+slice-aggregate-third-2 : tie.Need-slice-aggregate-third-2
+slice-aggregate-third-2 c = sym (length-take-le _ _ (omega arith))
+
+array-borrow-prefix-active : tie.Need-array-borrow-prefix-active
+array-borrow-prefix-active c = search needs
+
+slice-aggregate-third-3 : tie.Need-slice-aggregate-third-3
+slice-aggregate-third-3 c = sym (length-take-le _ _ (omega arith))
+
+third-requires : tie.Need-third-requires
+third-requires c κs = search needs
+
+same-length : tie.Need-same-length
+same-length c = search needs
+
+same-length-2 : tie.Need-same-length-2
+same-length-2 c = search needs
+
+same-length-3 : tie.Need-same-length-3
+same-length-3 c = search needs
+
+returns : tie.Need-returns
+returns c = search needs
+
+pub second-spec : {M : Type 1} → statement M
+second-spec =
+    tie.close
+    (tie.spec
+    room-for-numbers-requires
+    room-for-sky-requires
+    room-for-mask-requires
+    nth-requires
+    fit-requires
+    nth-requires-2
+    fit-requires-2
+    nth-requires-3
+    fit-requires-3
+    array-borrow-prefix-numbers
+    slice-aggregate-third
+    array-borrow-prefix-sky
+    slice-aggregate-third-2
+    array-borrow-prefix-active
+    slice-aggregate-third-3
+    third-requires
+    same-length
+    same-length-2
+    same-length-3
+    returns)
