@@ -4,6 +4,7 @@ use crate::bad;
 use crate::calls::{Bake, Call, Grid, Lists, Ray, Scratch};
 use crate::chance::Chance;
 use crate::records;
+use crate::table;
 use crate::worlds::{self, voxels, World};
 
 #[derive(Clone, Debug)]
@@ -51,6 +52,13 @@ pub fn good(module: &str, seed: u64) -> Vec<Item> {
             let light = lit(c, &world);
             let mut bake = worlds::bake(c, &world, light);
             bake.active = few(c, &bake.active);
+            // no ray reads the light list; a bake that is refused fires none
+            if table::refusal(&Call::Bake(Box::new(bake.clone()))) == 13 {
+                bake.light.fill(1.0);
+            }
+            if table::refusal(&Call::Bake(Box::new(bake.clone()))) != 0 {
+                return vec![];
+            }
             vec![Item::Fired(Box::new(bake))]
         }
         _ => vec![],
