@@ -178,11 +178,14 @@ fn recorded(name: &str) -> Vec<Item> {
         out.extend(items::good(name, seed));
     }
     out.extend(items::made(name));
-    if name == "bake" {
-        // black and faint surfaces
-        for seed in [32, 52, 72] {
-            out.extend(items::good(name, seed));
-        }
+    // black and faint surfaces
+    let faint: &[u64] = match name {
+        "bake" => &[32, 52, 72],
+        "fired" => &[32],
+        _ => &[],
+    };
+    for &seed in faint {
+        out.extend(items::good(name, seed));
     }
     for seed in 0..bases {
         out.extend(items::bad(name, seed, true, 40));
