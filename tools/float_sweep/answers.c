@@ -3,8 +3,8 @@
 // It needs no C library, so that any compiler for x86-64 makes it on any machine.
 #include <stdint.h>
 
-uint32_t bake_root_bits(uint32_t), bake_floor_bits(uint32_t), bake_ceiling_bits(uint32_t), bake_magnitude_bits(uint32_t);
-uint32_t bake_larger_bits(uint32_t, uint32_t), bake_smaller_bits(uint32_t, uint32_t);
+uint32_t geaidnosa_root_bits(uint32_t), geaidnosa_floor_bits(uint32_t), geaidnosa_ceiling_bits(uint32_t), geaidnosa_magnitude_bits(uint32_t);
+uint32_t geaidnosa_larger_bits(uint32_t, uint32_t), geaidnosa_smaller_bits(uint32_t, uint32_t);
 
 static long call(long number, long a, long b, long c) {
     long answer;
@@ -53,10 +53,10 @@ __attribute__((used)) static int run(long *stack) {
     if (stack[0] != 4) return 2;
     uint64_t count = number(words[2]), step = number(words[3]);
     switch (words[1][0]) {
-        case 'r': for (uint64_t i = 0; i < count; i++) put(bake_root_bits((uint32_t)(i * step))); break;
-        case 'f': for (uint64_t i = 0; i < count; i++) put(bake_floor_bits((uint32_t)(i * step))); break;
-        case 'c': for (uint64_t i = 0; i < count; i++) put(bake_ceiling_bits((uint32_t)(i * step))); break;
-        case 'm': for (uint64_t i = 0; i < count; i++) put(bake_magnitude_bits((uint32_t)(i * step))); break;
+        case 'r': for (uint64_t i = 0; i < count; i++) put(geaidnosa_root_bits((uint32_t)(i * step))); break;
+        case 'f': for (uint64_t i = 0; i < count; i++) put(geaidnosa_floor_bits((uint32_t)(i * step))); break;
+        case 'c': for (uint64_t i = 0; i < count; i++) put(geaidnosa_ceiling_bits((uint32_t)(i * step))); break;
+        case 'm': for (uint64_t i = 0; i < count; i++) put(geaidnosa_magnitude_bits((uint32_t)(i * step))); break;
         case 'l': case 's':
             state = step;
             for (uint64_t i = 0; i < count; i++) {
@@ -66,7 +66,7 @@ __attribute__((used)) static int run(long *stack) {
                 if (i % 4 == 1) c = b;
                 if (i % 4 == 2) c = b ^ 0x80000000u;
                 if (i % 4 == 3) c = b + 1;
-                put(words[1][0] == 'l' ? bake_larger_bits(b, c) : bake_smaller_bits(b, c));
+                put(words[1][0] == 'l' ? geaidnosa_larger_bits(b, c) : geaidnosa_smaller_bits(b, c));
             }
             break;
         default: return 2;

@@ -2,7 +2,7 @@
 // R or F for the processor's sqrtss or roundss, and n for a call that does nothing. It needs no C library.
 #include <stdint.h>
 
-uint32_t bake_root_bits(uint32_t), bake_floor_bits(uint32_t);
+uint32_t geaidnosa_root_bits(uint32_t), geaidnosa_floor_bits(uint32_t);
 
 __attribute__((noinline)) static uint32_t nothing(uint32_t b) {
     __asm__ volatile("" : "+r"(b));
@@ -31,7 +31,7 @@ __attribute__((used)) static int run(long *stack) {
     uint64_t count = 0;
     for (char *s = words[2]; *s; s++) count = count * 10 + (uint64_t)(*s - '0');
     char form = words[1][0];
-    uint32_t (*f)(uint32_t) = form == 'r' ? bake_root_bits : form == 'f' ? bake_floor_bits : form == 'R' ? own_root : form == 'F' ? own_floor : nothing;
+    uint32_t (*f)(uint32_t) = form == 'r' ? geaidnosa_root_bits : form == 'f' ? geaidnosa_floor_bits : form == 'R' ? own_root : form == 'F' ? own_floor : nothing;
     uint32_t sum = 0;
     for (uint64_t i = 0; i < count; i++) sum ^= f(0x3a800000u + (uint32_t)(i * 2654435761u) % 0x10000000u);
     return (int)(sum & 1);
