@@ -1,0 +1,94 @@
+//! The scene that both sides are measured on: a closed hall of 492 triangles in 16×16×16 voxels, with rays and positions in it.
+
+pub const AXES: [usize; 3] = [16, 16, 16];
+pub const VOXELS: usize = 16 * 16 * 16;
+pub const CORNERS: [f32; 6] = [0.0, 0.0, 0.0, 16.0, 12.0, 8.0];
+pub const TRIANGLES: usize = 492;
+pub const MATERIALS: usize = 4;
+pub const KINDS: [u8; MATERIALS] = [0, 1, 0, 0];
+/// Base colour, emissive and transmission: plaster, glass, lamp, soot.
+pub const NUMBERS: [f32; 7 * MATERIALS] = [
+    0.8, 0.7, 0.6, 0.0, 0.0, 0.0, 0.0, //
+    0.9, 0.9, 0.9, 0.0, 0.0, 0.0, 0.5, //
+    0.1, 0.1, 0.1, 4.0, 3.0, 1.0, 0.0, //
+    0.0, 0.0, 0.0, 0.0, 0.0, 0.0, 0.0,
+];
+pub const DIRECTION: [f32; 3] = [0.3, 0.2, 0.9];
+pub const COLOUR: [f32; 3] = [3.0, 2.5, 2.0];
+pub const SCENE_LIGHT: [f32; 6] = [DIRECTION[0], DIRECTION[1], DIRECTION[2], COLOUR[0], COLOUR[1], COLOUR[2]];
+pub const AMBIENT: [f32; 12] = [0.2, 0.25, 0.3, 0.01, 0.02, 0.03, 0.05, 0.05, 0.05, -0.01, 0.0, 0.01];
+
+pub struct Hall {
+    pub points: Vec<f32>,
+    pub uses: Vec<u32>,
+    pub sky: Vec<f32>,
+}
+
+pub struct Line {
+    pub origin: [f32; 3],
+    pub direction: [f32; 3],
+}
+
+/// Numbers that look like chance and are the same in every run.
+pub struct Chance(u64);
+
+impl Chance {
+    pub fn new(seed: u64) -> Self {
+        Chance(seed)
+    }
+
+    /// From low up to high.
+    pub fn between(&mut self, low: f32, high: f32) -> f32 {
+        self.0 = self.0.wrapping_mul(6364136223846793005).wrapping_add(1442695040888963407);
+        low + (high - low) * ((self.0 >> 40) as f32 / 16777216.0)
+    }
+}
+
+impl Hall {
+    /// Six sides of 6×6 quads, every fifth of the roof's of glass, and five boxes in the room, one of them a lamp and one black.
+    pub fn new() -> Self {
+        let mut hall = Hall { points: vec![], uses: vec![], sky: (0..1728).map(|i| 0.5 + (i % 7) as f32 * 0.125).collect() };
+        hall.cuboid([0.6, 0.5, 0.4], [15.3, 11.4, 7.6], 6, |side, quad| if side == 5 && quad % 5 == 2 { 1 } else { 0 });
+        for (place, material) in [0, 0, 2, 3, 0].into_iter().enumerate() {
+            let x = 1.7 + 2.6 * place as f32;
+            let y = 2.0 + 1.3 * place as f32;
+            hall.cuboid([x, y, 0.9], [x + 1.1, y + 1.4, 2.1 + 0.6 * place as f32], 1, |_, _| material);
+        }
+        assert!(hall.uses.len() == TRIANGLES && hall.points.len() == 9 * TRIANGLES);
+        hall
+    }
+
+    /// Each side split in n×n quads; side 5 is the top.
+    fn cuboid(&mut self, low: [f32; 3], high: [f32; 3], n: usize, material: impl Fn(usize, usize) -> u32) {
+        for side in 0..6 {
+            let (axis, far) = (side / 2, side % 2 == 1);
+            let (a, b) = ((axis + 1) % 3, (axis + 2) % 3);
+            let corner = |i: usize, j: usize| {
+                let mut p = if far { high } else { low };
+                p[a] = low[a] + (high[a] - low[a]) * (i as f32 / n as f32);
+                p[b] = low[b] + (high[b] - low[b]) * (j as f32 / n as f32);
+                p
+            };
+            for quad in 0..n * n {
+                let (i, j) = (quad % n, quad / n);
+                let [p, q, r, s] = [corner(i, j), corner(i + 1, j), corner(i + 1, j + 1), corner(i, j + 1)];
+                for point in [p, q, r, p, r, s] {
+                    self.points.extend(point);
+                }
+                self.uses.extend([material(side, quad); 2]);
+            }
+        }
+    }
+}
+
+/// A position in the hall or a little outside.
+pub fn position(chance: &mut Chance) -> [f32; 3] {
+    [chance.between(-0.5, 16.5), chance.between(-0.5, 12.5), chance.between(-0.5, 8.5)]
+}
+
+/// From inside the hall to anywhere.
+pub fn line(chance: &mut Chance) -> Line {
+    let origin = [chance.between(1.0, 15.0), chance.between(1.0, 11.0), chance.between(0.5, 7.5)];
+    let direction = [chance.between(-1.0, 1.0), chance.between(-1.0, 1.0), chance.between(-1.0, 1.0)];
+    Line { origin, direction }
+}
