@@ -11,7 +11,7 @@ use lib.Ieee.{Float}
 use borrow.Author.Tests.{eq-eqb, ne-eqb}
 use Rattle.names.specs.Numbers.{voxelLimit}
 use Rattle.grid.specs.GridLaws.{voxels-most}
-use Rattle.spread.specs.Spread.{Stage, stage, Called, Walked, filled, started, walk, someActive, ended, accepted}
+use Rattle.spread.specs.Spread.{Stage, stage, Called, Walked, filled, started, walk, anyActive, ended, accepted}
 use Rattle.ends.specs.Ends.{filledOf, Finished}
 use Rattle.intake.specs.Intake.{BakeInput, voxelNumbers, voxelCount, bakeRefusal}
 use Rattle.intake.specs.IntakeLaws.{Fits, fits, none-refused}
@@ -57,14 +57,14 @@ module _ {b : BakeInput} {p a : ℕ} {v x : List Float} (f : Fits b (stage p v x
       → (q ≡ ended (bakeOf b) q v₂ x .progress) × (v₃ ≡ ended (bakeOf b) q v₂ x .volume) × (x₃ ≡ ended (bakeOf b) q v₂ x .scratch)
   ends q {v₂} {v₃} {x₃} k = go (ℕ-discrete q (length (b .active)))
     where
-      over : (t : Bool) → someActive (bakeOf b) ≡ t → q ≡ voxelCount b → Finished (b .axes) (b .active) v₂ x v₃ x₃
+      over : (t : Bool) → anyActive (bakeOf b .active) (bakeOf b .count) ≡ t → q ≡ voxelCount b → Finished (b .axes) (b .active) v₂ x v₃ x₃
           → (q ≡ ended (bakeOf b) q v₂ x .progress) × (v₃ ≡ ended (bakeOf b) q v₂ x .volume) × (x₃ ≡ ended (bakeOf b) q v₂ x .scratch)
       over true e h g = rw (eq-eqb q (voxelCount b) h, e) (h, rw (f .active, e) at (g .volume), rw (f .active, e) at (g .scratch))
       over false e h g = rw (eq-eqb q (voxelCount b) h, e) (h, rw (f .active, e) at (g .volume), rw (f .active, e) at (g .scratch))
 
       go : Dec (q ≡ length (b .active))
           → (q ≡ ended (bakeOf b) q v₂ x .progress) × (v₃ ≡ ended (bakeOf b) q v₂ x .volume) × (x₃ ≡ ended (bakeOf b) q v₂ x .scratch)
-      go (yes h) = over (someActive (bakeOf b)) refl (h ∙ f .active) (k .over h)
+      go (yes h) = over (anyActive (bakeOf b .active) (bakeOf b .count)) refl (h ∙ f .active) (k .over h)
       go (no n) = rw (ne-eqb q (voxelCount b) (λ z. n (z ∙ sym (f .active)))) (refl, k .short n .0, k .short n .1)
 
   pub idles : {d : List Float} {q : List ℕ} → p ≡ length (b .active)

@@ -21,7 +21,7 @@ use Rattle.limits.specs.Limits.{within, outside, badColour, badAmbient, badLigh
 use Rattle.limits.specs.LimitsLaws.{either, any-of-three, within-between, vector-row, lights-row}
 use Rattle.limits.specs.declared.Ambient.{Ambient}
 use Rattle.means.specs.Box.{meanOf}
-use Rattle.spread.specs.Spread.{Stage, stage, Walked, laid, replaced, filled, started, someActive, ended, accepted, call}
+use Rattle.spread.specs.Spread.{Stage, stage, Walked, laid, replaced, filled, started, anyActive, ended, accepted, call}
 use Rattle.spread.specs.Walks.{Walks, walks, none, skip, stop, taken, walk-to}
 use Rattle.spread.specs.Contents.{length-laid, length-replaced}
 use Rattle.spread.specs.Demand.{Lasts}
@@ -187,7 +187,7 @@ module _ (b : BakeInput) (gathers : GathersWithin b) where
     ended-left : (q : ℕ) (v : List Float) → q ≤ voxelCount b → Good b v → Left (ended (bakeOf b) q v (s .scratch))
     ended-left q v h g =
         ⊎-elim
-        (λ e. rw (eq-eqb q (voxelCount b) e) (over (someActive (bakeOf b))))
+        (λ e. rw (eq-eqb q (voxelCount b) e) (over (anyActive (bakeOf b .active) (bakeOf b .count))))
         (λ l.
         rw (ne-eqb q (voxelCount b) (λ z. omega arith))
         (record {

@@ -2,14 +2,13 @@
 -- in coefficient 0's fourth place, 1.0 in coefficient 1's, and +0 in the other two. After its last, where any voxel of the whole mask is active,
 -- scratch gets the unblurred volume and the volume its 3×3×3 mean. Assumes nothing.
 use mathlib.Core.Path.{_≡_}
-use mathlib.Core.Bool.{Bool, cond}
+use mathlib.Core.Bool.{cond}
 use mathlib.Core.List.{List, [], _∷_}
 use Prim.Native.Nat.{ℕ}
 use lib.ListN.{length, getD}
 use lib.Ieee.{Float, nan}
 use Rattle.names.specs.Bits.{zero32, one32}
-use Rattle.lists.specs.Any.{any}
-use Rattle.spread.specs.Spread.{laid}
+use Rattle.spread.specs.Spread.{laid, anyActive}
 use Rattle.grid.specs.declared.Axes.{Axes}
 use Rattle.limits.specs.declared.Ambient.{Ambient}
 use Rattle.means.specs.Box.{coefficientBlurOf}
@@ -31,14 +30,10 @@ ambientAt a lights i = ambientVoxel a (getD lights i nan)
 unfoldable pub filledOf : Ambient → List Float → List Float
 filledOf a lights = laid (ambientAt a lights) (length lights) 0
 
--- "if any voxel is active", of the whole mask
-abbrev pub anyActive : List ℕ → Bool
-anyActive active = any (isMarked active) (length active) 0
-
 -- the mean of the sixteen numbers a voxel
 abbrev pub meanOver : Axes → List Float → List Float
 meanOver axes volume = coefficientBlurOf volume (axes .width) (axes .height) (axes .depth)
 
 pub record Finished (axes : Axes) (active : List ℕ) (v s volume' scratch' : List Float) : Type 0 where
-  pub volume : volume' ≡ cond (anyActive active) (meanOver axes v) v
-  pub scratch : scratch' ≡ cond (anyActive active) v s
+  pub volume : volume' ≡ cond (anyActive (isMarked active) (length active)) (meanOver axes v) v
+  pub scratch : scratch' ≡ cond (anyActive (isMarked active) (length active)) v s

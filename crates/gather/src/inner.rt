@@ -20,7 +20,52 @@ use surface::Traced;
 use vectors::Ray;
 use vectors::Vec3;
 
-// ---- one primary ray
+// ---- a voxel
+
+// Writes the sixteen numbers of voxel i, and says how many rays they took.
+pub fn gather_voxel(
+    axes: Axes,
+    corners: Corners,
+    points: &[f32],
+    uses: &[u32],
+    kinds: &[u8],
+    numbers: &[f32],
+    light: Light,
+    ambient: Ambient,
+    sky: &[f32],
+    table: &[f32; 1728],
+    lights: &[f32],
+    distances: &mut [f32],
+    places: &mut [usize],
+    i: usize,
+    out: &mut [f32],
+) -> u64
+    requires { ⌜ Gatherable (gatherOf axes corners (sceneOf (now points) (now uses) (now kinds) (now numbers)) light ambient (now sky) (now lights)) i (length (now distances)) (length (now places)) (length (now out)) ⌝ }
+    requires { ⌜ now table ≡ directions ⌝ }
+    ensures { λ r. ⌜ Gathered (gatherOf axes corners (sceneOf (now (points .entry)) (now (uses .entry)) (now (kinds .entry)) (now (numbers .entry))) light ambient (now (sky .entry)) (now (lights .entry))) i r (now (out .exit)) ⌝ }
+{
+    let edges = grid::inner::edges(corners, axes);
+    let setting = setting_of(edges, light, ambient);
+    let centre = centre_of(corners, axes, edges, i);
+    let first = first_of(axes, i);
+    let all = gather_all(
+        points,
+        uses,
+        kinds,
+        numbers,
+        setting,
+        centre,
+        sky,
+        table,
+        first,
+        distances,
+        places,
+    );
+    let done = finish(all.sums, coefficients_of(ambient));
+    let seen = sky_seen(all.misses);
+    write_sixteen(out, done, lights[i], seen);
+    all.rays
+}
 
 // What the surfaces are lit by, and the biases, from a voxel's edges.
 pub fn setting_of(edges: Vec3, light: Light, ambient: Ambient) -> Setting
@@ -45,161 +90,29 @@ pub fn setting_of(edges: Vec3, light: Light, ambient: Ambient) -> Setting
     }
 }
 
-// From the centre, moved along the direction by the primary bias.
-pub fn primary_ray(setting: Setting, centre: Vec3, direction: Vec3) -> Ray
-    ensures { λ r. ⌜ r ≡ primaryRay setting centre direction ⌝ }
+// The centre of voxel i, from the grid's edges.
+fn centre_of(corners: Corners, axes: Axes, edges: Vec3, i: usize) -> Vec3
+    requires { ⌜ AxesWithin axes ⌝ }
+    requires { ⌜ i < voxels axes ⌝ }
+    ensures { λ r. ⌜ r ≡ centreFrom (corners .min) edges (xOf axes i) (yOf axes i) (zOf axes i) ⌝ }
 {
-    bounce::inner::ray_from(
-        centre,
-        direction,
-        setting.biases.primary,
-        setting.biases.shortest,
+    let row = i / axes.width;
+    grid::inner::centre(
+        corners.min,
+        edges,
+        i % axes.width,
+        row % axes.height,
+        row / axes.height,
     )
 }
 
-// Direction k of the table.
-fn direction_at(table: &[f32; 1728], k: usize) -> Vec3
-    requires { ⌜ now table ≡ directions ⌝ }
-    requires { ⌜ k < 576 ⌝ }
-    ensures { λ r. ⌜ r ≡ directionAt k ⌝ }
+// Where the directions of voxel i begin.
+fn first_of(axes: Axes, i: usize) -> usize
+    requires { ⌜ AxesWithin axes ⌝ }
+    ensures { λ r. ⌜ r ≡ setAt axes i * primaryRays ⌝ }
 {
-    let n = k * 3;
-    Vec3 {
-        x: table[n],
-        y: table[n + 1],
-        z: table[n + 2],
-    }
-}
-
-// What a surface sends back along a ray that has met it.
-fn from_surface(
-    points: &[f32],
-    uses: &[u32],
-    kinds: &[u8],
-    numbers: &[f32],
-    setting: Setting,
-    ray: Ray,
-    place: usize,
-    distance: f32,
-    distances: &mut [f32],
-    places: &mut [usize],
-) -> Traced
-    requires { ⌜ Sound (sceneOf (now points) (now uses) (now kinds) (now numbers)) ⌝ }
-    requires { ⌜ (length (now uses) ≤ length (now distances)) × (length (now uses) ≤ length (now places)) ⌝ }
-    requires { ⌜ place < length (now uses) ⌝ }
-    ensures { λ r. ⌜ r ≡ sentBack (sceneOf (now (points .entry)) (now (uses .entry)) (now (kinds .entry)) (now (numbers .entry))) setting ray place distance ⌝ }
-{
-    let surface = surface::inner::surface_at(
-        points,
-        uses,
-        kinds,
-        numbers,
-        ray,
-        place,
-        distance,
-        setting.biases.hit,
-    );
-    surface::inner::bounce_light(
-        points,
-        uses,
-        kinds,
-        numbers,
-        setting,
-        surface,
-        distances,
-        places,
-    )
-}
-
-// What comes back along a ray: from the sky where nothing is met, else from the surface.
-fn look(
-    points: &[f32],
-    uses: &[u32],
-    kinds: &[u8],
-    numbers: &[f32],
-    setting: Setting,
-    ray: Ray,
-    sky: Vec3,
-    distances: &mut [f32],
-    places: &mut [usize],
-) -> Incoming
-    requires { ⌜ Sound (sceneOf (now points) (now uses) (now kinds) (now numbers)) ⌝ }
-    requires { ⌜ (length (now uses) ≤ length (now distances)) × (length (now uses) ≤ length (now places)) ⌝ }
-    ensures { λ r. ⌜ r ≡ incomingOf (sceneOf (now (points .entry)) (now (uses .entry)) (now (kinds .entry)) (now (numbers .entry))) setting ray sky ⌝ }
-{
-    let found = scan::inner::nearest(points, uses, kinds, numbers, ray);
-    match found {
-        Nearest::Nothing => Incoming {
-            radiance: sky,
-            misses: 1,
-            rays: 1,
-        },
-        Nearest::At(place, distance, _, _) => {
-            let sent = from_surface(
-                points,
-                uses,
-                kinds,
-                numbers,
-                setting,
-                ray,
-                place,
-                distance,
-                distances,
-                places,
-            );
-            let radiance = sent.light;
-            Incoming {
-                radiance,
-                misses: 0,
-                rays: sent.rays + 1,
-            }
-        }
-    }
-}
-
-// ---- a voxel
-
-// With what comes along direction k of the table; its sky is triple k.
-fn gather_along(
-    points: &[f32],
-    uses: &[u32],
-    kinds: &[u8],
-    numbers: &[f32],
-    setting: Setting,
-    centre: Vec3,
-    sky: &[f32],
-    table: &[f32; 1728],
-    k: usize,
-    gathering: Gathering,
-    distances: &mut [f32],
-    places: &mut [usize],
-) -> Gathering
-    requires { ⌜ Sound (sceneOf (now points) (now uses) (now kinds) (now numbers)) ⌝ }
-    requires { ⌜ (length (now uses) ≤ length (now distances)) × (length (now uses) ≤ length (now places)) ⌝ }
-    requires { ⌜ (length (now sky) ≡ 1728) × (now table ≡ directions) × (k < 576) ⌝ }
-    requires { ⌜ (gathering .rays < 65536) × (gathering .misses < 65536) ⌝ }
-    ensures { λ r. ⌜ r ≡ gatheredAlong (sceneOf (now (points .entry)) (now (uses .entry)) (now (kinds .entry)) (now (numbers .entry))) setting centre (now (sky .entry)) k gathering ⌝ }
-{
-    let direction = direction_at(table, k);
-    let above = surface::inner::three_at(sky, k * 3);
-    let ray = primary_ray(setting, centre, direction);
-    let back = look(
-        points,
-        uses,
-        kinds,
-        numbers,
-        setting,
-        ray,
-        above,
-        distances,
-        places,
-    );
-    let sums = harmonics::inner::add_radiance(gathering.sums, direction, back.radiance);
-    Gathering {
-        sums,
-        misses: gathering.misses + back.misses,
-        rays: gathering.rays + back.rays,
-    }
+    let row = i / axes.width;
+    directions::set_of_voxel(i % axes.width, row % axes.height, row / axes.height) * 64
 }
 
 // Along the 64 directions that begin at `first`.
@@ -263,6 +176,165 @@ fn nothing() -> Gathering
     }
 }
 
+// With what comes along direction k of the table; its sky is triple k.
+fn gather_along(
+    points: &[f32],
+    uses: &[u32],
+    kinds: &[u8],
+    numbers: &[f32],
+    setting: Setting,
+    centre: Vec3,
+    sky: &[f32],
+    table: &[f32; 1728],
+    k: usize,
+    gathering: Gathering,
+    distances: &mut [f32],
+    places: &mut [usize],
+) -> Gathering
+    requires { ⌜ Sound (sceneOf (now points) (now uses) (now kinds) (now numbers)) ⌝ }
+    requires { ⌜ (length (now uses) ≤ length (now distances)) × (length (now uses) ≤ length (now places)) ⌝ }
+    requires { ⌜ (length (now sky) ≡ 1728) × (now table ≡ directions) × (k < 576) ⌝ }
+    requires { ⌜ (gathering .rays < 65536) × (gathering .misses < 65536) ⌝ }
+    ensures { λ r. ⌜ r ≡ gatheredAlong (sceneOf (now (points .entry)) (now (uses .entry)) (now (kinds .entry)) (now (numbers .entry))) setting centre (now (sky .entry)) k gathering ⌝ }
+{
+    let direction = direction_at(table, k);
+    let above = surface::inner::three_at(sky, k * 3);
+    let ray = primary_ray(setting, centre, direction);
+    let back = look(
+        points,
+        uses,
+        kinds,
+        numbers,
+        setting,
+        ray,
+        above,
+        distances,
+        places,
+    );
+    let sums = harmonics::inner::add_radiance(gathering.sums, direction, back.radiance);
+    Gathering {
+        sums,
+        misses: gathering.misses + back.misses,
+        rays: gathering.rays + back.rays,
+    }
+}
+
+// ---- one primary ray
+
+// From the centre, moved along the direction by the primary bias.
+pub fn primary_ray(setting: Setting, centre: Vec3, direction: Vec3) -> Ray
+    ensures { λ r. ⌜ r ≡ primaryRay setting centre direction ⌝ }
+{
+    bounce::inner::ray_from(
+        centre,
+        direction,
+        setting.biases.primary,
+        setting.biases.shortest,
+    )
+}
+
+// Direction k of the table.
+fn direction_at(table: &[f32; 1728], k: usize) -> Vec3
+    requires { ⌜ now table ≡ directions ⌝ }
+    requires { ⌜ k < 576 ⌝ }
+    ensures { λ r. ⌜ r ≡ directionAt k ⌝ }
+{
+    let n = k * 3;
+    Vec3 {
+        x: table[n],
+        y: table[n + 1],
+        z: table[n + 2],
+    }
+}
+
+// What comes back along a ray: from the sky where nothing is met, else from the surface.
+fn look(
+    points: &[f32],
+    uses: &[u32],
+    kinds: &[u8],
+    numbers: &[f32],
+    setting: Setting,
+    ray: Ray,
+    sky: Vec3,
+    distances: &mut [f32],
+    places: &mut [usize],
+) -> Incoming
+    requires { ⌜ Sound (sceneOf (now points) (now uses) (now kinds) (now numbers)) ⌝ }
+    requires { ⌜ (length (now uses) ≤ length (now distances)) × (length (now uses) ≤ length (now places)) ⌝ }
+    ensures { λ r. ⌜ r ≡ incomingOf (sceneOf (now (points .entry)) (now (uses .entry)) (now (kinds .entry)) (now (numbers .entry))) setting ray sky ⌝ }
+{
+    let found = scan::inner::nearest(points, uses, kinds, numbers, ray);
+    match found {
+        Nearest::Nothing => Incoming {
+            radiance: sky,
+            misses: 1,
+            rays: 1,
+        },
+        Nearest::At(place, distance, _, _) => {
+            let sent = from_surface(
+                points,
+                uses,
+                kinds,
+                numbers,
+                setting,
+                ray,
+                place,
+                distance,
+                distances,
+                places,
+            );
+            let radiance = sent.light;
+            Incoming {
+                radiance,
+                misses: 0,
+                rays: sent.rays + 1,
+            }
+        }
+    }
+}
+
+// What a surface sends back along a ray that has met it.
+fn from_surface(
+    points: &[f32],
+    uses: &[u32],
+    kinds: &[u8],
+    numbers: &[f32],
+    setting: Setting,
+    ray: Ray,
+    place: usize,
+    distance: f32,
+    distances: &mut [f32],
+    places: &mut [usize],
+) -> Traced
+    requires { ⌜ Sound (sceneOf (now points) (now uses) (now kinds) (now numbers)) ⌝ }
+    requires { ⌜ (length (now uses) ≤ length (now distances)) × (length (now uses) ≤ length (now places)) ⌝ }
+    requires { ⌜ place < length (now uses) ⌝ }
+    ensures { λ r. ⌜ r ≡ sentBack (sceneOf (now (points .entry)) (now (uses .entry)) (now (kinds .entry)) (now (numbers .entry))) setting ray place distance ⌝ }
+{
+    let surface = surface::inner::surface_at(
+        points,
+        uses,
+        kinds,
+        numbers,
+        ray,
+        place,
+        distance,
+        setting.biases.hit,
+    );
+    surface::inner::bounce_light(
+        points,
+        uses,
+        kinds,
+        numbers,
+        setting,
+        surface,
+        distances,
+        places,
+    )
+}
+
+// ---- its sixteen numbers
+
 // Irradiance, raised to 0, and no darker than the floor.
 fn finish(sums: Coefficients, ambient: Coefficients) -> Coefficients
     ensures { λ r. ⌜ r ≡ finishedOf sums ambient ⌝ }
@@ -291,17 +363,6 @@ fn sky_seen(misses: usize) -> f32
     grid::inner::float(misses) / 64.0
 }
 
-// Four numbers from a place on: a colour, and a fourth.
-fn write_four(out: &mut [f32], at: usize, colour: Vec3, fourth: f32)
-    requires { ⌜ at + 3 < length (now out) ⌝ }
-    ensures { λ _. ⌜ now (out .exit) ≡ withFour (now (out .entry)) at colour fourth ⌝ }
-{
-    out[at] = colour.x;
-    out[at + 1] = colour.y;
-    out[at + 2] = colour.z;
-    out[at + 3] = fourth;
-}
-
 // The sixteen numbers: coefficient after coefficient, x, y, z and a fourth place.
 fn write_sixteen(out: &mut [f32], coefficients: Coefficients, light: f32, seen: f32)
     requires { ⌜ length (now out) ≡ 16 ⌝ }
@@ -313,72 +374,13 @@ fn write_sixteen(out: &mut [f32], coefficients: Coefficients, light: f32, seen: 
     write_four(out, 12, coefficients.c3, 0.0);
 }
 
-// The centre of voxel i, from the grid's edges.
-fn centre_of(corners: Corners, axes: Axes, edges: Vec3, i: usize) -> Vec3
-    requires { ⌜ AxesWithin axes ⌝ }
-    requires { ⌜ i < voxels axes ⌝ }
-    ensures { λ r. ⌜ r ≡ centreFrom (corners .min) edges (xOf axes i) (yOf axes i) (zOf axes i) ⌝ }
+// Four numbers from a place on: a colour, and a fourth.
+fn write_four(out: &mut [f32], at: usize, colour: Vec3, fourth: f32)
+    requires { ⌜ at + 3 < length (now out) ⌝ }
+    ensures { λ _. ⌜ now (out .exit) ≡ withFour (now (out .entry)) at colour fourth ⌝ }
 {
-    let row = i / axes.width;
-    grid::inner::centre(
-        corners.min,
-        edges,
-        i % axes.width,
-        row % axes.height,
-        row / axes.height,
-    )
-}
-
-// Where the directions of voxel i begin.
-fn first_of(axes: Axes, i: usize) -> usize
-    requires { ⌜ AxesWithin axes ⌝ }
-    ensures { λ r. ⌜ r ≡ setAt axes i * primaryRays ⌝ }
-{
-    let row = i / axes.width;
-    directions::set_of_voxel(i % axes.width, row % axes.height, row / axes.height) * 64
-}
-
-// Writes the sixteen numbers of voxel i, and says how many rays they took.
-pub fn gather_voxel(
-    axes: Axes,
-    corners: Corners,
-    points: &[f32],
-    uses: &[u32],
-    kinds: &[u8],
-    numbers: &[f32],
-    light: Light,
-    ambient: Ambient,
-    sky: &[f32],
-    table: &[f32; 1728],
-    lights: &[f32],
-    distances: &mut [f32],
-    places: &mut [usize],
-    i: usize,
-    out: &mut [f32],
-) -> u64
-    requires { ⌜ Gatherable (gatherOf axes corners (sceneOf (now points) (now uses) (now kinds) (now numbers)) light ambient (now sky) (now lights)) i (length (now distances)) (length (now places)) (length (now out)) ⌝ }
-    requires { ⌜ now table ≡ directions ⌝ }
-    ensures { λ r. ⌜ Gathered (gatherOf axes corners (sceneOf (now (points .entry)) (now (uses .entry)) (now (kinds .entry)) (now (numbers .entry))) light ambient (now (sky .entry)) (now (lights .entry))) i r (now (out .exit)) ⌝ }
-{
-    let edges = grid::inner::edges(corners, axes);
-    let setting = setting_of(edges, light, ambient);
-    let centre = centre_of(corners, axes, edges, i);
-    let first = first_of(axes, i);
-    let all = gather_all(
-        points,
-        uses,
-        kinds,
-        numbers,
-        setting,
-        centre,
-        sky,
-        table,
-        first,
-        distances,
-        places,
-    );
-    let done = finish(all.sums, coefficients_of(ambient));
-    let seen = sky_seen(all.misses);
-    write_sixteen(out, done, lights[i], seen);
-    all.rays
+    out[at] = colour.x;
+    out[at + 1] = colour.y;
+    out[at + 2] = colour.z;
+    out[at + 3] = fourth;
 }

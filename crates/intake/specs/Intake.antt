@@ -57,11 +57,11 @@ voxelNumbers = 16
 
 -- 3: a lent list of the wrong length, by the lengths: of n voxels and t triangles
 unfoldable pub wrongLengths : ℕ → ℕ → ℕ → ℕ → ℕ → ℕ → ℕ → ℕ → ℕ → Bool
-wrongLengths n t sky active lights volume scratch distances places =
-    (wrongLength sky skyNumbers || wrongLength active n || wrongLength lights n)
-    || (wrongLength volume (n * voxelNumbers) || wrongLength scratch (n * voxelNumbers))
-    || tooShort distances t
-    || tooShort places t
+wrongLengths n t skyLong activeLong lightsLong volumeLong scratchLong distancesLong placesLong =
+    (wrongLength skyLong skyNumbers || wrongLength activeLong n || wrongLength lightsLong n)
+    || (wrongLength volumeLong (n * voxelNumbers) || wrongLength scratchLong (n * voxelNumbers))
+    || tooShort distancesLong t
+    || tooShort placesLong t
 
 -- 7: bad light, ambient or sky number
 unfoldable pub badLighting : Light → Ambient → List Float → Bool

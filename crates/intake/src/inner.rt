@@ -1,6 +1,7 @@
 // The rows that a bake tests, in their order.
 ghost use mathlib.Core.Path.{_≡_};
 ghost use Prim.Native.Nat.{_≤_};
+ghost use lib.ListN.{length};
 ghost use Rattle.names.specs.Numbers.{voxelLimit};
 ghost use Rattle.names.specs.Scene.{sceneOf};
 ghost use Rattle.spread.specs.Spread.{stage};
@@ -10,8 +11,8 @@ use grid::Corners;
 use limits::Ambient;
 use limits::Light;
 
-// "10: allowance below 384"
-const VOXEL_COST: u64 = 384;
+// "10: allowance below 384"; "an active one is taken exactly while at least 384 rays remain"
+pub const VOXEL_COST: u64 = 384;
 // Nine sets of 64 directions, three numbers each.
 const SKY_NUMBERS: usize = 1728;
 
@@ -51,11 +52,11 @@ pub fn judge(
     let lengths = wrong_lengths(
         n,
         uses.len(),
-        sky.len(),
-        active.len(),
-        lights.len(),
-        volume.len(),
-        scratch.len(),
+        sky,
+        active,
+        lights,
+        volume,
+        scratch,
         distances,
         places,
     );
@@ -91,20 +92,21 @@ pub fn judge(
 fn wrong_lengths(
     n: usize,
     t: usize,
-    sky: usize,
-    active: usize,
-    lights: usize,
-    volume: usize,
-    scratch: usize,
+    sky: &[f32],
+    active: &[u8],
+    lights: &[f32],
+    volume: &[f32],
+    scratch: &[f32],
     distances: usize,
     places: usize,
 ) -> bool
     requires { ⌜ n ≤ voxelLimit ⌝ }
-    ensures { λ r. ⌜ r ≡ wrongLengths n t sky active lights volume scratch distances places ⌝ }
+    ensures { λ r. ⌜ r ≡ wrongLengths n t (length (now (sky .entry))) (length (now (active .entry))) (length (now (lights .entry)))
+        (length (now (volume .entry))) (length (now (scratch .entry))) distances places ⌝ }
 {
     let all = n * 16;
-    let one = (sky != SKY_NUMBERS) | (active != n) | (lights != n);
-    let sixteen = (volume != all) | (scratch != all);
+    let one = (sky.len() != SKY_NUMBERS) | (active.len() != n) | (lights.len() != n);
+    let sixteen = (volume.len() != all) | (scratch.len() != all);
     one | sixteen | (distances < t) | (places < t)
 }
 

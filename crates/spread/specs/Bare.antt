@@ -7,7 +7,7 @@ use Prim.Native.Nat.{ℕ, zero, suc, _+_, _-_, _≤_, _<_}
 use native.Mathlib.Omega.{arith}
 use lib.Dec.{leb, eqb}
 use borrow.Author.Tests.{ne-eqb, eqb-true}
-use Rattle.spread.specs.Spread.{Stage, stage, Bake, Walked, walked, more, replaced, started, walk, someActive, ended, accepted, call, run, NoneRefused}
+use Rattle.spread.specs.Spread.{Stage, stage, Bake, Walked, walked, more, replaced, started, walk, anyActive, ended, accepted, call, run, NoneRefused}
 use Rattle.spread.specs.Walks.{walks, walk-to}
 
 -- a bake of nothing but voxels and their costs
@@ -28,7 +28,7 @@ bare count most active cost =
 -- the progress at an end, and an accepted call
 module _ {A : Type 0} (b : Bake A) where
   ended-at : (p : ℕ) (v s : List A) → ended b p v s .progress ≡ p
-  ended-at p v s = go (eqb p (b .count)) refl (someActive b)
+  ended-at p v s = go (eqb p (b .count)) refl (anyActive (b .active) (b .count))
     where
       go : (t : Bool) → eqb p (b .count) ≡ t → (u : Bool)
           → cond t (cond u (stage (b .count) (b .mean v) v) (stage (b .count) v s)) (stage p v s) .progress ≡ p

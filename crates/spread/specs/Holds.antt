@@ -9,7 +9,7 @@ use native.Mathlib.Nat.{zero-add, suc-mul, zero-mul, le-div-iff-mul-le, lt-div-m
 use lib.Dec.{eqb}
 use lib.ListN.{length, replicate}
 use borrow.Author.Tests.{eq-eqb, ne-eqb, eqb-true}
-use Rattle.spread.specs.Spread.{Stage, stage, Bake, Called, Walked, voxelPart, started, walk, someActive, blurred, ended, baked, accepted, call, unblurred, unbroken, actives, costs, standing, stands, run, sum, EachAtLeast, NoneRefused}
+use Rattle.spread.specs.Spread.{Stage, stage, Bake, Called, Walked, voxelPart, started, walk, anyActive, blurred, ended, baked, accepted, call, unblurred, unbroken, actives, costs, standing, stands, run, sum, EachAtLeast, NoneRefused}
 use Rattle.spread.specs.Walks.{walks, walk-from, walk-to, walk-goes, walk-costs, walk-fires, walk-stops, walk-takes, walk-rays, walk-passed, actives-split, costs-least, costs-most}
 use Rattle.spread.specs.Contents.{length-standing, walk-stands, stands-filled, stands-unblurred, part-of-laid}
 use Rattle.spread.specs.Demand.{Fair, Lasts, roundedUp, allActive, finished, Demand}
@@ -39,7 +39,7 @@ module _ {A : Type 0} (b : Bake A) (fair : Fair b) where
 
   -- where the walk ends is the progress that the call answers
   ended-progress : (p : ℕ) (v x : List A) → ended b p v x .progress ≡ p
-  ended-progress p v x = go (eqb p (b .count)) refl (someActive b)
+  ended-progress p v x = go (eqb p (b .count)) refl (anyActive (b .active) (b .count))
     where
       go : (t : Bool) → eqb p (b .count) ≡ t → (u : Bool)
           → cond t (cond u (stage (b .count) (b .mean v) v) (stage (b .count) v x)) (stage p v x) .progress ≡ p
@@ -189,7 +189,7 @@ module _ {A : Type 0} (b : Bake A) (fair : Fair b) where
 
   unbroken-progress : (x : List A) → unbroken b x .progress ≡ b .count
   unfolding unbroken
-  unbroken-progress x = go (someActive b)
+  unbroken-progress x = go (anyActive (b .active) (b .count))
     where
       go : (u : Bool) → cond u (stage (b .count) (b .mean (unblurred b)) (unblurred b)) (stage (b .count) (unblurred b) x) .progress ≡ b .count
       go true = refl

@@ -68,6 +68,10 @@ replaced size i numbers v = take (i * size) v ++ (numbers ++ drop (i * size + si
 unfoldable pub voxelPart : {A : Type 0} → ℕ → ℕ → List A → List A
 voxelPart size i v = take size (drop (i * size) v)
 
+-- "if any voxel is active", of the whole mask
+abbrev pub anyActive : (ℕ → Bool) → ℕ → Bool
+anyActive active count = any active count 0
+
 module _ {A : Type 0} (b : Bake A) where
   -- ---- one call
 
@@ -88,13 +92,9 @@ module _ {A : Type 0} (b : Bake A) where
       let stopped = walked i 0 v in
       cond (b .active i) (cond (leb (b .most) l) taken stopped) skipped
 
-  -- "if any voxel is active", of the whole mask
-  abbrev pub someActive : Bool
-  someActive = any (b .active) (b .count) 0
-
   -- "At the end, if any voxel is active, scratch gets the unblurred volume and the volume its 3×3×3 mean"
   abbrev pub blurred : List A → List A → Stage A
-  blurred v s = cond someActive (stage (b .count) (b .mean v) v) (stage (b .count) v s)
+  blurred v s = cond (anyActive (b .active) (b .count)) (stage (b .count) (b .mean v) v) (stage (b .count) v s)
 
   abbrev pub ended : ℕ → List A → List A → Stage A
   ended p v s = cond (eqb p (b .count)) (blurred v s) (stage p v s)

@@ -17,32 +17,6 @@ use vectors::Vec3;
 
 // ---- what a ray has met
 
-// Three numbers of a list.
-pub fn three_at(list: &[f32], k: usize) -> Vec3
-    requires { ⌜ k + 2 < length (now list) ⌝ }
-    ensures { λ r. ⌜ r ≡ vecAt (now (list .entry)) k ⌝ }
-{
-    Vec3 {
-        x: list[k],
-        y: list[k + 1],
-        z: list[k + 2],
-    }
-}
-
-fn wide(x: u32) -> usize
-    ensures { λ r. ⌜ r ≡ x ⌝ }
-{
-    x as usize
-}
-
-// The place of the material that a triangle uses.
-fn material(uses: &[u32], place: usize) -> usize
-    requires { ⌜ place < length (now uses) ⌝ }
-    ensures { λ r. ⌜ r ≡ getD (now (uses .entry)) place 0 ⌝ }
-{
-    wide(uses[place])
-}
-
 // The surface that a ray has met at a place and a distance.
 pub fn surface_at(
     points: &[f32],
@@ -73,156 +47,7 @@ pub fn surface_at(
     }
 }
 
-// ---- the rays of a surface
-
-// To the sun.
-pub fn shadow_ray(setting: Setting, surface: Surface) -> Ray
-    ensures { λ r. ⌜ r ≡ shadowRay setting surface ⌝ }
-{
-    bounce::inner::ray_from(
-        surface.point,
-        setting.toward,
-        setting.biases.step,
-        setting.biases.shortest,
-    )
-}
-
-// Along hemisphere direction j of the frame of a surface's normal.
-pub fn sky_ray(setting: Setting, surface: Surface, frame: Frame, table: &[f32; 12], j: usize) -> Ray
-    requires { ⌜ now table ≡ hemisphere ⌝ }
-    requires { ⌜ j < 4 ⌝ }
-    ensures { λ r. ⌜ r ≡ skyRayIn setting surface frame j ⌝ }
-{
-    let direction = bounce::inner::sky_direction(frame, table, j);
-    bounce::inner::ray_from(
-        surface.point,
-        direction,
-        setting.biases.step,
-        setting.biases.shortest,
-    )
-}
-
-// ---- the light on a surface
-
-// The transmittance along ray j, added to the sum.
-fn see(
-    points: &[f32],
-    uses: &[u32],
-    kinds: &[u8],
-    numbers: &[f32],
-    ray: Ray,
-    seen: Seen,
-    distances: &mut [f32],
-    places: &mut [usize],
-) -> Seen
-    requires { ⌜ Sound (sceneOf (now points) (now uses) (now kinds) (now numbers)) ⌝ }
-    requires { ⌜ (length (now uses) ≤ length (now distances)) × (length (now uses) ≤ length (now places)) ⌝ }
-    requires { ⌜ seen .rays < 4 ⌝ }
-    ensures { λ r. ⌜ r ≡ seenBy (sceneOf (now (points .entry)) (now (uses .entry)) (now (kinds .entry)) (now (numbers .entry))) ray seen ⌝ }
-{
-    let passed = scan::inner::transmittance(points, uses, kinds, numbers, ray, distances, places);
-    Seen {
-        sum: seen.sum + passed,
-        rays: seen.rays + 1,
-    }
-}
-
-// The sum of the transmittances along the four rays of the hemisphere.
-fn see_sky(
-    points: &[f32],
-    uses: &[u32],
-    kinds: &[u8],
-    numbers: &[f32],
-    setting: Setting,
-    surface: Surface,
-    distances: &mut [f32],
-    places: &mut [usize],
-) -> Seen
-    requires { ⌜ Sound (sceneOf (now points) (now uses) (now kinds) (now numbers)) ⌝ }
-    requires { ⌜ (length (now uses) ≤ length (now distances)) × (length (now uses) ≤ length (now places)) ⌝ }
-    ensures { λ r. ⌜ r ≡ seenOf (sceneOf (now (points .entry)) (now (uses .entry)) (now (kinds .entry)) (now (numbers .entry))) setting surface ⌝ }
-{
-    let table = bounce::inner::hemisphere_table();
-    let frame = bounce::inner::frame_of(surface.normal);
-    let mut seen = Seen { sum: 0.0, rays: 0 };
-    let mut j = 0;
-    while j < 4 {
-        let ray = sky_ray(setting, surface, frame, &table, j);
-        seen = see(points, uses, kinds, numbers, ray, seen, distances, places);
-        j += 1;
-    }
-    seen
-}
-
-// The sky's light on a surface.
-fn light_sky(
-    points: &[f32],
-    uses: &[u32],
-    kinds: &[u8],
-    numbers: &[f32],
-    setting: Setting,
-    surface: Surface,
-    distances: &mut [f32],
-    places: &mut [usize],
-) -> Traced
-    requires { ⌜ Sound (sceneOf (now points) (now uses) (now kinds) (now numbers)) ⌝ }
-    requires { ⌜ (length (now uses) ≤ length (now distances)) × (length (now uses) ≤ length (now places)) ⌝ }
-    ensures { λ r. ⌜ r ≡ skyOf (sceneOf (now (points .entry)) (now (uses .entry)) (now (kinds .entry)) (now (numbers .entry))) setting surface ⌝ }
-{
-    let seen = see_sky(
-        points,
-        uses,
-        kinds,
-        numbers,
-        setting,
-        surface,
-        distances,
-        places,
-    );
-    let light = bounce::inner::skylight(setting.ambient, surface.normal, seen.sum * 0.25);
-    Traced {
-        light,
-        rays: seen.rays,
-    }
-}
-
-// The sun's light on a surface, where the sun is above it.
-fn light_sun(
-    points: &[f32],
-    uses: &[u32],
-    kinds: &[u8],
-    numbers: &[f32],
-    setting: Setting,
-    surface: Surface,
-    distances: &mut [f32],
-    places: &mut [usize],
-) -> Traced
-    requires { ⌜ Sound (sceneOf (now points) (now uses) (now kinds) (now numbers)) ⌝ }
-    requires { ⌜ (length (now uses) ≤ length (now distances)) × (length (now uses) ≤ length (now places)) ⌝ }
-    ensures { λ r. ⌜ r ≡ sunOf (sceneOf (now (points .entry)) (now (uses .entry)) (now (kinds .entry)) (now (numbers .entry))) setting surface ⌝ }
-{
-    let slant = bounce::inner::slant(surface.normal, setting.toward);
-    if slant > 0.0 {
-        let ray = shadow_ray(setting, surface);
-        let passed = scan::inner::transmittance(
-            points,
-            uses,
-            kinds,
-            numbers,
-            ray,
-            distances,
-            places,
-        );
-        let light = bounce::inner::sunlight(setting.colour, slant, passed);
-        return Traced { light, rays: 1 };
-    }
-    let light = Vec3 {
-        x: 0.0,
-        y: 0.0,
-        z: 0.0,
-    };
-    Traced { light, rays: 0 }
-}
+// ---- the light on it
 
 // What a surface sends back, and the rays that this takes: at most five.
 pub fn bounce_light(
@@ -275,4 +100,181 @@ pub fn bounce_light(
         light,
         rays: sun.rays + sky.rays,
     }
+}
+
+// The sun's light on a surface, where the sun is above it.
+fn light_sun(
+    points: &[f32],
+    uses: &[u32],
+    kinds: &[u8],
+    numbers: &[f32],
+    setting: Setting,
+    surface: Surface,
+    distances: &mut [f32],
+    places: &mut [usize],
+) -> Traced
+    requires { ⌜ Sound (sceneOf (now points) (now uses) (now kinds) (now numbers)) ⌝ }
+    requires { ⌜ (length (now uses) ≤ length (now distances)) × (length (now uses) ≤ length (now places)) ⌝ }
+    ensures { λ r. ⌜ r ≡ sunOf (sceneOf (now (points .entry)) (now (uses .entry)) (now (kinds .entry)) (now (numbers .entry))) setting surface ⌝ }
+{
+    let slant = bounce::inner::slant(surface.normal, setting.toward);
+    if slant > 0.0 {
+        let ray = shadow_ray(setting, surface);
+        let passed = scan::inner::transmittance(
+            points,
+            uses,
+            kinds,
+            numbers,
+            ray,
+            distances,
+            places,
+        );
+        let light = bounce::inner::sunlight(setting.colour, slant, passed);
+        return Traced { light, rays: 1 };
+    }
+    let light = Vec3 {
+        x: 0.0,
+        y: 0.0,
+        z: 0.0,
+    };
+    Traced { light, rays: 0 }
+}
+
+// The sky's light on a surface.
+fn light_sky(
+    points: &[f32],
+    uses: &[u32],
+    kinds: &[u8],
+    numbers: &[f32],
+    setting: Setting,
+    surface: Surface,
+    distances: &mut [f32],
+    places: &mut [usize],
+) -> Traced
+    requires { ⌜ Sound (sceneOf (now points) (now uses) (now kinds) (now numbers)) ⌝ }
+    requires { ⌜ (length (now uses) ≤ length (now distances)) × (length (now uses) ≤ length (now places)) ⌝ }
+    ensures { λ r. ⌜ r ≡ skyOf (sceneOf (now (points .entry)) (now (uses .entry)) (now (kinds .entry)) (now (numbers .entry))) setting surface ⌝ }
+{
+    let seen = see_sky(
+        points,
+        uses,
+        kinds,
+        numbers,
+        setting,
+        surface,
+        distances,
+        places,
+    );
+    let light = bounce::inner::skylight(setting.ambient, surface.normal, seen.sum * 0.25);
+    Traced {
+        light,
+        rays: seen.rays,
+    }
+}
+
+// The sum of the transmittances along the four rays of the hemisphere.
+fn see_sky(
+    points: &[f32],
+    uses: &[u32],
+    kinds: &[u8],
+    numbers: &[f32],
+    setting: Setting,
+    surface: Surface,
+    distances: &mut [f32],
+    places: &mut [usize],
+) -> Seen
+    requires { ⌜ Sound (sceneOf (now points) (now uses) (now kinds) (now numbers)) ⌝ }
+    requires { ⌜ (length (now uses) ≤ length (now distances)) × (length (now uses) ≤ length (now places)) ⌝ }
+    ensures { λ r. ⌜ r ≡ seenOf (sceneOf (now (points .entry)) (now (uses .entry)) (now (kinds .entry)) (now (numbers .entry))) setting surface ⌝ }
+{
+    let table = bounce::inner::hemisphere_table();
+    let frame = bounce::inner::frame_of(surface.normal);
+    let mut seen = Seen { sum: 0.0, rays: 0 };
+    let mut j = 0;
+    while j < 4 {
+        let ray = sky_ray(setting, surface, frame, &table, j);
+        seen = see(points, uses, kinds, numbers, ray, seen, distances, places);
+        j += 1;
+    }
+    seen
+}
+
+// The transmittance along ray j, added to the sum.
+fn see(
+    points: &[f32],
+    uses: &[u32],
+    kinds: &[u8],
+    numbers: &[f32],
+    ray: Ray,
+    seen: Seen,
+    distances: &mut [f32],
+    places: &mut [usize],
+) -> Seen
+    requires { ⌜ Sound (sceneOf (now points) (now uses) (now kinds) (now numbers)) ⌝ }
+    requires { ⌜ (length (now uses) ≤ length (now distances)) × (length (now uses) ≤ length (now places)) ⌝ }
+    requires { ⌜ seen .rays < 4 ⌝ }
+    ensures { λ r. ⌜ r ≡ seenBy (sceneOf (now (points .entry)) (now (uses .entry)) (now (kinds .entry)) (now (numbers .entry))) ray seen ⌝ }
+{
+    let passed = scan::inner::transmittance(points, uses, kinds, numbers, ray, distances, places);
+    Seen {
+        sum: seen.sum + passed,
+        rays: seen.rays + 1,
+    }
+}
+
+// ---- its rays
+
+// To the sun.
+pub fn shadow_ray(setting: Setting, surface: Surface) -> Ray
+    ensures { λ r. ⌜ r ≡ shadowRay setting surface ⌝ }
+{
+    bounce::inner::ray_from(
+        surface.point,
+        setting.toward,
+        setting.biases.step,
+        setting.biases.shortest,
+    )
+}
+
+// Along hemisphere direction j of the frame of a surface's normal.
+pub fn sky_ray(setting: Setting, surface: Surface, frame: Frame, table: &[f32; 12], j: usize) -> Ray
+    requires { ⌜ now table ≡ hemisphere ⌝ }
+    requires { ⌜ j < 4 ⌝ }
+    ensures { λ r. ⌜ r ≡ skyRayIn setting surface frame j ⌝ }
+{
+    let direction = bounce::inner::sky_direction(frame, table, j);
+    bounce::inner::ray_from(
+        surface.point,
+        direction,
+        setting.biases.step,
+        setting.biases.shortest,
+    )
+}
+
+// ---- reading lists
+
+// Three numbers of a list.
+pub fn three_at(list: &[f32], k: usize) -> Vec3
+    requires { ⌜ k + 2 < length (now list) ⌝ }
+    ensures { λ r. ⌜ r ≡ vecAt (now (list .entry)) k ⌝ }
+{
+    Vec3 {
+        x: list[k],
+        y: list[k + 1],
+        z: list[k + 2],
+    }
+}
+
+// The place of the material that a triangle uses.
+fn material(uses: &[u32], place: usize) -> usize
+    requires { ⌜ place < length (now uses) ⌝ }
+    ensures { λ r. ⌜ r ≡ getD (now (uses .entry)) place 0 ⌝ }
+{
+    wide(uses[place])
+}
+
+fn wide(x: u32) -> usize
+    ensures { λ r. ⌜ r ≡ x ⌝ }
+{
+    x as usize
 }

@@ -15,9 +15,6 @@ use grid::Corners;
 use limits::Ambient;
 use limits::Light;
 
-// "an active one is taken exactly while at least 384 rays remain"
-const VOXEL_COST: u64 = 384;
-
 // Goes through the voxels from progress on, in order, while the allowance lasts.
 pub fn walk(
     axes: Axes,
@@ -57,7 +54,7 @@ pub fn walk(
         let at = i;
         i += 1;
         if active[at] == 1 {
-            if allowance - rays < VOXEL_COST {
+            if allowance - rays < intake::inner::VOXEL_COST {
                 return Reached { progress: at, rays };
             }
             rays += take(

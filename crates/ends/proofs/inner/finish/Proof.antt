@@ -4,16 +4,17 @@ use mathlib.Core.Path.{_≡_, refl, sym, _∙_}
 use mathlib.Core.Bool.{Bool, true, false}
 use mathlib.Core.List.{List}
 use Prim.Native.Nat.{ℕ}
-use Rattle.marks.specs.Marks.{markedCount}
+use lib.ListN.{length}
+use Rattle.marks.specs.Marks.{isMarked, markedCount}
 use Rattle.marks.specs.MarksLaws.{none-active, active-none}
-use Rattle.ends.specs.Ends.{anyActive}
+use Rattle.spread.specs.Spread.{anyActive}
 use Rattle.ends.proofs.inner.finish.Statement.{statement}
 use Rattle.ends.proofs.inner.finish.Tie as tie
 
-some-active : (mask : List ℕ) → (markedCount mask ≡ 0 → ⊥) → anyActive mask ≡ true
-some-active mask n = go (anyActive mask) refl
+some-active : (mask : List ℕ) → (markedCount mask ≡ 0 → ⊥) → anyActive (isMarked mask) (length mask) ≡ true
+some-active mask n = go (anyActive (isMarked mask) (length mask)) refl
   where
-    go : (b : Bool) → anyActive mask ≡ b → anyActive mask ≡ true
+    go : (b : Bool) → anyActive (isMarked mask) (length mask) ≡ b → anyActive (isMarked mask) (length mask) ≡ true
     go true e = e
     go false e = absurd (n (active-none mask e))
 
@@ -22,7 +23,7 @@ count-requires c κs = search needs
 
 returns : tie.Need-returns
 returns c =
-    let e : anyActive (c .before .before .before .before .before .args .active .now) ≡ false
+    let e : anyActive (isMarked (c .before .before .before .before .before .args .active .now)) (length (c .before .before .before .before .before .args .active .now)) ≡ false
     = none-active (c .before .before .before .before .before .args .active .now) (sym (c .before .count .ensures) ∙ c .if1 .taken) in
     record { volume = rw e refl; scratch = rw e refl }
 
@@ -40,7 +41,7 @@ same-length-2 c = search needs
 
 returns-2 : tie.Need-returns-2
 returns-2 c =
-    let e : anyActive (c .before .before .before .before .before .before .before .before .before .before .before .before .before .before .before .args .active .now) ≡ true
+    let e : anyActive (isMarked (c .before .before .before .before .before .before .before .before .before .before .before .before .before .before .before .args .active .now)) (length (c .before .before .before .before .before .before .before .before .before .before .before .before .before .before .before .args .active .now)) ≡ true
     = some-active (c .before .before .before .before .before .before .before .before .before .before .before .before .before .before .before .args .active .now) (λ z. c .before .before .before .before .before .before .before .before .before .before .if1 .left (c .before .before .before .before .before .before .before .before .before .before .before .count .ensures ∙ z)) in
     record { volume = rw (e, c .before .before .mean .ensures, c .before .before .before .before .before .before .before .copy .ensures) refl; scratch = rw (e, c .before .before .before .before .before .before .before .copy .ensures) refl }
 
