@@ -3,3 +3,4 @@ pub mod Nearest
 pub mod Hits
 pub mod HitLaws
 pub mod Transmittance
+pub mod OpaqueLaws

@@ -7,8 +7,8 @@ ghost use Rattle.names.specs.Scene.{Sound, sceneOf};
 ghost use Rattle.triangle.specs.Meet.{meetOf};
 ghost use Rattle.triangle.specs.Places.{triangleAt};
 ghost use Rattle.scan.specs.Nearest.{beats, nearerOf, nearestOf};
-ghost use Rattle.scan.specs.Hits.{struck, before, rankOf, insertAt, insertOf, paired, hitsOf, placesOf};
-ghost use Rattle.scan.specs.Transmittance.{Fitting, passOf, transmittanceOf};
+ghost use Rattle.scan.specs.Hits.{struck, before, rankOf, insertAt, insertOf, paired};
+ghost use Rattle.scan.specs.Transmittance.{kindAt, Fitting, passOf, transmittanceOf};
 use super::Nearest;
 use triangle::Meet;
 use vectors::Ray;
@@ -77,7 +77,8 @@ fn meet_at(points: &[f32], i: usize, ray: Ray) -> Meet
 // ---- how much light passes
 
 // How much light passes along the ray: the hits by distance, then by place, and the product of their transmissions. The two scratch lists hold
-// the hits on the way.
+// the hits on the way. An opaque hit leaves nothing at whatever place of the order (`opaque-dark`), so the scan ends at the first it meets; the Rust
+// collects all hits and sorts them.
 pub fn transmittance(
     points: &[f32],
     uses: &[u32],
@@ -92,15 +93,6 @@ pub fn transmittance(
     ensures { λ r. ⌜ r ≡ transmittanceOf (sceneOf (now (points .entry)) (now (uses .entry)) (now (kinds .entry)) (now (numbers .entry))) ray ⌝ }
 {
     let n = uses.len();
-    let m = collect(points, n, ray, distances, places);
-    product(uses, kinds, numbers, &places[..m])
-}
-
-// Lays the hits among the first n triangles into the scratch lists, in order, and says how many there are.
-fn collect(points: &[f32], n: usize, ray: Ray, distances: &mut [f32], places: &mut [usize]) -> usize
-    requires { ⌜ (n * 9 ≤ length (now points)) × (n ≤ length (now distances)) × (n ≤ length (now places)) ⌝ }
-    ensures { λ r. ⌜ (r ≤ n) × (take r (now (places .exit)) ≡ placesOf (hitsOf (now (points .entry)) ray n)) ⌝ }
-{
     let mut m = 0;
     let mut i = 0;
     while i < n {
@@ -109,13 +101,25 @@ fn collect(points: &[f32], n: usize, ray: Ray, distances: &mut [f32], places: &m
         match a {
             Meet::Miss => {}
             Meet::Hit(t, _, _) => {
+                if kind_at(uses, kinds, i) == 0 {
+                    return 0.0;
+                }
                 add_hit(distances, places, m, t, i);
                 m += 1;
             }
         }
         i = next;
     }
-    m
+    product(uses, kinds, numbers, &places[..m])
+}
+
+// The kind of the material that the triangle at place i uses: 0 is opaque.
+fn kind_at(uses: &[u32], kinds: &[u8], i: usize) -> u8
+    requires { ⌜ (i < length (now uses)) × (getD (now uses) i 0 < length (now kinds)) ⌝ }
+    ensures { λ r. ⌜ r ≡ kindAt (now (uses .entry)) (now (kinds .entry)) i ⌝ }
+{
+    let k = uses[i] as usize;
+    kinds[k]
 }
 
 // Puts a hit into its place among the first m.

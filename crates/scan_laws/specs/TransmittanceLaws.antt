@@ -1,8 +1,7 @@
--- What a transmittance is: 0 where the ray hits an opaque triangle, wherever it stands, and always from 0 to 1.
+-- A transmittance lies from 0 to 1. That an opaque hit leaves nothing is `opaque-dark` of scan.
 use mathlib.Core.Path.{_≡_, refl, sym, ap, _∙_}
 use mathlib.Core.Bool.{Bool, true, false, cond, _||_, _&&_, false≢true}
-use mathlib.Core.Logic.{_⊎_, ⊎-elim}
-use mathlib.Core.List.{List, [], _∷_, List·Memᴰ, List·Memᴰ·head, List·Memᴰ·tail, List·Memᴰ·cases-cons, List·Memᴰ·not-nil}
+use mathlib.Core.List.{List, [], _∷_}
 use Prim.Native.Nat.{ℕ, zero, suc, _+_, _*_, _≤_, _<_, suc-le-suc, zero-le}
 use native.Mathlib.Nat.{mul-le-mul, mul-one, one-mul, zero-mul, mul-zero, mul-pos}
 use native.Mathlib.Omega.{arith}
@@ -19,40 +18,9 @@ use Rattle.names.specs.Scene.{Scene, Sound}
 use Rattle.vectors.specs.declared.Ray.{Ray}
 use Rattle.limits.specs.Limits.{upTo, badNumbers}
 use Rattle.limits.specs.LimitsLaws.{transmission-within}
-use Rattle.triangle.specs.declared.Meet.the-variants.{Hit}
-use Rattle.scan.specs.Nearest.{meetAt}
-use Rattle.scan.specs.Hits.{Struck, hitsOf, placesOf}
-use Rattle.scan.specs.HitLaws.{hits-all, places-below}
+use Rattle.scan.specs.Hits.{hitsOf, placesOf}
+use Rattle.scan.specs.HitLaws.{places-below}
 use Rattle.scan.specs.Transmittance.{faintLimit, kindAt, transmissionAt, passOf, transmittanceOf}
-
--- ---- an opaque hit
-
-either-way : (b : Bool) (x : Float) → cond b x x ≡ x
-either-way true x = refl
-either-way false x = refl
-
-opaque-pass : (uses kinds : List ℕ) (numbers : List Float) (w : Float) (i : ℕ) (is : List ℕ) → List·Memᴰ i is → kindAt uses kinds i ≡ 0
-    → passOf uses kinds numbers w is ≡ zero32
-unfolding passOf
-opaque-pass uses kinds numbers w i [] m e = absurd (List·Memᴰ·not-nil m)
-opaque-pass uses kinds numbers w i (j ∷ is) m e =
-    ⊎-elim (λ (h : i ≡ j). let f : kindAt uses kinds j ≡ 0 = rw h at e in rw f refl)
-    (λ h. rw (opaque-pass uses kinds numbers _ i is h e, either-way, either-way) refl)
-    (List·Memᴰ·cases-cons m)
-
-place-of : {h : Struck} (hs : List Struck) → List·Memᴰ h hs → List·Memᴰ (h .place) (placesOf hs)
-place-of [] m = absurd (List·Memᴰ·not-nil m)
-place-of (g ∷ hs) m = ⊎-elim (λ e. List·Memᴰ·head (ap (λ (x : Struck). x .place) e)) (λ n. List·Memᴰ·tail (place-of hs n)) (List·Memᴰ·cases-cons m)
-
--- a hit of an opaque triangle, at whatever place of the order, lets no light through
-pub opaque-dark : (scene : Scene) (ray : Ray) (i : ℕ) (t u v : Float) → i < length (scene .uses) → meetAt scene ray i ≡ Hit t u v
-    → kindAt (scene .uses) (scene .kinds) i ≡ 0 → transmittanceOf scene ray ≡ zero32
-unfolding transmittanceOf
-opaque-dark scene ray i t u v h e k =
-    opaque-pass (scene .uses) (scene .kinds) (scene .numbers) one32 i _
-    (place-of _ (hits-all (scene .points) ray (length (scene .uses)) i t u v h e)) k
-
--- ---- from 0 to 1
 
 -- a number from 0 to 1: +a / p with a at most p, or −0
 data Unitary : Float → Type 0 where

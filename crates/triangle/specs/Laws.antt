@@ -15,6 +15,15 @@ pub absent-missed : (ray : Ray) (triangle : Triangle) → absentOf triangle ≡ 
 unfolding meetOf
 absent-missed ray triangle h = rw h
 
+-- and what the judgement misses is missed, absent or not
+pub judged-missed : (ray : Ray) (triangle : Triangle) → judgedOf (solvedOf ray triangle) (ray .shortest) (ray .longest) ≡ Miss → meetOf ray triangle ≡ Miss
+unfolding meetOf
+judged-missed ray triangle h = rw h (by (absentOf triangle))
+  where
+    by : (b : Bool) → cond b Miss Miss ≡ Miss
+    by true = refl
+    by false = refl
+
 -- the distance, u and v of a hit
 pub record HitPasses (ray : Ray) (triangle : Triangle) (t u v : Float) : Type 0 where
   pub present : absentOf triangle ≡ false

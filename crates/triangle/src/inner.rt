@@ -19,14 +19,21 @@ const FLAT: f32 = 1.0e-8;
 // the largest finite number: "A non-finite t is a miss"
 const LARGEST: f32 = 3.4028235e38;
 
-// Where the ray meets the triangle, between the ray's shortest and longest distance. An absent triangle is met nowhere.
+// Where the ray meets the triangle, between the ray's shortest and longest distance. An absent triangle is met nowhere; hits are rare, so absence is
+// asked at a hit alone, and a miss is a miss either way (`judged-missed`).
 pub fn test(ray: Ray, triangle: Triangle) -> Meet
     ensures { λ r. ⌜ r ≡ meetOf ray triangle ⌝ }
 {
-    if absent(triangle) {
-        return Meet::Miss;
+    let m = judged(solve(ray, triangle), ray.shortest, ray.longest);
+    match m {
+        Meet::Miss => m,
+        Meet::Hit(_, _, _) => {
+            if absent(triangle) {
+                return Meet::Miss;
+            }
+            m
+        }
     }
-    judged(solve(ray, triangle), ray.shortest, ray.longest)
 }
 
 // Whether the triangle is so thin that it counts nowhere.
