@@ -2,7 +2,6 @@
 -- fit its grid, and a good call is accepted.
 use mathlib.Core.Path.{_≡_, refl, sym, _∙_}
 use mathlib.Core.Bool.{false}
-use mathlib.Core.Logic.{_↔_}
 use mathlib.Core.List.{List, [], _∷_}
 use Prim.Native.Nat.{ℕ, _+_, _*_, _<_}
 use native.Mathlib.Omega.{arith}
@@ -10,7 +9,7 @@ use lib.ListN.{length}
 use lib.Ieee.{Float, ofBits, ofFields, add, div, mul, neg, le, lt, eq, ofInt, round, sum, units, odd, size, climb, span}
 use borrow.Author.Tests.{eqb-true, not-false}
 use Rattle.names.specs.Bits.{lit, half32, one32, two32, zero32}
-use Rattle.names.specs.Refusals.{firstOf, FirstIs, NoneHolds, first-given, first-found, none-given, none-found, kept, given}
+use Rattle.names.specs.Refusals.{firstOf, RefusedBy, refused-by, kept, given}
 use Rattle.lists.specs.Fold.{fold, tab, place}
 use Rattle.grid.specs.declared.Axes.{Axes}
 use Rattle.grid.specs.Grid.{voxels, AxesWithin}
@@ -43,23 +42,17 @@ coefficients-blurred-once axes volume scratch r₁ r₂ v₁ s₁ v₂ s₂ a b 
 
 -- ---- k is refused exactly when row k holds and none before it, and a call is accepted exactly when none holds
 
-module _ (axes : Axes) (list scratch : List Float) where
-  pub light-blur-refused-by : (k : ℕ) → 0 < k → (lightBlurRefusal axes list scratch ≡ k) ↔ FirstIs k (lightBlurRows axes list scratch)
-  unfolding lightBlurRefusal
-  light-blur-refused-by k h = (first-found k (lightBlurRows axes list scratch) h, first-given)
+pub light-blur-refused-by : (axes : Axes) (light scratch : List Float) (r : ℕ) (light' scratch' : List Float)
+    → LightBlurred axes light scratch r light' scratch' → RefusedBy (lightBlurRows axes light scratch) r
+unfolding lightBlurRefusal
+light-blur-refused-by axes light scratch r light' scratch' p =
+    refused-by (lightBlurRows axes light scratch) r (omega arith, (omega arith, (omega arith, tt))) (p .answer)
 
-  pub light-blur-passed-by : (lightBlurRefusal axes list scratch ≡ 0) ↔ NoneHolds (lightBlurRows axes list scratch)
-  unfolding lightBlurRefusal
-  light-blur-passed-by = (none-found (lightBlurRows axes list scratch) (omega arith, (omega arith, (omega arith, tt))), none-given)
-
-  pub coefficient-blur-refused-by : (k : ℕ) → 0 < k
-      → (coefficientBlurRefusal axes list scratch ≡ k) ↔ FirstIs k (coefficientBlurRows axes list scratch)
-  unfolding coefficientBlurRefusal
-  coefficient-blur-refused-by k h = (first-found k (coefficientBlurRows axes list scratch) h, first-given)
-
-  pub coefficient-blur-passed-by : (coefficientBlurRefusal axes list scratch ≡ 0) ↔ NoneHolds (coefficientBlurRows axes list scratch)
-  unfolding coefficientBlurRefusal
-  coefficient-blur-passed-by = (none-found (coefficientBlurRows axes list scratch) (omega arith, (omega arith, (omega arith, tt))), none-given)
+pub coefficient-blur-refused-by : (axes : Axes) (volume scratch : List Float) (r : ℕ) (volume' scratch' : List Float)
+    → CoefficientsBlurred axes volume scratch r volume' scratch' → RefusedBy (coefficientBlurRows axes volume scratch) r
+unfolding coefficientBlurRefusal
+coefficient-blur-refused-by axes volume scratch r volume' scratch' p =
+    refused-by (coefficientBlurRows axes volume scratch) r (omega arith, (omega arith, (omega arith, tt))) (p .answer)
 
 -- ---- what an accepted call has
 

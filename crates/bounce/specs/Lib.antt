@@ -1,5 +1,5 @@
--- The rays of a voxel and of a surface, a normal's frame and hemisphere directions, and the light that a surface gives back.
-pub mod Rays
+-- The biases of a bake, a normal's frame and hemisphere directions, and the light that a surface gives back.
+pub mod Biases
 pub mod Hemisphere
 pub mod Light
 pub mod LightLaws

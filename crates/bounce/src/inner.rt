@@ -1,18 +1,16 @@
-// Biases, rays, the frame of a normal with its hemisphere directions, and the light at a surface.
+// Biases, the frame of a normal with its hemisphere directions, and the light at a surface.
 ghost use mathlib.Core.Path.{_≡_};
 ghost use Prim.Native.Nat.{_<_};
-ghost use Rattle.names.specs.Bits.{inf32};
-ghost use Rattle.bounce.specs.Rays.{biasesOf, rayFrom, pointAt};
+ghost use Rattle.bounce.specs.Biases.{biasesOf};
 ghost use Rattle.bounce.specs.Hemisphere.{upOf, frameOf, hemisphere, localAt, turnedBy, skyDirection};
 ghost use Rattle.bounce.specs.Light.{faceNormal, facingOf, blackOf, slantOf, sunlightOf, skylightOf, reflectedOf};
 use super::Biases;
 use super::Frame;
 use harmonics::Coefficients;
-use vectors::Ray;
 use vectors::Triangle;
 use vectors::Vec3;
 
-// ---- rays
+// ---- biases
 
 pub fn biases_of(diagonal: f32, smallest: f32) -> Biases
     ensures { λ r. ⌜ r ≡ biasesOf diagonal smallest ⌝ }
@@ -26,33 +24,6 @@ pub fn biases_of(diagonal: f32, smallest: f32) -> Biases
         step: hit * 0.5,
         shortest,
     }
-}
-
-// The infinity above every number.
-fn infinity() -> f32
-    ensures { λ r. ⌜ r ≡ inf32 ⌝ }
-{
-    f32::from_bits(0x7f800000)
-}
-
-// The ray along a direction that starts `ahead` of a point, from the shortest distance to infinity.
-pub fn ray_from(point: Vec3, direction: Vec3, ahead: f32, shortest: f32) -> Ray
-    ensures { λ r. ⌜ r ≡ rayFrom point direction ahead shortest ⌝ }
-{
-    let origin = point_at(point, direction, ahead);
-    Ray {
-        origin,
-        direction,
-        shortest,
-        longest: infinity(),
-    }
-}
-
-// The point at a distance along a direction.
-pub fn point_at(origin: Vec3, direction: Vec3, distance: f32) -> Vec3
-    ensures { λ r. ⌜ r ≡ pointAt origin direction distance ⌝ }
-{
-    vectors::add(origin, vectors::scale(direction, distance))
 }
 
 // ---- the frame of a normal

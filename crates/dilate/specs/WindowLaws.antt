@@ -1,11 +1,11 @@
 -- The window finds an occupied voxel exactly where one lies within 2 on every axis, so the mask that it fills is the active mask.
-use mathlib.Core.Path.{_≡_, refl, sym, ap, ap₂}
+use mathlib.Core.Path.{_≡_, refl, sym, ap}
 use mathlib.Core.Bool.{Bool, true, false, cond}
-use mathlib.Core.List.{List, _∷_}
-use Prim.Native.Nat.{ℕ, zero, suc, _+_, _≤_, _<_}
+use mathlib.Core.List.{List}
+use Prim.Native.Nat.{ℕ, _+_, _≤_, _<_}
 use native.Mathlib.Omega.{arith}
 use borrow.Author.Tests.{eqb-true, eq-eqb}
-use Rattle.lists.specs.Fold.{tab}
+use Rattle.lists.specs.Fold.{tab, tab-same}
 use Rattle.lists.specs.Any.{any-in, any-out}
 use Rattle.grid.specs.declared.Axes.{Axes}
 use Rattle.grid.specs.Grid.{voxels, xOf, yOf, zOf}
@@ -18,12 +18,6 @@ alike : (a b : Bool) → (a ≡ true → b ≡ true) → (b ≡ true → a ≡ t
 alike true b f g = sym (f refl)
 alike false true f g = g refl
 alike false false f g = refl
-
-tab-same : (f g : ℕ → ℕ) (k i : ℕ) → ((j : ℕ) → i ≤ j → j < i + k → f j ≡ g j) → tab f k i ≡ tab g k i
-unfolding tab
-tab-same f g zero i e = refl
-tab-same f g (suc k) i e =
-    ap₂ (λ (x : ℕ) (l : List ℕ). x ∷ l) (e i (omega arith) (omega arith)) (tab-same f g k (i + 1) (λ j p q. e j (omega arith) (omega arith)))
 
 module _ (axes : Axes) (occupied : List ℕ) where
   window-near : (x y z : ℕ) → x < axes .width → y < axes .height → z < axes .depth

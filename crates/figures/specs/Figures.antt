@@ -20,7 +20,7 @@ use Rattle.vectors.specs.declared.Ray.{Ray}
 use Rattle.vectors.specs.declared.Triangle.{Triangle}
 use Rattle.grid.specs.declared.Axes.{Axes}
 use Rattle.grid.specs.declared.Corners.{Corners}
-use Rattle.grid.specs.Grid.{edgesOf}
+use Rattle.grid.specs.Grid.{edgesOf, smallestEdgeOf}
 use Rattle.limits.specs.Limits.{within, upTo, outsideV, badAxes, badCorners, badEdges, wrongShare, wrongScene, tooMany, badPoints, badTriangle, badKinds, badFrom, badUses, badMaterials, badRay, badLights}
 use Rattle.limits.specs.Some.{some}
 use Rattle.triangle.specs.Meet.{absentOf, solvedOf, judgedOf, meetOf}
@@ -30,7 +30,7 @@ use Rattle.scan.specs.Transmittance.{passOf, transmittanceOf}
 use Rattle.rays.specs.Rays.{meetRefusal, testValues, meetValues, wrongScratch, transmittanceRefusal}
 use Rattle.means.specs.Box.{lightBlurOf, squareAt, meanAt, meanIn, around, along}
 use Rattle.blurs.specs.Blurs.{wrongBlurLists, lightBlurRefusal}
-use Rattle.samples.specs.Samples.{smallestEdgeOf, targetOf, countOf, sampleCount, sideFrom, sideOf, shareOf, pointOf, cellOf, cellOn, indexWithin, sampleCell}
+use Rattle.samples.specs.Samples.{targetOf, countOf, sampleCount, sideFrom, sideOf, shareOf, pointOf, cellOf, cellOn, indexWithin, sampleCell}
 use Rattle.occupy.specs.Occupied.{sampledIn, touches, occupiedIn, occupiedEntry, occupiedOf}
 use Rattle.dilate.specs.Active.{activeIn, activeEntry, activeOf}
 use Rattle.marks.specs.Marks.{markedCount}
@@ -127,52 +127,54 @@ bakeAnswers allowances =
     let r = run (bakeOf three) allowances begun in
     r .refusals ++ (r .rays ++ (r .stage .progress ∷ []))
 
--- those that are computed, and those that follow from the laws of a spread bake
-unfoldable pub computed : List (List ℕ)
+-- ---- the figures
+
+-- an answer, computed from the definitions, and what document 01 gives for it
+pub record Figure : Type 0 where
+  pub answer : List ℕ
+  pub given : List ℕ
+
+abbrev figure : List ℕ → List ℕ → Figure
+figure a g = record { answer = a; given = g }
+
+-- those that computation alone decides, in document 01's order
+unfoldable pub computed : List Figure
 computed =
-    meetAnswer (downFrom quarter32 quarter32 one32)
-    ∷ meetAnswer (downFrom half32 half32 one32)
-    ∷ meetAnswer (downFrom half32 (lit 0x3f400000) one32)
-    ∷ meetAnswer (downFrom quarter32 quarter32 (lit 0xbf800000))
-    ∷ passing 0
-    ∷ passing 13
-    ∷ passing 14
-    ∷ sampled
-    ∷ masked
-    ∷ blurAnswer (axesOf 1 1 1) (half32 ∷ []) (zero32 ∷ [])
-    ∷ blurAnswer (axesOf 2 1 1) (one32 ∷ zero32 ∷ []) (zero32 ∷ zero32 ∷ [])
-    ∷ looked (lit 0xbe800000)
-    ∷ looked half32
-    ∷ looked (lit 0x3fe00000)
+    figure (meetAnswer (downFrom quarter32 quarter32 one32)) (0 ∷ 1 ∷ 0 ∷ 0x3f800000 ∷ 0x3e800000 ∷ 0x3e800000 ∷ [])
+    ∷ figure (meetAnswer (downFrom half32 half32 one32)) (0 ∷ 1 ∷ 0 ∷ 0x3f800000 ∷ 0x3f000000 ∷ 0x3f000000 ∷ [])
+    ∷ figure (meetAnswer (downFrom half32 (lit 0x3f400000) one32)) (0 ∷ 0 ∷ 0 ∷ 0 ∷ 0 ∷ 0 ∷ [])
+    ∷ figure (meetAnswer (downFrom quarter32 quarter32 (lit 0xbf800000))) (0 ∷ 0 ∷ 0 ∷ 0 ∷ 0 ∷ 0 ∷ [])
+    ∷ figure (passing 0) (0 ∷ 0x3f800000 ∷ [])
+    ∷ figure (passing 13) (0 ∷ 0x39000000 ∷ [])
+    ∷ figure (passing 14) (0 ∷ 0 ∷ [])
+    ∷ figure sampled (1 ∷ 1 ∷ 0x3f000000 ∷ 0x3f000000 ∷ 0 ∷ [])
+    ∷ figure masked (0 ∷ 1 ∷ 3 ∷ 1 ∷ 0 ∷ 0 ∷ 0 ∷ 0 ∷ 0 ∷ 1 ∷ 1 ∷ 1 ∷ 0 ∷ 0 ∷ 0 ∷ [])
+    ∷ figure (blurAnswer (axesOf 1 1 1) (half32 ∷ []) (zero32 ∷ [])) (0 ∷ 0x3e800000 ∷ [])
+    ∷ figure (blurAnswer (axesOf 2 1 1) (one32 ∷ zero32 ∷ []) (zero32 ∷ zero32 ∷ [])) (0 ∷ 0x3e800000 ∷ 0x3e800000 ∷ [])
+    ∷ figure (looked (lit 0xbe800000)) (0 ∷ 0x3f400000 ∷ [])
+    ∷ figure (looked half32) (0 ∷ 0x3f000000 ∷ [])
+    ∷ figure (looked (lit 0x3fe00000)) (0 ∷ 0x3f800000 ∷ [])
     ∷ []
 
-unfoldable pub bakes : List (List ℕ)
-bakes = bakeAnswers (384 ∷ 384 ∷ 384 ∷ []) ∷ bakeAnswers (448 ∷ 448 ∷ []) ∷ bakeAnswers (383 ∷ []) ∷ []
-
-unfoldable pub answers : List (List ℕ)
-answers = computed ++ bakes
-
-computed-figures : computed
-    ≡ (0 ∷ 1 ∷ 0 ∷ 0x3f800000 ∷ 0x3e800000 ∷ 0x3e800000 ∷ [])
-    ∷ (0 ∷ 1 ∷ 0 ∷ 0x3f800000 ∷ 0x3f000000 ∷ 0x3f000000 ∷ [])
-    ∷ (0 ∷ 0 ∷ 0 ∷ 0 ∷ 0 ∷ 0 ∷ [])
-    ∷ (0 ∷ 0 ∷ 0 ∷ 0 ∷ 0 ∷ 0 ∷ [])
-    ∷ (0 ∷ 0x3f800000 ∷ [])
-    ∷ (0 ∷ 0x39000000 ∷ [])
-    ∷ (0 ∷ 0 ∷ [])
-    ∷ (1 ∷ 1 ∷ 0x3f000000 ∷ 0x3f000000 ∷ 0 ∷ [])
-    ∷ (0 ∷ 1 ∷ 3 ∷ 1 ∷ 0 ∷ 0 ∷ 0 ∷ 0 ∷ 0 ∷ 1 ∷ 1 ∷ 1 ∷ 0 ∷ 0 ∷ 0 ∷ [])
-    ∷ (0 ∷ 0x3e800000 ∷ [])
-    ∷ (0 ∷ 0x3e800000 ∷ 0x3e800000 ∷ [])
-    ∷ (0 ∷ 0x3f400000 ∷ [])
-    ∷ (0 ∷ 0x3f000000 ∷ [])
-    ∷ (0 ∷ 0x3f800000 ∷ [])
+-- those that follow from the laws of a spread bake
+unfoldable pub bakes : List Figure
+bakes =
+    figure (bakeAnswers (384 ∷ 384 ∷ 384 ∷ [])) (0 ∷ 0 ∷ 0 ∷ 64 ∷ 64 ∷ 64 ∷ 3 ∷ [])
+    ∷ figure (bakeAnswers (448 ∷ 448 ∷ [])) (0 ∷ 0 ∷ 128 ∷ 64 ∷ 3 ∷ [])
+    ∷ figure (bakeAnswers (383 ∷ [])) (10 ∷ 0 ∷ 0 ∷ [])
     ∷ []
+
+abbrev answers : List Figure → List (List ℕ)
+answers l = map (λ (f : Figure). f .answer) l
+
+abbrev givens : List Figure → List (List ℕ)
+givens l = map (λ (f : Figure). f .given) l
+
+computed-figures : answers computed ≡ givens computed
 unfolding computed meetAnswer passing sampled masked blurAnswer looked triangleQ pointsQ downFrom stacked sheets upToCorner firstOf unlessRefused fold tab any magnitudeOf largerOf smallerOf toward rootOf addV subV scaleV dotV crossV lengthV edgesOf within upTo outsideV badAxes badCorners badEdges wrongShare wrongScene tooMany badPoints badTriangle badKinds badFrom badUses badMaterials badRay badLights some absentOf solvedOf judgedOf meetOf triangleAt before insertOf withMeet hitsOf passOf transmittanceOf meetRefusal testValues meetValues wrongScratch transmittanceRefusal lightBlurOf squareAt meanAt meanIn around along wrongBlurLists lightBlurRefusal smallestEdgeOf targetOf countOf sideFrom sideOf shareOf pointOf cellOn indexWithin cellOf sampleCell sampledIn touches occupiedIn occupiedEntry occupiedOf activeIn activeEntry activeOf markedCount wrongMasks masksRefusal clamped clampedCell betweenOf cellsFrom cellsOf blendOf blendedOf badLightCells lightAtOf Ieee.ofBits Ieee.ofFields Ieee.odd Ieee.toBits Ieee.neg Ieee.le Ieee.lt Ieee.eq Ieee.isNan Ieee.add Ieee.sub Ieee.mul Ieee.div Ieee.ofInt Ieee.toUnsigned Ieee.round Ieee.sum Ieee.units Ieee.size Ieee.span Ieee.climb
 computed-figures = refl
 
-bake-figures : bakes
-    ≡ (0 ∷ 0 ∷ 0 ∷ 64 ∷ 64 ∷ 64 ∷ 3 ∷ []) ∷ (0 ∷ 0 ∷ 128 ∷ 64 ∷ 3 ∷ []) ∷ (10 ∷ 0 ∷ 0 ∷ []) ∷ []
+bake-figures : answers bakes ≡ givens bakes
 unfolding bakes bakeAnswers
 bake-figures =
     rw (
@@ -188,25 +190,7 @@ bake-figures =
     )
     refl
 
--- the figures, in document 01's order
-pub figures : answers
-    ≡ (0 ∷ 1 ∷ 0 ∷ 0x3f800000 ∷ 0x3e800000 ∷ 0x3e800000 ∷ [])
-    ∷ (0 ∷ 1 ∷ 0 ∷ 0x3f800000 ∷ 0x3f000000 ∷ 0x3f000000 ∷ [])
-    ∷ (0 ∷ 0 ∷ 0 ∷ 0 ∷ 0 ∷ 0 ∷ [])
-    ∷ (0 ∷ 0 ∷ 0 ∷ 0 ∷ 0 ∷ 0 ∷ [])
-    ∷ (0 ∷ 0x3f800000 ∷ [])
-    ∷ (0 ∷ 0x39000000 ∷ [])
-    ∷ (0 ∷ 0 ∷ [])
-    ∷ (1 ∷ 1 ∷ 0x3f000000 ∷ 0x3f000000 ∷ 0 ∷ [])
-    ∷ (0 ∷ 1 ∷ 3 ∷ 1 ∷ 0 ∷ 0 ∷ 0 ∷ 0 ∷ 0 ∷ 1 ∷ 1 ∷ 1 ∷ 0 ∷ 0 ∷ 0 ∷ [])
-    ∷ (0 ∷ 0x3e800000 ∷ [])
-    ∷ (0 ∷ 0x3e800000 ∷ 0x3e800000 ∷ [])
-    ∷ (0 ∷ 0x3f400000 ∷ [])
-    ∷ (0 ∷ 0x3f000000 ∷ [])
-    ∷ (0 ∷ 0x3f800000 ∷ [])
-    ∷ (0 ∷ 0 ∷ 0 ∷ 64 ∷ 64 ∷ 64 ∷ 3 ∷ [])
-    ∷ (0 ∷ 0 ∷ 128 ∷ 64 ∷ 3 ∷ [])
-    ∷ (10 ∷ 0 ∷ 0 ∷ [])
-    ∷ []
-unfolding answers
+-- every answer is the one given
+pub figures : answers (computed ++ bakes) ≡ givens (computed ++ bakes)
+unfolding computed bakes
 figures = ap₂ (λ (a b : List (List ℕ)). a ++ b) computed-figures bake-figures

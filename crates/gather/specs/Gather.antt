@@ -27,7 +27,8 @@ use Rattle.scan.specs.declared.Nearest.{Nearest}
 use Rattle.scan.specs.declared.Nearest.the-variants.{Nothing, At}
 use Rattle.harmonics.specs.declared.Coefficients.{Coefficients}
 use Rattle.harmonics.specs.Harmonics.{coefficients, zeroV, addedTo, irradianceOf, raisedOf, flooredOf}
-use Rattle.bounce.specs.Rays.{biasesOf, rayFrom}
+use Rattle.vectors.specs.Rays.{rayFrom}
+use Rattle.bounce.specs.Biases.{biasesOf}
 use Rattle.surface.specs.declared.Setting.{Setting}
 use Rattle.surface.specs.declared.Traced.{Traced}
 use Rattle.surface.specs.Surface.{surfaceOf, bouncedBy}

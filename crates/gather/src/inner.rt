@@ -225,7 +225,7 @@ fn gather_along(
 pub fn primary_ray(setting: Setting, centre: Vec3, direction: Vec3) -> Ray
     ensures { λ r. ⌜ r ≡ primaryRay setting centre direction ⌝ }
 {
-    bounce::inner::ray_from(
+    vectors::inner::ray_from(
         centre,
         direction,
         setting.biases.primary,

@@ -21,7 +21,7 @@ use Rattle.limits.specs.Some.{some}
 use Rattle.limits.specs.declared.Light.{Light}
 use Rattle.limits.specs.declared.Ambient.{Ambient}
 
--- ---- one number, and any-of-three
+-- ---- one number, and three
 
 -- finite, and of magnitude at most b
 unfoldable pub within : Float → Float → Bool

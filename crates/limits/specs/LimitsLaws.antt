@@ -12,6 +12,7 @@ use borrow.Author.Tests.{le-ltb, lt-leb, eq-eqb, ne-eqb, ltb-false, leb-false, e
 use lib.ListN.{length, getD, drop, drop-of-length-le}
 use lib.Seq.{drop-cons}
 use lib.Ieee as Ieee
+use lib.Ieee.Scale.{finite}
 use lib.Ieee.{Float, nan, inf, fin, isNan}
 use Rattle.names.specs.Bits.{one32}
 use Rattle.names.specs.Numbers.{axisLimit, triangleLimit, materialLimit, pointLimit, edgeLimit, colourLimit, directionLimit, thinLimit, lightLimit, coefficientLimit}
@@ -34,7 +35,7 @@ or-out false b e = (refl, e)
 or-in : (a b : Bool) → (a ≡ false) × (b ≡ false) → a || b ≡ false
 or-in a b h = rw (h .0) (h .1)
 
--- a test of two parts, and of any-of-three
+-- a test of two parts, and of three
 pub either : (a b : Bool) → (a || b ≡ false) ↔ ((a ≡ false) × (b ≡ false))
 either a b = (or-out a b, or-in a b)
 
@@ -56,15 +57,9 @@ and-in a b p q = rw p q
 
 -- ---- one number
 
--- a number: neither an infinity nor NaN
-unfoldable pub finite : Float → Bool
-finite nan = false
-finite (inf s) = false
-finite (fin s m e) = true
-
 -- what lies within a finite bound is finite
 pub limit-finite : (b x : Float) → finite b ≡ true → within b x ≡ true → finite x ≡ true
-unfolding finite within Ieee.neg Ieee.le Ieee.lt Ieee.eq
+unfolding within Ieee.neg Ieee.le Ieee.lt Ieee.eq
 limit-finite nan x h e = absurd (false≢true h)
 limit-finite (inf t) x h e = absurd (false≢true h)
 limit-finite (fin t n d) nan h e = absurd (false≢true e)
@@ -86,7 +81,7 @@ differs (inf false) = refl
 differs (fin true m e) = rw (eq-eqb (m * Ieee.up e * Ieee.down e) (m * Ieee.up e * Ieee.down e) refl)
 differs (fin false m e) = rw (eq-eqb (m * Ieee.up e * Ieee.down e) (m * Ieee.up e * Ieee.down e) refl)
 
--- ---- any-of-three numbers
+-- ---- three numbers
 
 pub vector-row : (b : Float) (v : Vec3)
     → (outsideV b v ≡ false) ↔ ((within b (v .x) ≡ true) × (within b (v .y) ≡ true) × (within b (v .z) ≡ true))

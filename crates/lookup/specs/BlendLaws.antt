@@ -12,13 +12,13 @@ use borrow.Author.Tests.{leb-true, leb-false, eq-eqb, lt-ltb, le-ltb}
 use lib.Dec.{T, eqb, ltb, leb, eqb→eq, ltb→lt, leb→le}
 use lib.Ieee as Ieee
 use lib.ListN.{getD}
+use lib.Ieee.Scale.{finite}
 use lib.Ieee.{Float, nan, inf, fin, up, down, binary32, fits, round, eq, toUnsigned}
 use lib.Ieee.Fits.{down-pos, up-pos, round-fits, and-l, and-r}
 use lib.Ieee.Exact.{HasValue, round-exact}
 use lib.Ieee.Scale.{round-same}
 use Rattle.names.specs.Bits.{zero32, one32}
 use Rattle.names.specs.Numbers.{axisLimit}
-use Rattle.limits.specs.LimitsLaws.{finite}
 use Rattle.lists.specs.Fold.{tab, getD-tab}
 use Rattle.floats.specs.Whole.{floorOf, toward}
 use Rattle.vectors.specs.declared.Vec3.{Vec3}
@@ -148,7 +148,7 @@ pub data Kept : Float → Float → Type 0 where
 
 -- they are equal as numbers
 pub kept-equal : {a r : Float} → Plain a → Kept a r → eq r a ≡ true
-unfolding finite eq
+unfolding eq
 kept-equal {a = nan} p same = absurd (false≢true (p .number))
 kept-equal {a = inf s} p same = absurd (false≢true (p .number))
 kept-equal {a = fin true m e} p same = rw (eq-eqb (m * up e * down e) (m * up e * down e) refl)
@@ -159,7 +159,7 @@ kept-equal p (zeros false true) = refl
 kept-equal p (zeros false false) = refl
 
 kept-plain : {a r : Float} → Plain a → Kept a r → Plain r
-unfolding finite fits
+unfolding fits
 kept-plain p same = p
 kept-plain p (zeros s t) = record { fit = tt; number = refl }
 
@@ -169,7 +169,7 @@ kept-trans (zeros s t) same = zeros s t
 kept-trans (zeros s t) (zeros v u) = zeros s u
 
 by-one : (a : Float) → Plain a → Ieee.mul binary32 a one32 ≡ a
-unfolding finite Ieee.mul Ieee.ofBits
+unfolding Ieee.mul Ieee.ofBits
 by-one nan p = absurd (false≢true (p .number))
 by-one (inf s) p = absurd (false≢true (p .number))
 by-one (fin true zero e) p = rw (zero-exponent true e (p .fit))
@@ -178,7 +178,7 @@ by-one (fin true (suc m) e) p = own-as true m e _ _ (p .fit) (mul-pos (down-pos 
 by-one (fin false (suc m) e) p = own-as false m e _ _ (p .fit) (mul-pos (down-pos e) (zero-lt-suc 0)) (ones (suc m * up e) (down e))
 
 by-zero : (b : Float) → Plain b → (t : Bool) × (Ieee.mul binary32 b zero32 ≡ fin t 0 (pos 0))
-unfolding finite Ieee.mul Ieee.ofBits
+unfolding Ieee.mul Ieee.ofBits
 by-zero nan p = absurd (false≢true (p .number))
 by-zero (inf s) p = absurd (false≢true (p .number))
 by-zero (fin true n d) p = (true, round-same binary32 true _ _ 0 1 (mul-pos (down-pos d) (zero-lt-suc 0)) (zero-lt-suc 0) (noughts (n * up d) (down d * 1)))
@@ -199,7 +199,7 @@ sum-nought false true a c d p = rw (zero-mul d, le-ltb a 0 (omega arith), sub-ze
 sum-nought false false a c d p = rw (zero-mul d, add-zero a)
 
 plus-zero : (a : Float) (t : Bool) → Plain a → Kept a (Ieee.add binary32 a (fin t 0 (pos 0)))
-unfolding finite Ieee.add
+unfolding Ieee.add
 plus-zero nan t p = absurd (false≢true (p .number))
 plus-zero (inf s) t p = absurd (false≢true (p .number))
 plus-zero (fin s zero e) t p = rw (zero-exponent s e (p .fit)) (sums s t)

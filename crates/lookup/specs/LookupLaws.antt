@@ -4,41 +4,50 @@ use mathlib.Core.Path.{_≡_, refl, sym, ap, ap₂, _∙_}
 use mathlib.Core.Bool.{Bool, true, false, _||_}
 use mathlib.Core.Logic.{_↔_}
 use mathlib.Core.List.{List, [], _∷_, List·Memᴰ, List·Memᴰ·head, List·Memᴰ·tail}
-use Prim.Native.Nat.{ℕ, zero, suc, _+_, _*_, _^_, _≤_, _<_}
+use Prim.Native.Nat.{ℕ, _+_, _*_, _^_, _≤_, _<_}
 use native.Mathlib.Omega.{arith}
 use borrow.Author.Tests.{eqb-true, leb-false, not-false}
 use lib.ListN.{length, getD, length-take, length-drop}
 use lib.Seq.{getD-take, getD-drop}
 use lib.Ieee.{Float, nan}
 use Rattle.names.specs.Numbers.{lightLimit}
-use Rattle.lists.specs.Fold.{tab}
+use Rattle.lists.specs.Fold.{tab-same}
 use Rattle.limits.specs.Some.{some}
 use Rattle.limits.specs.Limits.{outside, badCoefficients}
 use Rattle.lookup.specs.declared.Cells.{Cells}
+use Rattle.lookup.specs.declared.LightAt.{LightAt}
+use Rattle.lookup.specs.declared.CoefficientsAt.{CoefficientsAt}
 use Rattle.lookup.specs.Place.{cellsOf, cellsRead, blendedOf}
-use Rattle.names.specs.Refusals.{row, firstOf, FirstIs, NoneHolds, first-given, first-found, none-given, none-found, kept, given}
+use Rattle.names.specs.Refusals.{Numbered, RefusedBy, refused-by, kept, given}
+use Rattle.names.specs.Passed.{passed}
 use Rattle.vectors.specs.declared.Vec3.{Vec3}
 use Rattle.grid.specs.declared.Axes.{Axes}
 use Rattle.grid.specs.declared.Corners.{Corners}
 use Rattle.grid.specs.Grid.{voxels, AxesWithin}
 use Rattle.grid.specs.GridLaws.{voxels-most}
 use Rattle.limits.specs.LimitsLaws.{axes-row, either}
-use Rattle.lookup.specs.Lookup.{badLightCells, lightRows, lightRefusal, lightAtOf, badVolumeCells, coefficientRows, coefficientRefusal, numberBlend, coefficientBlend, coefficientsAtOf, partRows, partRefusal, partOf, sixteen}
+use Rattle.lookup.specs.Lookup.{badLightCells, lightRows, lightAtOf, badVolumeCells, coefficientRows, numberBlend, coefficientBlend, coefficientsAtOf, partRows, partRefusal, partOf, sixteen, LightLookedUp, CoefficientsLookedUp, PartJudged}
 
 -- ---- the refusals
 
-module _ (a : Axes) (c : Corners) (l : List Float) (p : Vec3) where
-  pub light-refused-by : (k : ℕ) → 0 < k → (lightRefusal a c l p ≡ k) ↔ FirstIs k (lightRows a c l p)
-  light-refused-by k h = (first-found k (lightRows a c l p) h, first-given)
+pub light-refused-by : (a : Axes) (c : Corners) (light : List Float) (p : Vec3) (r : LightAt)
+    → LightLookedUp a c light p r → RefusedBy (lightRows a c light p) (r .refusal)
+unfolding lightAtOf
+light-refused-by a c light p r h =
+    refused-by (lightRows a c light p) (r .refusal) (omega arith, (omega arith, (omega arith, (omega arith, (omega arith, tt))))) (ap (λ (x : LightAt). x .refusal) (h .answer))
 
-  pub light-accepted : (lightRefusal a c l p ≡ 0) ↔ NoneHolds (lightRows a c l p)
-  light-accepted = (none-found (lightRows a c l p) (omega arith, (omega arith, (omega arith, (omega arith, (omega arith, tt))))), none-given)
+pub coefficients-refused-by : (a : Axes) (c : Corners) (volume : List Float) (p : Vec3) (r : CoefficientsAt)
+    → CoefficientsLookedUp a c volume p r → RefusedBy (coefficientRows a c volume p) (r .refusal)
+unfolding coefficientsAtOf
+coefficients-refused-by a c volume p r h =
+    refused-by (coefficientRows a c volume p) (r .refusal) (omega arith, (omega arith, (omega arith, (omega arith, (omega arith, tt))))) (ap (λ (x : CoefficientsAt). x .refusal) (h .answer))
 
-  pub coefficients-refused-by : (k : ℕ) → 0 < k → (coefficientRefusal a c l p ≡ k) ↔ FirstIs k (coefficientRows a c l p)
-  coefficients-refused-by k h = (first-found k (coefficientRows a c l p) h, first-given)
+numbered : (a : Axes) (volume scratch : List Float) (index : ℕ) (second : Bool) → Numbered (partRows a volume scratch index second)
+numbered a volume scratch index second = (omega arith, (omega arith, (omega arith, tt)))
 
-  pub coefficients-accepted : (coefficientRefusal a c l p ≡ 0) ↔ NoneHolds (coefficientRows a c l p)
-  coefficients-accepted = (none-found (coefficientRows a c l p) (omega arith, (omega arith, (omega arith, (omega arith, (omega arith, tt))))), none-given)
+pub part-refused-by : (a : Axes) (volume scratch : List Float) (index : ℕ) (second : Bool) (r : ℕ)
+    → PartJudged a volume scratch index second r → RefusedBy (partRows a volume scratch index second) r
+part-refused-by a volume scratch index second r h = refused-by (partRows a volume scratch index second) r (numbered a volume scratch index second) (h .answer)
 
 -- ---- no number but those of the eight cells changes an answer
 
@@ -48,11 +57,6 @@ in-sixteen l m i k h e = sym (at l) ∙ ap (λ (t : List Float). getD t k nan) e
   where
     at : (t : List Float) → getD (sixteen t i) k nan ≡ getD t (i * 16 + k) nan
     at t = rw (getD-take, getD-drop)
-
-tab-same : {A : Type 0} (f g : ℕ → A) (k i : ℕ) → ((j : ℕ) → i ≤ j → j < i + k → f j ≡ g j) → tab f k i ≡ tab g k i
-unfolding tab
-tab-same f g zero i e = refl
-tab-same f g (suc k) i e = ap₂ (λ x l. x ∷ l) (e i (omega arith) (omega arith)) (tab-same f g k (i + 1) (λ j p q. e j (omega arith) (omega arith)))
 
 some-same : (f g : ℕ → Bool) (l : List ℕ) → ((i : ℕ) → List·Memᴰ i l → f i ≡ g i) → some f l ≡ some g l
 unfolding some
@@ -103,10 +107,6 @@ coefficients-read-only a c l m p e r =
 
 -- ---- one voxel's part
 
-module _ (a : Axes) (v s : List Float) (i : ℕ) (b : Bool) where
-  pub part-refused-by : (k : ℕ) → 0 < k → (partRefusal a v s i b ≡ k) ↔ FirstIs k (partRows a v s i b)
-  part-refused-by k h = (first-found k (partRows a v s i b) h, first-given)
-
 -- the choice of list changes no refusal
 pub part-either : (a : Axes) (v s : List Float) (i : ℕ) (b d : Bool) → partRefusal a v s i b ≡ partRefusal a v s i d
 part-either a v s i b d = refl
@@ -118,22 +118,15 @@ pub record Granted (a : Axes) (v s : List Float) (i : ℕ) : Type 0 where
   pub scratch : length s ≡ voxels a * 16
   pub within : i < voxels a
 
-passed : (x y z : Bool) → firstOf (row 1 x ∷ row 3 y ∷ row 11 z ∷ []) ≡ 0 → (x ≡ false) × (y ≡ false) × (z ≡ false)
-unfolding firstOf
-passed true y z e = absurd (omega arith)
-passed false true z e = absurd (omega arith)
-passed false false true e = absurd (omega arith)
-passed false false false e = (refl, refl, refl)
-
 pub granted : (a : Axes) (v s : List Float) (i : ℕ) (b : Bool) → partRefusal a v s i b ≡ 0 → Granted a v s i
 granted a v s i b e =
-    let p = passed _ _ _ e in
-    let q = either _ _ .0 (p .1) in
+    let p = passed (partRows a v s i b) (numbered a v s i b) e in
+    let q = either _ _ .0 (p .1 .0) in
     record {
       axes = axes-row a .0 (p .0);
       volume = eqb-true _ _ (not-false _ (q .0));
       scratch = eqb-true _ _ (not-false _ (q .1));
-      within = leb-false _ _ (p .2);
+      within = leb-false _ _ (p .1 .1 .0);
     }
 
 -- sixteen numbers, all within either list

@@ -1,8 +1,7 @@
 -- The contract leaves one result, a call is refused by row k exactly when that row holds and none before it, an accepted call has masks that fit its
 -- grid, what its entries mean, and a good call is accepted.
-use mathlib.Core.Path.{_≡_, refl, sym, _∙_}
+use mathlib.Core.Path.{_≡_, refl, sym, ap, _∙_}
 use mathlib.Core.Bool.{true}
-use mathlib.Core.Logic.{_↔_}
 use mathlib.Core.List.{List, [], _∷_}
 use Prim.Native.Nat.{ℕ, _%_, _<_}
 use native.Mathlib.Omega.{arith}
@@ -11,7 +10,7 @@ use lib.Ieee as Ieee
 use lib.Ieee.{Float}
 use borrow.Author.Tests.{eqb-true, not-false}
 use Rattle.names.specs.Bits.{zero32, one32}
-use Rattle.names.specs.Refusals.{firstOf, FirstIs, NoneHolds, first-given, first-found, none-given, none-found, kept, given}
+use Rattle.names.specs.Refusals.{firstOf, Numbered, RefusedBy, refused-by, kept, given}
 use Rattle.lists.specs.Fold.{tab}
 use Rattle.lists.specs.Any.{any}
 use Rattle.floats.specs.Root.{rootOf}
@@ -55,16 +54,15 @@ masks-filled-once axes corners points occupied active r₁ r₂ o₁ a₁ o₂ a
 
 -- ---- k is refused exactly when row k holds and none before it, and a call is accepted exactly when none holds
 
-module _ (axes : Axes) (corners : Corners) (points : List Float) (occupied active : List ℕ) where
-  pub masks-refused-by : (k : ℕ) → 0 < k
-      → (masksRefusal axes corners points occupied active ≡ k) ↔ FirstIs k (masksRows axes corners points occupied active)
-  unfolding masksRefusal
-  masks-refused-by k h = (first-found k (masksRows axes corners points occupied active) h, first-given)
+numbered : (axes : Axes) (corners : Corners) (points : List Float) (occupied active : List ℕ) → Numbered (masksRows axes corners points occupied active)
+numbered axes corners points occupied active = (omega arith, (omega arith, (omega arith, (omega arith, (omega arith, tt)))))
 
-  pub masks-passed-by : (masksRefusal axes corners points occupied active ≡ 0) ↔ NoneHolds (masksRows axes corners points occupied active)
-  unfolding masksRefusal
-  masks-passed-by =
-      (none-found (masksRows axes corners points occupied active) (omega arith, (omega arith, (omega arith, (omega arith, (omega arith, tt))))), none-given)
+pub masks-refused-by : (axes : Axes) (corners : Corners) (points : List Float) (occupied active : List ℕ) (r : Marked) (occupied' active' : List ℕ)
+    → MasksFilled axes corners points occupied active r occupied' active'
+    → RefusedBy (masksRows axes corners points occupied active) (r .refusal)
+unfolding masksRefusal
+masks-refused-by axes corners points occupied active r occupied' active' p =
+    refused-by (masksRows axes corners points occupied active) (r .refusal) (numbered axes corners points occupied active) (ap (λ (m : Marked). m .refusal) (p .answer))
 
 -- ---- what an accepted call has
 
@@ -78,7 +76,7 @@ pub masks-fitting : (axes : Axes) (corners : Corners) (points : List Float) (occ
     → FittingMasks axes occupied active
 unfolding masksRefusal wrongMasks
 masks-fitting axes corners points occupied active e =
-    let p = passed (masksRows axes corners points occupied active) (omega arith, (omega arith, (omega arith, (omega arith, (omega arith, tt))))) e in
+    let p = passed (masksRows axes corners points occupied active) (numbered axes corners points occupied active) e in
     let q =
     any-of-three (wrongLength (length points % 9) 0) (wrongLength (length occupied) (voxels axes)) (wrongLength (length active) (voxels axes)) .0 (p .1 .1 .0)
     in

@@ -2,6 +2,7 @@
 -- On a refusal each lent list keeps what it held.
 use mathlib.Core.Path.{_≡_, refl, sym, _∙_}
 use mathlib.Core.Bool.{Bool, true, false, cond, false≢true}
+use mathlib.Core.Logic.{_↔_}
 use mathlib.Core.List.{List, [], _∷_}
 use Prim.Native.Nat.{ℕ, _<_}
 use native.Mathlib.Omega.{arith}
@@ -68,6 +69,18 @@ none-found (r ∷ rows) h e = go (r .number) (r .holds) (h .0) e (λ g. none-fou
     go : (n : ℕ) (b : Bool) → 0 < n → cond b n (firstOf rows) ≡ 0 → (firstOf rows ≡ 0 → NoneHolds rows) → NoneHolds (row n b ∷ rows)
     go n true p g rest = absurd (omega arith)
     go n false p g rest = later (rest g)
+
+-- an answer by these rows: k exactly when row k holds and none before it, 0 exactly when none holds
+pub record RefusedBy (rows : List Row) (answer : ℕ) : Type 0 where
+  pub refused : (k : ℕ) → 0 < k → (answer ≡ k) ↔ FirstIs k rows
+  pub accepted : (answer ≡ 0) ↔ NoneHolds rows
+
+pub refused-by : (rows : List Row) (answer : ℕ) → Numbered rows → answer ≡ firstOf rows → RefusedBy rows answer
+refused-by rows answer n e =
+    record {
+      refused = λ k h. (λ f. first-found k rows h (sym e ∙ f), λ f. e ∙ first-given f);
+      accepted = (λ f. none-found rows n (sym e ∙ f), λ f. e ∙ none-given f);
+    }
 
 -- ---- how a chain of tests gives it: for `search refusals depth N` at each return
 

@@ -13,12 +13,10 @@ use Rattle.vectors.specs.declared.Triangle.{Triangle}
 use Rattle.vectors.specs.Vectors.{addV, subV, scaleV, crossV, lengthV}
 use Rattle.grid.specs.declared.Axes.{Axes}
 use Rattle.grid.specs.Grid.{voxels, indexOf, floatOf}
+
 -- ---- how many
 
--- e below is the smallest edge of a voxel, which is the grid's to say
-unfoldable pub use Rattle.grid.specs.Grid.{smallestEdgeOf}
-
--- ((0.5·length of the cross) / (e·e))·2, ceiling
+-- ((0.5·length of the cross) / (e·e))·2, ceiling, where e is the smallest edge of a voxel
 unfoldable pub targetOf : Triangle → Float → Float
 targetOf t e =
     let area = Ieee.mul binary32 half32 (lengthV (crossV (subV (t .p1) (t .p0)) (subV (t .p2) (t .p0)))) in

@@ -10,11 +10,12 @@ use lib.Dec.{eqb}
 use lib.ListN.{length}
 use lib.Ieee as Ieee
 use lib.Ieee.{Float, binary32}
-use Rattle.names.specs.Bits.{lit, one32, inf32}
+use Rattle.names.specs.Bits.{lit, one32}
 use Rattle.names.specs.Refusals.{Row, row, firstOf, unlessRefused}
 use Rattle.names.specs.Scene.{Scene, Sound}
 use Rattle.lists.specs.Fold.{tab}
-use Rattle.vectors.specs.Vectors.{addV, scaleV, normalV}
+use Rattle.vectors.specs.Vectors.{normalV}
+use Rattle.vectors.specs.Rays.{rayFrom}
 use Rattle.vectors.specs.declared.Vec3.{Vec3}
 use Rattle.vectors.specs.declared.Ray.{Ray}
 use Rattle.grid.specs.Grid.{voxels, xOf, yOf, zOf, edgesOf, centreFrom, diagonalOf, AxesWithin}
@@ -36,9 +37,9 @@ sunShortest = lit 0x38d1b717
 abbrev pub aheadOf : Vec3 → Float
 aheadOf edges = Ieee.mul binary32 (diagonalOf edges) (lit 0x40400000)
 
--- the ray along l that starts a way ahead of a point
-unfoldable pub sunRay : Vec3 → Float → Vec3 → Ray
-sunRay l ahead centre = record { origin = addV centre (scaleV l ahead); direction = l; shortest = sunShortest; longest = inf32 }
+-- the ray from a voxel's centre along l
+abbrev pub sunRay : Vec3 → Float → Vec3 → Ray
+sunRay l ahead centre = rayFrom centre l ahead sunShortest
 
 -- what voxel i sees of the sun, from the grid's lower corner, its edges, the light's direction and the way ahead
 unfoldable pub figureOf : Axes → Vec3 → Vec3 → Vec3 → Float → Scene → List ℕ → ℕ → Float
@@ -78,20 +79,20 @@ sunScratch axes corners scene direction active scratch =
 
 -- a list of the scene, the mask, the light or its scratch has the wrong length, or a list of hits is shorter than the triangle count
 unfoldable pub wrongSun : ℕ → Scene → ℕ → ℕ → ℕ → ℕ → ℕ → Bool
-wrongSun n scene active lights scratches distances places =
+wrongSun n scene activeLong lightLong scratchLong distancesLong placesLong =
     wrongScene (scene .points) (scene .uses) (scene .kinds) (scene .numbers)
-    || wrongLength active n
-    || wrongLength lights n
-    || wrongLength scratches n
-    || tooShort distances (length (scene .uses))
-    || tooShort places (length (scene .uses))
+    || wrongLength activeLong n
+    || wrongLength lightLong n
+    || wrongLength scratchLong n
+    || tooShort distancesLong (length (scene .uses))
+    || tooShort placesLong (length (scene .uses))
 
--- the last four are lengths: of the light, its scratch and the two lists of hits
+-- of the light, its scratch and the two lists of hits only the lengths are asked: what they hold is never tested
 abbrev pub sunRows : Axes → Corners → Scene → Vec3 → List ℕ → ℕ → ℕ → ℕ → ℕ → List Row
-sunRows axes corners scene direction active lights scratches distances places =
+sunRows axes corners scene direction active lightLong scratchLong distancesLong placesLong =
     row 1 (badAxes axes)
     ∷ row 2 (badGrid corners axes)
-    ∷ row 3 (wrongSun (voxels axes) scene (length active) lights scratches distances places)
+    ∷ row 3 (wrongSun (voxels axes) scene (length active) lightLong scratchLong distancesLong placesLong)
     ∷ row 4 (tooMany (length (scene .uses)) (length (scene .kinds)))
     ∷ row 5 (badPoints (scene .points))
     ∷ row 6 (badMaterials (scene .uses) (scene .kinds) (scene .numbers))
@@ -100,16 +101,16 @@ sunRows axes corners scene direction active lights scratches distances places =
     ∷ []
 
 unfoldable pub sunRefusal : Axes → Corners → Scene → Vec3 → List ℕ → ℕ → ℕ → ℕ → ℕ → ℕ
-sunRefusal axes corners scene direction active lights scratches distances places =
-    firstOf (sunRows axes corners scene direction active lights scratches distances places)
+sunRefusal axes corners scene direction active lightLong scratchLong distancesLong placesLong =
+    firstOf (sunRows axes corners scene direction active lightLong scratchLong distancesLong placesLong)
 
 -- what the trace of a voxel asks
-pub record Traceable (axes : Axes) (scene : Scene) (active distances places : ℕ) : Type 0 where
+pub record Traceable (axes : Axes) (scene : Scene) (activeLong distancesLong placesLong : ℕ) : Type 0 where
   pub axes-fit : AxesWithin axes
   pub scene-fits : Sound scene
-  pub mask-fits : active ≡ voxels axes
-  pub distances-fit : length (scene .uses) ≤ distances
-  pub places-fit : length (scene .uses) ≤ places
+  pub mask-fits : activeLong ≡ voxels axes
+  pub distances-fit : length (scene .uses) ≤ distancesLong
+  pub places-fit : length (scene .uses) ≤ placesLong
 
 -- the lists of hits keep their lengths always, and what they held where no ray is traced; what they hold otherwise is open
 pub record SunAnswered (axes : Axes) (corners : Corners) (scene : Scene) (direction : Vec3) (active : List ℕ) (light scratch distances : List Float)

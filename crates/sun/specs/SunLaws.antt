@@ -1,18 +1,17 @@
--- What the sun pass means: each figure before the blur, all of them 1.0 where no voxel is active; one result; and what an accepted call has.
+-- What the sun pass means: each figure before the blur, all of them 1.0 where no voxel is active; which row refuses a call; one result; and what an accepted call has.
 use mathlib.Core.Path.{_≡_, refl, sym, ap, ap₂, _∙_}
 use mathlib.Core.Bool.{Bool, true, false}
-use mathlib.Core.Logic.{_↔_}
-use mathlib.Core.List.{List, _∷_}
-use Prim.Native.Nat.{ℕ, zero, suc, _+_, _≤_, _<_}
+use mathlib.Core.List.{List}
+use Prim.Native.Nat.{ℕ, _+_, _≤_, _<_}
 use native.Mathlib.Nat.{zero-add}
 use native.Mathlib.Omega.{arith}
 use lib.ListN.{length, getD}
 use lib.Ieee.{Float, nan}
 use borrow.Author.Tests.{ltb-false, eqb-true, not-false}
 use Rattle.names.specs.Bits.{one32}
-use Rattle.names.specs.Refusals.{FirstIs, NoneHolds, first-given, first-found, none-given, none-found}
+use Rattle.names.specs.Refusals.{Numbered, RefusedBy, refused-by}
 use Rattle.names.specs.Scene.{Scene}
-use Rattle.lists.specs.Fold.{tab, length-tab, getD-tab}
+use Rattle.lists.specs.Fold.{length-tab, getD-tab, tab-same}
 use Rattle.vectors.specs.Vectors.{normalV}
 use Rattle.vectors.specs.declared.Vec3.{Vec3}
 use Rattle.grid.specs.Grid.{voxels, xOf, yOf, zOf, edgesOf, centreOf}
@@ -48,13 +47,6 @@ module _ (axes : Axes) (corners : Corners) (scene : Scene) (direction : Vec3) (a
   unfolding figureOf
   active-before i h e = before-at i h ∙ rw e
 
-  -- two lists made by index are one where every number is
-  tab-same : (f g : ℕ → Float) (k i : ℕ) → ((j : ℕ) → i ≤ j → j < i + k → f j ≡ g j) → tab f k i ≡ tab g k i
-  unfolding tab
-  tab-same f g zero i e = refl
-  tab-same f g (suc k) i e =
-      ap₂ (λ (x : Float) (l : List Float). x ∷ l) (e i (omega arith) (omega arith)) (tab-same f g k (i + 1) (λ j p q. e j (omega arith) (omega arith)))
-
   -- where no voxel is active every figure is 1.0
   pub none-before : length active ≡ voxels axes → markedCount active ≡ 0 → sunBefore axes corners scene direction active ≡ allOnes axes
   unfolding sunBefore figureOf
@@ -66,18 +58,18 @@ module _ (axes : Axes) (corners : Corners) (scene : Scene) (direction : Vec3) (a
 
 -- ---- k is refused exactly when row k holds and none before it, and a call is accepted exactly when none holds
 
-module _ (axes : Axes) (corners : Corners) (scene : Scene) (direction : Vec3) (active : List ℕ) (lights scratches distances places : ℕ) where
-  pub sun-refused-by : (k : ℕ) → 0 < k
-      → (sunRefusal axes corners scene direction active lights scratches distances places ≡ k)
-      ↔ FirstIs k (sunRows axes corners scene direction active lights scratches distances places)
-  unfolding sunRefusal
-  sun-refused-by k h = (first-found k (sunRows axes corners scene direction active lights scratches distances places) h, first-given)
+pub sun-numbered : (axes : Axes) (corners : Corners) (scene : Scene) (direction : Vec3) (active : List ℕ) (lightLong scratchLong distancesLong placesLong : ℕ)
+    → Numbered (sunRows axes corners scene direction active lightLong scratchLong distancesLong placesLong)
+sun-numbered axes corners scene direction active lightLong scratchLong distancesLong placesLong =
+    (omega arith, (omega arith, (omega arith, (omega arith, (omega arith, (omega arith, (omega arith, (omega arith, tt))))))))
 
-  pub sun-passed-by : (sunRefusal axes corners scene direction active lights scratches distances places ≡ 0)
-      ↔ NoneHolds (sunRows axes corners scene direction active lights scratches distances places)
-  unfolding sunRefusal
-  sun-passed-by =
-      (none-found (sunRows axes corners scene direction active lights scratches distances places) (omega arith, (omega arith, (omega arith, (omega arith, (omega arith, (omega arith, (omega arith, (omega arith, tt)))))))), none-given)
+pub sun-refused-by : (axes : Axes) (corners : Corners) (scene : Scene) (direction : Vec3) (active : List ℕ) (light scratch distances : List Float) (places : List ℕ)
+    (r : Sunned) (light' scratch' distances' : List Float) (places' : List ℕ)
+    → SunAnswered axes corners scene direction active light scratch distances places r light' scratch' distances' places'
+    → RefusedBy (sunRows axes corners scene direction active (length light) (length scratch) (length distances) (length places)) (r .refusal)
+unfolding sunRefusal
+sun-refused-by axes corners scene direction active light scratch distances places r light' scratch' distances' places' p =
+    refused-by _ (r .refusal) (sun-numbered axes corners scene direction active (length light) (length scratch) (length distances) (length places)) (p .answer)
 
 -- ---- one result
 
@@ -109,21 +101,20 @@ sun-answered-once axes corners scene direction active l s d p r₁ r₂ l₁ s�
 
 -- ---- what an accepted call has
 
-pub record SunReady (axes : Axes) (scene : Scene) (active lights scratches distances places : ℕ) : Type 0 where
-  pub traceable : Traceable axes scene active distances places
-  pub lights-fit : lights ≡ voxels axes
-  pub scratches-fit : scratches ≡ voxels axes
+pub record SunReady (axes : Axes) (scene : Scene) (activeLong lightLong scratchLong distancesLong placesLong : ℕ) : Type 0 where
+  pub traceable : Traceable axes scene activeLong distancesLong placesLong
+  pub light-fits : lightLong ≡ voxels axes
+  pub scratch-fits : scratchLong ≡ voxels axes
 
 right : (len n : ℕ) → wrongLength len n ≡ false → len ≡ n
 right len n e = eqb-true _ _ (not-false _ e)
 
-pub sun-ready : (axes : Axes) (corners : Corners) (scene : Scene) (direction : Vec3) (active : List ℕ) (lights scratches distances places : ℕ)
-    → sunRefusal axes corners scene direction active lights scratches distances places ≡ 0
-    → SunReady axes scene (length active) lights scratches distances places
+pub sun-ready : (axes : Axes) (corners : Corners) (scene : Scene) (direction : Vec3) (active : List ℕ) (lightLong scratchLong distancesLong placesLong : ℕ)
+    → sunRefusal axes corners scene direction active lightLong scratchLong distancesLong placesLong ≡ 0
+    → SunReady axes scene (length active) lightLong scratchLong distancesLong placesLong
 unfolding sunRefusal wrongSun
-sun-ready axes corners scene direction active lights scratches distances places e =
-    let p = passed (sunRows axes corners scene direction active lights scratches distances places)
-    (omega arith, (omega arith, (omega arith, (omega arith, (omega arith, (omega arith, (omega arith, (omega arith, tt)))))))) e in
+sun-ready axes corners scene direction active lightLong scratchLong distancesLong placesLong e =
+    let p = passed (sunRows axes corners scene direction active lightLong scratchLong distancesLong placesLong) (sun-numbered axes corners scene direction active lightLong scratchLong distancesLong placesLong) e in
     let a = either _ _ .0 (p .1 .1 .0) in
     let b = either _ _ .0 (a .0) in
     let c = either _ _ .0 (b .0) in
@@ -137,6 +128,6 @@ sun-ready axes corners scene direction active lights scratches distances places 
         distances-fit = ltb-false _ _ (b .1);
         places-fit = ltb-false _ _ (a .1);
       };
-      lights-fit = right _ _ (d .1);
-      scratches-fit = right _ _ (c .1);
+      light-fits = right _ _ (d .1);
+      scratch-fits = right _ _ (c .1);
     }

@@ -2,14 +2,13 @@
 ghost use mathlib.Core.Path.{_≡_};
 ghost use Prim.Native.Nat.{_<_};
 ghost use lib.ListN.{length};
-ghost use Rattle.names.specs.Bits.{one32, inf32};
+ghost use Rattle.names.specs.Bits.{one32};
 ghost use Rattle.names.specs.Scene.{sceneOf};
 ghost use Rattle.lists.specs.Fold.{tab};
 ghost use Rattle.grid.specs.Grid.{voxels};
 ghost use Rattle.sun.specs.Sun.{figureOf, sunBefore, sunRefusal, Traceable, SunAnswered};
 use grid::Axes;
 use grid::Corners;
-use vectors::Ray;
 use vectors::Vec3;
 
 // "distances 1e-4 to infinity"
@@ -223,21 +222,8 @@ fn figure(
             row % axes.height,
             row / axes.height,
         );
-        let origin = vectors::add(centre, vectors::scale(l, ahead));
-        let ray = Ray {
-            origin,
-            direction: l,
-            shortest: SHORTEST,
-            longest: infinity(),
-        };
+        let ray = vectors::inner::ray_from(centre, l, ahead, SHORTEST);
         return scan::inner::transmittance(points, uses, kinds, numbers, ray, distances, places);
     }
     1.0
-}
-
-// The infinity above every number.
-fn infinity() -> f32
-    ensures { λ r. ⌜ r ≡ inf32 ⌝ }
-{
-    f32::from_bits(0x7f800000)
 }

@@ -16,7 +16,7 @@ use Rattle.triangle.specs.Places.{vecAt, triangleAt}
 use Rattle.scan.specs.Transmittance.{transmittanceOf}
 use Rattle.harmonics.specs.Harmonics.{raisedV, zeroV}
 use Rattle.bounce.specs.declared.Frame.{Frame}
-use Rattle.bounce.specs.Rays.{pointAt, rayFrom}
+use Rattle.vectors.specs.Rays.{pointAt, rayFrom}
 use Rattle.bounce.specs.Hemisphere.{frameOf, skyDirection}
 use Rattle.bounce.specs.Light.{faceNormal, facingOf, blackOf, slantOf, sunlightOf, skylightOf, reflectedOf}
 use Rattle.surface.specs.declared.Setting.{Setting}

@@ -34,8 +34,8 @@ pub fn surface_at(
 {
     let face = bounce::inner::face_normal(triangle::inner::at(points, place));
     let normal = bounce::inner::facing(face, ray.direction);
-    let met = bounce::inner::point_at(ray.origin, ray.direction, distance);
-    let point = bounce::inner::point_at(met, normal, hit);
+    let met = vectors::inner::point_at(ray.origin, ray.direction, distance);
+    let point = vectors::inner::point_at(met, normal, hit);
     let k = material(uses, place) * 7;
     let albedo = vectors::clamp_each(three_at(numbers, k));
     let emissive = harmonics::inner::raise(three_at(numbers, k + 3));
@@ -228,7 +228,7 @@ fn see(
 pub fn shadow_ray(setting: Setting, surface: Surface) -> Ray
     ensures { λ r. ⌜ r ≡ shadowRay setting surface ⌝ }
 {
-    bounce::inner::ray_from(
+    vectors::inner::ray_from(
         surface.point,
         setting.toward,
         setting.biases.step,
@@ -243,7 +243,7 @@ pub fn sky_ray(setting: Setting, surface: Surface, frame: Frame, table: &[f32; 1
     ensures { λ r. ⌜ r ≡ skyRayIn setting surface frame j ⌝ }
 {
     let direction = bounce::inner::sky_direction(frame, table, j);
-    bounce::inner::ray_from(
+    vectors::inner::ray_from(
         surface.point,
         direction,
         setting.biases.step,

@@ -1,2 +1,3 @@
--- Vectors of three floats.
+-- Vectors of three floats, and the rays that start from a point.
 pub mod Vectors
+pub mod Rays

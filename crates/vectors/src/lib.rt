@@ -2,6 +2,8 @@
 ghost use mathlib.Core.Path.{_≡_};
 ghost use Rattle.vectors.specs.Vectors.{addV, subV, mulV, scaleV, divV, negV, dotV, crossV, lengthV, normalV, largerV, smallerV, clampOf, clampV, lerpV};
 
+pub mod inner;
+
 #[repr(C)]
 pub struct Vec3 {
     pub x: f32,

@@ -9,7 +9,7 @@ use lib.ListN.{length}
 use lib.Ieee as Ieee
 use lib.Ieee.{Float}
 use Rattle.names.specs.Bits.{zero32}
-use Rattle.names.specs.Refusals.{row, firstOf, unlessRefused}
+use Rattle.names.specs.Refusals.{Row, row, firstOf, unlessRefused}
 use Rattle.vectors.specs.declared.Vec3.{Vec3}
 use Rattle.vectors.specs.Vectors.{vec}
 use Rattle.grid.specs.declared.Axes.{Axes}
@@ -40,16 +40,22 @@ noHead refusal =
 unfoldable pub headAnswer : List ℕ → Head
 headAnswer s = record { refusal = 0; axes = axesAt s; corners = cornersAt s }
 
+abbrev pub fileRows : List ℕ → List Row
+fileRows s = row 12 (faulty s) ∷ []
+
 unfoldable pub fileRefusal : List ℕ → ℕ
-fileRefusal s = firstOf (row 12 (faulty s) ∷ [])
+fileRefusal s = firstOf (fileRows s)
 
 pub record FileAxes (s : List ℕ) (r : Head) : Type 0 where
   pub answer : r ≡ unlessRefused (fileRefusal s) (headAnswer s) (noHead (fileRefusal s))
 
 -- ---- how many bytes the writer needs: 1
 
+abbrev pub neededRows : Axes → List Row
+neededRows a = row 1 (badAxes a) ∷ []
+
 unfoldable pub neededRefusal : Axes → ℕ
-neededRefusal a = firstOf (row 1 (badAxes a) ∷ [])
+neededRefusal a = firstOf (neededRows a)
 
 pub record VolumeBytes (a : Axes) (r : Needed) : Type 0 where
   pub answer : r ≡ unlessRefused (neededRefusal a) (record { refusal = 0; bytes = bytesFor (voxels a) }) (record { refusal = neededRefusal a; bytes = 0 })
@@ -61,9 +67,11 @@ unfoldable pub wrongVolumeLists : ℕ → ℕ → ℕ → ℕ → ℕ → Bool
 wrongVolumeLists n light volume active occupied =
     wrongLength light n || wrongLength volume (n * 16) || wrongLength active n || wrongLength occupied n
 
+abbrev pub readRows : List ℕ → List Float → List Float → List ℕ → List ℕ → List Row
+readRows s l v m o = row 12 (faulty s) ∷ row 3 (wrongVolumeLists (voxelsAt s) (length l) (length v) (length m) (length o)) ∷ []
+
 unfoldable pub readRefusal : List ℕ → List Float → List Float → List ℕ → List ℕ → ℕ
-readRefusal s l v m o =
-    firstOf (row 12 (faulty s) ∷ row 3 (wrongVolumeLists (voxelsAt s) (length l) (length v) (length m) (length o)) ∷ [])
+readRefusal s l v m o = firstOf (readRows s l v m o)
 
 -- the four lists before, the answer, and the four lists after
 pub record VolumeRead (s : List ℕ) (l v : List Float) (m o : List ℕ) (r : Head) (l′ v′ : List Float) (m′ o′ : List ℕ) : Type 0 where
@@ -81,15 +89,16 @@ wrongBytes n bytes = wrongLength bytes (bytesFor n)
 unfoldable pub badLists : List Float → List Float → List ℕ → List ℕ → Bool
 badLists l v m o = badLights l || badCoefficients v || badMask m || badMask o
 
-unfoldable pub writeRefusal : Axes → Corners → List Float → List Float → List ℕ → List ℕ → List ℕ → ℕ
-writeRefusal a c l v m o b =
-    firstOf
-    (row 1 (badAxes a)
+abbrev pub writeRows : Axes → Corners → List Float → List Float → List ℕ → List ℕ → List ℕ → List Row
+writeRows a c l v m o b =
+    row 1 (badAxes a)
     ∷ row 2 (badGrid c a)
-    ∷ row 3 (wrongVolumeLists (voxels a) (length l) (length v) (length m) (length o))
-    ∷ row 3 (wrongBytes (voxels a) (length b))
+    ∷ row 3 (wrongVolumeLists (voxels a) (length l) (length v) (length m) (length o) || wrongBytes (voxels a) (length b))
     ∷ row 13 (badLists l v m o)
-    ∷ [])
+    ∷ []
+
+unfoldable pub writeRefusal : Axes → Corners → List Float → List Float → List ℕ → List ℕ → List ℕ → ℕ
+writeRefusal a c l v m o b = firstOf (writeRows a c l v m o b)
 
 pub record VolumeWritten (a : Axes) (c : Corners) (l v : List Float) (m o b : List ℕ) (r : ℕ) (b′ : List ℕ) : Type 0 where
   pub answer : r ≡ writeRefusal a c l v m o b
@@ -124,8 +133,11 @@ figuresAnswer s =
       zeros = zeroCount (lightAt s);
     }
 
+abbrev pub figuresRows : List ℕ → List Row
+figuresRows s = row 14 (ltb figuresLimit (length s)) ∷ row 12 (faulty s) ∷ []
+
 unfoldable pub figuresRefusal : List ℕ → ℕ
-figuresRefusal s = firstOf (row 14 (ltb figuresLimit (length s)) ∷ row 12 (faulty s) ∷ [])
+figuresRefusal s = firstOf (figuresRows s)
 
 pub record FileFigures (s : List ℕ) (r : Figures) : Type 0 where
   pub answer : r ≡ unlessRefused (figuresRefusal s) (figuresAnswer s) (noFigures (figuresRefusal s))

@@ -11,6 +11,7 @@ use lib.Dec.{eqb}
 use lib.ListN.{length, getD, take, drop}
 use lib.Seq.{take-add, drop-drop, take-all, drop-cons}
 use lib.Ieee as Ieee
+use lib.Ieee.Scale.{finite}
 use lib.Ieee.{Float, nan, inf, fin, isNan}
 use Rattle.names.specs.Numbers.{lightLimit, coefficientLimit, pointLimit}
 use Rattle.lists.specs.Fold.{tab, length-tab, getD-tab}
@@ -19,7 +20,7 @@ use Rattle.bytes_le.specs.Bytes.{word, u16At, u32At, f32At, floatsAt, bytesAt, 
 use Rattle.bytes_le.specs.BytesLaws.{half-bytes, word-bytes}
 use Rattle.bytes_le.specs.RoundTrip.{AllBytes, floats-kept}
 use Rattle.limits.specs.Limits.{within}
-use Rattle.limits.specs.LimitsLaws.{finite, limit-finite, lights-row, coefficients-row, grid-row, vector-row}
+use Rattle.limits.specs.LimitsLaws.{limit-finite, lights-row, coefficients-row, grid-row, vector-row}
 use Rattle.contents.specs.Contents.{mark, marked, axesAt, entriesAt, entryKindAt, offsetAt, lengthAt, contentsFrom, headOf, entryOf, bodiesFrom}
 use Rattle.contents.specs.ContentsLaws.{Laid}
 use Rattle.volume_file.specs.VolumeFile.{voxelsAt, lightAt, volumeAt, activeAt, occupiedAt, cornersAt}
@@ -112,21 +113,21 @@ contents-at s n h l e d =
 -- ---- the bodies
 
 finite-number : (x : Float) → finite x ≡ true → isNan x ≡ false
-unfolding finite isNan
+unfolding isNan
 finite-number nan h = absurd (false≢true h)
 finite-number (inf s) h = absurd (false≢true h)
 finite-number (fin s m e) h = refl
 
 light-finite : finite lightLimit ≡ true
-unfolding finite Ieee.ofBits
+unfolding Ieee.ofBits
 light-finite = refl
 
 coefficient-finite : finite coefficientLimit ≡ true
-unfolding finite Ieee.ofBits
+unfolding Ieee.ofBits
 coefficient-finite = refl
 
 point-finite : finite pointLimit ≡ true
-unfolding finite Ieee.ofBits
+unfolding Ieee.ofBits
 point-finite = refl
 
 -- numbers within a finite bound are no NaN

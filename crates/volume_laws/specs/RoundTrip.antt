@@ -1,9 +1,8 @@
 -- The two laws of the public calls. Written and then read: every bit returns. Read and then written, for a file of kinds 1 to 5: every
--- byte returns. And 12 is answered exactly where the judge says faulty.
+-- byte returns.
 use mathlib.Core.Path.{_≡_, refl, sym, ap, _∙_}
-use mathlib.Core.Bool.{Bool, true, false, cond, not, _||_, false≢true}
+use mathlib.Core.Bool.{Bool, true, false, cond, not, _||_}
 use mathlib.Core.List.{List, [], _∷_}
-use mathlib.Core.Logic.{_↔_}
 use Prim.Native.Nat.{ℕ, _+_, _*_, _≤_}
 use native.Mathlib.Omega.{arith}
 use borrow.Author.Tests.{eq-eqb, eqb-true}
@@ -11,7 +10,8 @@ use lib.Dec.{eqb}
 use lib.ListN.{length, drop, length-drop}
 use lib.Seq.{length-take-le}
 use lib.Ieee.{Float}
-use Rattle.names.specs.Refusals.{row, firstOf, unlessRefused, given}
+use Rattle.names.specs.Refusals.{firstOf, unlessRefused, given}
+use Rattle.names.specs.Passed.{passed}
 use Rattle.lists.specs.Fold.{length-tab}
 use Rattle.grid.specs.declared.Axes.{Axes}
 use Rattle.grid.specs.declared.Corners.{Corners}
@@ -22,32 +22,16 @@ use Rattle.limits.specs.Limits.{badAxes, badGrid, badLights, badCoefficients, b
 use Rattle.limits.specs.LimitsLaws.{either, any-of-three}
 use Rattle.contents.specs.Contents.{axesAt, entriesAt, offsetAt}
 use Rattle.contents.specs.ContentsLaws.{Laid}
-use Rattle.volume_file.specs.VolumeFile.{voxelsAt, lightAt, volumeAt, activeAt, occupiedAt, cornersAt, faulty}
+use Rattle.volume_file.specs.VolumeFile.{voxelsAt, lightAt, volumeAt, activeAt, occupiedAt, cornersAt}
 use Rattle.volume_file.specs.VolumeFileLaws.{Accepted, accepted-row, accepted-laid}
 use Rattle.volume_write.specs.FileBytes.{bytesFor, cornersList, fileBytes}
 use Rattle.volume.specs.declared.Head.{Head}
-use Rattle.volume.specs.Volume.{noHead, headAnswer, wrongVolumeLists, wrongBytes, badLists, readRefusal, VolumeRead, writeRefusal, VolumeWritten, fileRefusal, FileAxes}
+use Rattle.volume.specs.Volume.{noHead, headAnswer, wrongVolumeLists, wrongBytes, badLists, readRows, readRefusal, VolumeRead, writeRows, writeRefusal, VolumeWritten}
 use Rattle.volume.specs.VolumeLaws.{lists-row}
 use Rattle.volume_laws.specs.Written.{Givens, Gives, Back, written-back}
 use Rattle.volume_laws.specs.Kept.{kept-back, file-ended}
 
--- ---- rows that all pass
-
-write-passed : (b₁ b₂ b₃ b₄ b₅ : Bool) → 0 ≡ firstOf (row 1 b₁ ∷ row 2 b₂ ∷ row 3 b₃ ∷ row 3 b₄ ∷ row 13 b₅ ∷ [])
-    → (b₁ ≡ false) × (b₂ ≡ false) × (b₃ ≡ false) × (b₄ ≡ false) × (b₅ ≡ false)
-unfolding firstOf
-write-passed true b₂ b₃ b₄ b₅ e = absurd (omega arith)
-write-passed false true b₃ b₄ b₅ e = absurd (omega arith)
-write-passed false false true b₄ b₅ e = absurd (omega arith)
-write-passed false false false true b₅ e = absurd (omega arith)
-write-passed false false false false true e = absurd (omega arith)
-write-passed false false false false false e = (refl, refl, refl, refl, refl)
-
-read-passed : (b₁ b₂ : Bool) → firstOf (row 12 b₁ ∷ row 3 b₂ ∷ []) ≡ 0 → (b₁ ≡ false) × (b₂ ≡ false)
-unfolding firstOf
-read-passed true b₂ e = absurd (omega arith)
-read-passed false true e = absurd (omega arith)
-read-passed false false e = (refl, refl)
+-- ---- what row 3 and row 13 say
 
 lists-right : (n l v m o : ℕ) → l ≡ n → v ≡ n * 16 → m ≡ n → o ≡ n → wrongVolumeLists n l v m o ≡ false
 unfolding wrongVolumeLists
@@ -64,12 +48,13 @@ lists-good l v m o e =
 written-givens : (a : Axes) (c : Corners) (l v : List Float) (m o b : List ℕ) → AllFit l → AllFit v → AllFit (cornersList c) → 0 ≡ writeRefusal a c l v m o b → Givens a c l v m o
 unfolding writeRefusal
 written-givens a c l v m o b x y z e =
-    let p = write-passed (badAxes a) (badGrid c a) _ (wrongBytes (voxels a) (length b)) (badLists l v m o) e in
-    let q = lists-row (voxels a) (length l) (length v) (length m) (length o) (p .2) in
-    let r = lists-good l v m o (p .4) in
+    let p = passed (writeRows a c l v m o b) (omega arith, (omega arith, (omega arith, (omega arith, tt)))) (sym e) in
+    let w = either _ (wrongBytes (voxels a) (length b)) .0 (p .1 .1 .0) in
+    let q = lists-row (voxels a) (length l) (length v) (length m) (length o) (w .0) in
+    let r = lists-good l v m o (p .1 .1 .1 .0) in
     record {
       axes = p .0;
-      grid = p .1;
+      grid = p .1 .0;
       light = q .0;
       volume = q .1;
       active = q .2;
@@ -152,7 +137,7 @@ pub read-written : (s : List ℕ) (l v : List Float) (m o : List ℕ) (r : Head)
 unfolding readRefusal headAnswer
 read-written s l v m o r l′ v′ m′ o′ b t b′ h five d z len w =
     let zero : readRefusal s l v m o ≡ 0 = head-zero s (readRefusal s l v m o) r (d .answer) z in
-    let k : Accepted s = accepted-row s .0 (read-passed (faulty s) _ zero .0) in
+    let k : Accepted s = accepted-row s .0 (passed (readRows s l v m o) (omega arith, (omega arith, tt)) zero .0) in
     let n : ℕ = voxelsAt s in
     let la : Laid s n = accepted-laid s k in
     let head : r ≡ headAnswer s = d .answer ∙ sym (given _ _ _ zero) in
@@ -172,14 +157,3 @@ read-written s l v m o r l′ v′ m′ o′ b t b′ h five d z len w =
     (part-length s (offsetAt s 3) n (omega (arith, la .occupied, la .within))))
     (len ∙ file-ended s n five la) (k .lights) (k .coefficients) (k .active) (k .occupied) in
     (w′ .answer ∙ none, w′ .bytes ∙ sym (given _ _ _ none) ∙ kept-back s h k five)
-
--- ---- 12 exactly where the judge refuses
-
-file-12 : (b : Bool) → (firstOf (row 12 b ∷ []) ≡ 12) ↔ (b ≡ true)
-unfolding firstOf
-file-12 true = (λ e. refl, λ e. refl)
-file-12 false = (λ e. absurd (omega arith), λ e. absurd (false≢true e))
-
-pub refused-12 : (s : List ℕ) → (fileRefusal s ≡ 12) ↔ (faulty s ≡ true)
-unfolding fileRefusal
-refused-12 s = file-12 (faulty s)

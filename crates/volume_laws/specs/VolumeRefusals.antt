@@ -2,60 +2,19 @@
 -- does, and 0 exactly when none holds. Said of whatever answer a contract allows.
 use mathlib.Core.Path.{_≡_, refl, sym, ap, _∙_}
 use mathlib.Core.Bool.{Bool, true, false, cond}
-use mathlib.Core.Logic.{_↔_}
-use mathlib.Core.List.{List, [], _∷_}
-use Prim.Native.Nat.{ℕ, _<_}
+use mathlib.Core.List.{List}
+use Prim.Native.Nat.{ℕ}
 use native.Mathlib.Omega.{arith}
 use borrow.Author.Tests.{eqb-true}
-use lib.Dec.{eqb, ltb}
-use lib.ListN.{length}
+use lib.Dec.{eqb}
 use lib.Ieee.{Float}
-use Rattle.names.specs.Refusals.{Row, row, firstOf, unlessRefused, FirstIs, NoneHolds, Numbered, first-given, first-found, none-given, none-found}
+use Rattle.names.specs.Refusals.{unlessRefused, RefusedBy, refused-by}
 use Rattle.grid.specs.declared.Axes.{Axes}
 use Rattle.grid.specs.declared.Corners.{Corners}
-use Rattle.grid.specs.Grid.{voxels}
-use Rattle.limits.specs.Limits.{badAxes, badGrid}
-use Rattle.volume_file.specs.VolumeFile.{voxelsAt, faulty}
 use Rattle.volume.specs.declared.Head.{Head}
 use Rattle.volume.specs.declared.Needed.{Needed}
 use Rattle.volume.specs.declared.Figures.{Figures}
-use Rattle.volume.specs.Volume.{noHead, headAnswer, fileRefusal, FileAxes, neededRefusal, VolumeBytes, wrongVolumeLists, readRefusal, VolumeRead, wrongBytes, badLists, writeRefusal, VolumeWritten, figuresLimit, noFigures, figuresAnswer, figuresRefusal, FileFigures}
-
--- ---- the rows of each call, in its own order
-
-abbrev pub fileRows : List ℕ → List Row
-fileRows s = row 12 (faulty s) ∷ []
-
-abbrev pub neededRows : Axes → List Row
-neededRows a = row 1 (badAxes a) ∷ []
-
-abbrev pub readRows : List ℕ → List Float → List Float → List ℕ → List ℕ → List Row
-readRows s l v m o = row 12 (faulty s) ∷ row 3 (wrongVolumeLists (voxelsAt s) (length l) (length v) (length m) (length o)) ∷ []
-
-abbrev pub writeRows : Axes → Corners → List Float → List Float → List ℕ → List ℕ → List ℕ → List Row
-writeRows a c l v m o b =
-    row 1 (badAxes a)
-    ∷ row 2 (badGrid c a)
-    ∷ row 3 (wrongVolumeLists (voxels a) (length l) (length v) (length m) (length o))
-    ∷ row 3 (wrongBytes (voxels a) (length b))
-    ∷ row 13 (badLists l v m o)
-    ∷ []
-
-abbrev pub figuresRows : List ℕ → List Row
-figuresRows s = row 14 (ltb figuresLimit (length s)) ∷ row 12 (faulty s) ∷ []
-
--- ---- k exactly when row k holds and none before it, 0 exactly when none holds
-
-pub record RefusedBy (rows : List Row) (answer : ℕ) : Type 0 where
-  pub refused : (k : ℕ) → 0 < k → (answer ≡ k) ↔ FirstIs k rows
-  pub accepted : (answer ≡ 0) ↔ NoneHolds rows
-
-refused-by : (rows : List Row) (answer : ℕ) → Numbered rows → answer ≡ firstOf rows → RefusedBy rows answer
-refused-by rows answer n e =
-    record {
-      refused = λ k h. (λ f. first-found k rows h (sym e ∙ f), λ f. e ∙ first-given f);
-      accepted = (λ f. none-found rows n (sym e ∙ f), λ f. e ∙ none-given f);
-    }
+use Rattle.volume.specs.Volume.{noHead, headAnswer, fileRows, fileRefusal, FileAxes, neededRows, neededRefusal, VolumeBytes, readRows, readRefusal, VolumeRead, writeRows, writeRefusal, VolumeWritten, noFigures, figuresAnswer, figuresRows, figuresRefusal, FileFigures}
 
 -- an answer that carries 0 beside what was asked, and its refusal beside zeros, carries the refusal
 carried : {A : Type 0} (refusal : A → ℕ) (k : ℕ) (new old : A) → refusal new ≡ 0 → refusal old ≡ k → refusal (unlessRefused k new old) ≡ k
@@ -90,7 +49,7 @@ pub write-volume-refused-by : (a : Axes) (c : Corners) (l v : List Float) (m o b
     → VolumeWritten a c l v m o b r b′ → RefusedBy (writeRows a c l v m o b) r
 unfolding writeRefusal
 write-volume-refused-by a c l v m o b r b′ d =
-    refused-by (writeRows a c l v m o b) r (omega arith, (omega arith, (omega arith, (omega arith, (omega arith, tt))))) (d .answer)
+    refused-by (writeRows a c l v m o b) r (omega arith, (omega arith, (omega arith, (omega arith, tt)))) (d .answer)
 
 pub file-figures-refused-by : (s : List ℕ) (r : Figures) → FileFigures s r → RefusedBy (figuresRows s) (r .refusal)
 unfolding figuresRefusal figuresAnswer noFigures

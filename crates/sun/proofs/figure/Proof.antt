@@ -2,7 +2,7 @@
 use native.Mathlib.Omega.{arith}
 use borrow.Author.Tests.{eq-eqb, ne-eqb}
 use Rattle.grid.specs.GridLaws.{x-within, y-within, z-within}
-use Rattle.sun.specs.Sun.{sunRay, figureOf}
+use Rattle.sun.specs.Sun.{figureOf}
 use borrow.Author.Needs.{needs}
 use Rattle.sun.proofs.figure.Statement.{statement}
 use Rattle.sun.proofs.figure.Tie as tie
@@ -29,18 +29,12 @@ centre-requires c κs =
     let i = s .args .i in
     (omega (arith, x-within a i (omega arith)), omega (arith, y-within a i (omega arith)), omega (arith, z-within a i (omega arith) (omega arith) (omega arith)))
 
-scale-requires : tie.Need-scale-requires
-scale-requires c κs = search needs
-
-add-requires : tie.Need-add-requires
-add-requires c κs = search needs
-
-infinity-requires : tie.Need-infinity-requires
-infinity-requires c κs = search needs
+ray-from-requires : tie.Need-ray-from-requires
+ray-from-requires c κs = search needs
 
 transmittance-requires : tie.Need-transmittance-requires
 transmittance-requires c κs =
-    let p = c .before .before .before .before .before .before .before .before .before .before .before .before .before .before .before .before .before .before .before .pre .0 in
+    let p = c .before .before .before .before .before .before .before .before .before .before .before .before .before .before .before .before .before .pre .0 in
     (p .scene-fits, (p .distances-fit, p .places-fit))
 
 same-length : tie.Need-same-length
@@ -50,17 +44,11 @@ same-length-2 : tie.Need-same-length-2
 same-length-2 c = search needs
 
 returns : tie.Need-returns
-unfolding figureOf sunRay
+unfolding figureOf
 returns c =
     let t = c .before .before .before .before in
     let f = t .before .before .before in
-    rw (
-      eq-eqb _ 1 (c .before .before .before .before .before .before .before .before .before .before .before .before .before .before .before .if1 .taken),
-      ← f .before .before .before .centre .ensures,
-      ← f .before .before .scale .ensures,
-      ← f .before .add .ensures,
-      ← f .infinity .ensures,
-    )
+    rw (eq-eqb _ 1 (c .before .before .before .before .before .before .before .before .before .before .before .before .before .if1 .taken), ← f .before .centre .ensures, ← f .ray-from .ensures)
     (t .transmittance .ensures)
 
 returns-2 : tie.Need-returns-2
@@ -77,9 +65,7 @@ figure-spec =
     rem-centre-2
     div-centre
     centre-requires
-    scale-requires
-    add-requires
-    infinity-requires
+    ray-from-requires
     transmittance-requires
     same-length
     same-length-2

@@ -38,7 +38,7 @@ returns c =
     record {
       answer = sym (n .before .if1 .taken) ∙ n .before .before .judge .ensures;
       rays = sym (c .before .before .before .before .if2 .taken) ∙ n .count .ensures;
-      light-after = rw e (b .brighten .ensures ∙ rw (ready (n .before) .lights-fit) refl);
+      light-after = rw e (b .brighten .ensures ∙ rw (ready (n .before) .light-fits) refl);
       scratch-after = rw e refl;
       distances-kept = λ z. refl;
       places-kept = λ z. refl;
@@ -47,15 +47,15 @@ returns c =
     }
 
 trace-requires : tie.Need-trace-requires
-trace-requires c κs = let r = ready (c .before .before .before .before .before) in (r .traceable, r .scratches-fit)
+trace-requires c κs = let r = ready (c .before .before .before .before .before) in (r .traceable, r .scratch-fits)
 
 square-requires : tie.Need-square-requires
 square-requires c κs =
     let t = c .before .before .before .before .before .before .before .before in
     let r = ready (t .before .before .before .before .before .before) in
     let a = r .traceable .axes-fit in
-    let s = t .trace .kept .1 .1 .1 .1 .1 .1 .1 .1 .0 ∙ r .scratches-fit in
-    (a .width, a .height, sym s, r .lights-fit ∙ sym s)
+    let s = t .trace .kept .1 .1 .1 .1 .1 .1 .1 .1 .0 ∙ r .scratch-fits in
+    (a .width, a .height, sym s, r .light-fits ∙ sym s)
 
 same-length-2 : tie.Need-same-length-2
 same-length-2 c = search needs

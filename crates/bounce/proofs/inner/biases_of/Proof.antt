@@ -1,6 +1,6 @@
 -- `bounce::inner::biases_of` meets its contract: the code is the definition, call for call and operation for operation.
 use borrow.Author.Needs.{needs}
-use Rattle.bounce.specs.Rays.{biasesOf}
+use Rattle.bounce.specs.Biases.{biasesOf}
 use Rattle.bounce.proofs.inner.biases_of.Statement.{statement}
 use Rattle.bounce.proofs.inner.biases_of.Tie as tie
 

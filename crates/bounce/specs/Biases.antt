@@ -1,11 +1,8 @@
--- The biases of a bake and the rays that start by them. gi.rs decides every order; each operation is rounded once. Definitions only.
+-- The biases of a bake, by which its rays start. gi.rs decides every order; each operation is rounded once. Definitions only.
 use lib.Ieee as Ieee
 use lib.Ieee.{Float, binary32}
-use Rattle.names.specs.Bits.{lit, half32, inf32}
+use Rattle.names.specs.Bits.{lit, half32}
 use Rattle.floats.specs.Choice.{largerOf}
-use Rattle.vectors.specs.Vectors.{addV, scaleV}
-use Rattle.vectors.specs.declared.Vec3.{Vec3}
-use Rattle.vectors.specs.declared.Ray.{Ray}
 use Rattle.bounce.specs.declared.Biases.{Biases}
 
 -- max(.35·diagonal, 4·1e-4)
@@ -24,12 +21,3 @@ bakeShortest smallest = largerOf (Ieee.mul binary32 smallest (lit 0x3e19999a)) (
 unfoldable pub biasesOf : Float → Float → Biases
 biasesOf diagonal smallest =
     record { primary = primaryBias diagonal; hit = hitBias diagonal; step = Ieee.mul binary32 (hitBias diagonal) half32; shortest = bakeShortest smallest }
-
--- origin + direction·distance
-unfoldable pub pointAt : Vec3 → Vec3 → Float → Vec3
-pointAt origin direction distance = addV origin (scaleV direction distance)
-
--- the ray along a direction that starts `ahead` of a point, from the shortest distance to infinity
-unfoldable pub rayFrom : Vec3 → Vec3 → Float → Float → Ray
-rayFrom point direction ahead shortest =
-    record { origin = pointAt point direction ahead; direction = direction; shortest = shortest; longest = inf32 }

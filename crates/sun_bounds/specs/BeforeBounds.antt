@@ -17,20 +17,19 @@ use Rattle.limits.specs.LimitsLaws.{materials-row}
 use Rattle.names.specs.Passed.{passed}
 use Rattle.marks.specs.Marks.{isMarked}
 use Rattle.scan_laws.specs.TransmittanceLaws.{transmittance-within, one-is-within}
 use Rattle.sun.specs.Sun.{sunBefore, sunRows, sunRefusal}
-use Rattle.sun.specs.SunLaws.{inactive-before, active-before, sun-ready}
+use Rattle.sun.specs.SunLaws.{inactive-before, active-before, sun-numbered, sun-ready}
 
-pub before-within : (axes : Axes) (corners : Corners) (scene : Scene) (direction : Vec3) (active : List ℕ) (lights scratches distances places : ℕ)
-    → sunRefusal axes corners scene direction active lights scratches distances places ≡ 0 → (i : ℕ) → i < voxels axes
+pub before-within : (axes : Axes) (corners : Corners) (scene : Scene) (direction : Vec3) (active : List ℕ) (lightLong scratchLong distancesLong placesLong : ℕ)
+    → sunRefusal axes corners scene direction active lightLong scratchLong distancesLong placesLong ≡ 0 → (i : ℕ) → i < voxels axes
     → upTo one32 (getD (sunBefore axes corners scene direction active) i nan) ≡ true
 unfolding sunRefusal
-before-within axes corners scene direction active lights scratches distances places e i h = by (isMarked active i) refl
+before-within axes corners scene direction active lightLong scratchLong distancesLong placesLong e i h = by (isMarked active i) refl
   where
     by : (b : Bool) → isMarked active i ≡ b → upTo one32 (getD (sunBefore axes corners scene direction active) i nan) ≡ true
     by false f = rw (inactive-before axes corners scene direction active i h f) one-is-within
     by true f =
-        let p = passed (sunRows axes corners scene direction active lights scratches distances places)
-        (omega arith, (omega arith, (omega arith, (omega arith, (omega arith, (omega arith, (omega arith, (omega arith, tt)))))))) e in
+        let p = passed (sunRows axes corners scene direction active lightLong scratchLong distancesLong placesLong) (sun-numbered axes corners scene direction active lightLong scratchLong distancesLong placesLong) e in
         rw (active-before axes corners scene direction active i h f)
-        (transmittance-within scene _ (sun-ready axes corners scene direction active lights scratches distances places e .traceable .scene-fits)
+        (transmittance-within scene _ (sun-ready axes corners scene direction active lightLong scratchLong distancesLong placesLong e .traceable .scene-fits)
         (materials-row _ _ _ .0 (p .1 .1 .1 .1 .1 .0) .1))

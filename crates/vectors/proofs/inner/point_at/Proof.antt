@@ -1,8 +1,8 @@
--- `bounce::inner::point_at` meets its contract: the code is the definition, call for call and operation for operation.
+-- `vectors::inner::point_at` meets its contract: the code is the definition, call for call and operation for operation.
 use borrow.Author.Needs.{needs}
-use Rattle.bounce.specs.Rays.{pointAt}
-use Rattle.bounce.proofs.inner.point_at.Statement.{statement}
-use Rattle.bounce.proofs.inner.point_at.Tie as tie
+use Rattle.vectors.specs.Rays.{pointAt}
+use Rattle.vectors.proofs.inner.point_at.Statement.{statement}
+use Rattle.vectors.proofs.inner.point_at.Tie as tie
 
 scale-requires : tie.Need-scale-requires
 scale-requires c κs = search needs

@@ -1,8 +1,8 @@
--- `bounce::inner::ray_from` meets its contract: the code is the definition, call for call and operation for operation.
+-- `vectors::inner::ray_from` meets its contract: the code is the definition, call for call and operation for operation.
 use borrow.Author.Needs.{needs}
-use Rattle.bounce.specs.Rays.{rayFrom}
-use Rattle.bounce.proofs.inner.ray_from.Statement.{statement}
-use Rattle.bounce.proofs.inner.ray_from.Tie as tie
+use Rattle.vectors.specs.Rays.{rayFrom}
+use Rattle.vectors.proofs.inner.ray_from.Statement.{statement}
+use Rattle.vectors.proofs.inner.ray_from.Tie as tie
 
 point-at-requires : tie.Need-point-at-requires
 point-at-requires c κs = search needs

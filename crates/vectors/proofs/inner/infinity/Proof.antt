@@ -1,8 +1,8 @@
--- `bounce::inner::infinity` meets its contract: the pattern is no NaN's, and the definition's own.
+-- `vectors::inner::infinity` meets its contract: the pattern is no NaN's, and the definition's own.
 use borrow.Author.Needs.{needs}
 use lib.Ieee.{nanBits}
-use Rattle.bounce.proofs.inner.infinity.Statement.{statement}
-use Rattle.bounce.proofs.inner.infinity.Tie as tie
+use Rattle.vectors.proofs.inner.infinity.Statement.{statement}
+use Rattle.vectors.proofs.inner.infinity.Tie as tie
 
 float-from-bits-result : tie.Need-float-from-bits-result
 unfolding nanBits

@@ -1,0 +1,33 @@
+// The rays that a bake and a sun pass make.
+ghost use mathlib.Core.Path.{_≡_};
+ghost use Rattle.names.specs.Bits.{inf32};
+ghost use Rattle.vectors.specs.Rays.{pointAt, rayFrom};
+use super::Ray;
+use super::Vec3;
+
+// The ray along a direction that starts `ahead` of a point, from the shortest distance to infinity.
+pub fn ray_from(point: Vec3, direction: Vec3, ahead: f32, shortest: f32) -> Ray
+    ensures { λ r. ⌜ r ≡ rayFrom point direction ahead shortest ⌝ }
+{
+    let origin = point_at(point, direction, ahead);
+    Ray {
+        origin,
+        direction,
+        shortest,
+        longest: infinity(),
+    }
+}
+
+// The point at a distance along a direction.
+pub fn point_at(origin: Vec3, direction: Vec3, distance: f32) -> Vec3
+    ensures { λ r. ⌜ r ≡ pointAt origin direction distance ⌝ }
+{
+    super::add(origin, super::scale(direction, distance))
+}
+
+// The infinity above every number.
+fn infinity() -> f32
+    ensures { λ r. ⌜ r ≡ inf32 ⌝ }
+{
+    f32::from_bits(0x7f800000)
+}
