@@ -11,7 +11,7 @@ use Rattle.vectors.specs.Vectors.{vec, dotV}
 use Rattle.grid.specs.declared.Corners.{Corners}
 use Rattle.grid.specs.Grid.{edgesOf}
 use Rattle.limits.specs.Some.{some}
-use Rattle.limits.specs.Limits.{within, upTo, outsideV, badAxes, badCorners, badEdges, badGrid, wrongShare, tooMany, badKinds, badFrom, badUses, badMaterials, badDirection, badRay, badMask}
+use Rattle.limits.specs.Limits.{within, upTo, outsideV, badAxes, badCorners, badEdges, badGrid, wrongShare, tooMany, badPoints, badKinds, badFrom, badUses, badMaterials, badDirection, badRay, pastCount, badPosition, pastGrid, badMask}
 
 -- ±4,096 pass and the next floats do not; −0 passes; NaN and the infinities do not
 pub points : map (λ (bits : ℕ). within pointLimit (lit bits)) (0x45800000 ∷ 0xc5800000 ∷ 0x80000000 ∷ 0x45800001 ∷ 0xc5800001 ∷ 0x7fc00000 ∷ 0x7f800000 ∷ 0xff800000 ∷ [])
@@ -56,6 +56,11 @@ pub counts : tooMany 4096 256 ∷ tooMany 4097 256 ∷ tooMany 4096 257 ∷ tooM
 unfolding tooMany
 counts = refl
 
+-- 5: the third number of a point is 4,096, the next float, and NaN
+pub point-figures : map (λ (x : ℕ). badPoints (zero32 ∷ zero32 ∷ lit x ∷ [])) (0x45800000 ∷ 0x45800001 ∷ 0x7fc00000 ∷ []) ≡ false ∷ true ∷ true ∷ []
+unfolding badPoints some within ofBits neg lt le eq
+point-figures = refl
+
 -- 6: a good material; a kind of 2; a use past the list; a use where there is no material; the transmission just above 1; a colour just above 65,536
 abbrev material : ℕ → ℕ → List Float
 material colour transmission = lit colour ∷ zero32 ∷ zero32 ∷ zero32 ∷ zero32 ∷ zero32 ∷ lit transmission ∷ []
@@ -92,6 +97,18 @@ pub rays : badRay (ray 0 0x7f800000)
     ≡ false ∷ false ∷ false ∷ true ∷ true ∷ true ∷ []
 unfolding badRay outsideV within upTo ofBits neg lt le eq isNan
 rays = refl
+
+-- 9: progress at the count of three voxels, and one above it
+pub progress-figures : map (λ (p : ℕ). pastCount p 3) (0 ∷ 3 ∷ 4 ∷ []) ≡ false ∷ false ∷ true ∷ []
+progress-figures = refl
+
+-- 11: a position of 4,096, of the float below −4,096, and of infinity; and the last of three voxels, and the one past it
+pub position-figures : map (λ (x : ℕ). badPosition (vec zero32 (lit x) zero32)) (0x45800000 ∷ 0xc5800001 ∷ 0x7f800000 ∷ []) ≡ false ∷ true ∷ true ∷ []
+unfolding outsideV within ofBits neg lt le eq
+position-figures = refl
+
+pub index-figures : map (λ (i : ℕ). pastGrid i 3) (2 ∷ 3 ∷ []) ≡ false ∷ true ∷ []
+index-figures = refl
 
 -- 13: 0 and 1, and nothing else
 pub masks : map (λ (n : ℕ). badMask (0 ∷ 1 ∷ n ∷ [])) (0 ∷ 1 ∷ 2 ∷ 255 ∷ []) ≡ false ∷ false ∷ true ∷ true ∷ []

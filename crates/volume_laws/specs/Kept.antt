@@ -1,7 +1,7 @@
 -- A file of kinds 1 to 5 that is accepted is what the writer writes of what it holds: part by part the bytes are those that stand
 -- there already.
 use mathlib.Core.Path.{_≡_, refl, sym, ap, _∙_}
-use mathlib.Core.Bool.{Bool, true, false, not, _&&_, false≢true}
+use mathlib.Core.Bool.{Bool, true, false, not, and-eq-true-iff}
 use mathlib.Core.List.{List, [], _∷_, _++_}
 use Prim.Native.Nat.{ℕ, zero, suc, _+_, _-_, _*_, _<_, _≤_}
 use native.Mathlib.Nat.{add-zero, zero-add}
@@ -12,7 +12,8 @@ use lib.ListN.{length, getD, take, drop}
 use lib.Seq.{take-add, drop-drop, take-all, drop-cons}
 use lib.Ieee as Ieee
 use lib.Ieee.Scale.{finite}
-use lib.Ieee.{Float, nan, inf, fin, isNan}
+use lib.Ieee.{Float, nan, isNan}
+use Rattle.floats.specs.FiniteLaws.{finite-number}
 use Rattle.names.specs.Numbers.{lightLimit, coefficientLimit, pointLimit}
 use Rattle.lists.specs.Fold.{tab, length-tab, getD-tab}
 use Rattle.grid.specs.Grid.{voxels}
@@ -49,16 +50,12 @@ four-at s k h l =
 
 -- ---- the head
 
-and-out : (a b : Bool) → a && b ≡ true → (a ≡ true) × (b ≡ true)
-and-out true b e = (refl, e)
-and-out false b e = absurd (false≢true e)
-
 mark-at : (s : List ℕ) → 4 ≤ length s → marked s ≡ true → mark ≡ bytesAt s 0 4
 unfolding marked
 mark-at s l e =
-    let p = and-out _ (eqb (getD s 3 0) 68) e in
-    let q = and-out _ (eqb (getD s 2 0) 82) (p .0) in
-    let r = and-out (eqb (getD s 0 0) 86) (eqb (getD s 1 0) 71) (q .0) in
+    let p = and-eq-true-iff _ (eqb (getD s 3 0) 68) .0 e in
+    let q = and-eq-true-iff _ (eqb (getD s 2 0) 82) .0 (p .0) in
+    let r = and-eq-true-iff (eqb (getD s 0 0) 86) (eqb (getD s 1 0) 71) .0 (q .0) in
     let m₀ : getD s 0 0 ≡ 86 = eqb-true (getD s 0 0) 86 (r .0) in
     let m₁ : getD s 1 0 ≡ 71 = eqb-true (getD s 1 0) 71 (r .1) in
     let m₂ : getD s 2 0 ≡ 82 = eqb-true (getD s 2 0) 82 (q .1) in
@@ -111,12 +108,6 @@ contents-at s n h l e d =
     e₄ refl
 
 -- ---- the bodies
-
-finite-number : (x : Float) → finite x ≡ true → isNan x ≡ false
-unfolding isNan
-finite-number nan h = absurd (false≢true h)
-finite-number (inf s) h = absurd (false≢true h)
-finite-number (fin s m e) h = refl
 
 light-finite : finite lightLimit ≡ true
 unfolding Ieee.ofBits
