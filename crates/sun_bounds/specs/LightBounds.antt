@@ -1,6 +1,6 @@
 -- What an accepted sun pass writes is never refused as light: before the blur each number lies from 0 to 1, and after it within ±1.
 use mathlib.Core.Path.{_≡_, refl}
-use mathlib.Core.Bool.{Bool, true, false, cond, _&&_, false≢true}
+use mathlib.Core.Bool.{Bool, true, false, cond, and-eq-true-iff}
 use mathlib.Core.List.{List}
 use Prim.Native.Nat.{ℕ, _<_}
 use native.Mathlib.Omega.{arith}
@@ -31,15 +31,11 @@ below-zero : le (neg one32) zero32 ≡ true
 unfolding le lt eq neg ofBits
 below-zero = refl
 
-and-both : (a b : Bool) → a && b ≡ true → (a ≡ true) × (b ≡ true)
-and-both true b h = (refl, h)
-and-both false b h = absurd (false≢true h)
-
 -- from 0 to 1, so within ±1
 unit-at-most : (x : Float) → upTo one32 x ≡ true → AtMost 1 0 x
 unfolding upTo
 unit-at-most x h =
-    let p = and-both (le zero32 x) (le x one32) h in
+    let p = and-eq-true-iff (le zero32 x) (le x one32) .0 h in
     at-most-of-test x one32 1 0 one-value (le-transitive (neg one32) zero32 x below-zero (p .0)) (p .1)
 
 -- within ±1, so within the light's limit
