@@ -1,6 +1,7 @@
 //! The commands. Everything that can be wrong with their words or files is said in one line and ends with status 2.
 use crate::gi;
 use crate::items::{self, Item, MODULES};
+use crate::records::Record;
 use crate::scene::recorded_bits;
 use crate::watch;
 use crate::worlds::{world, FAMILIES};
@@ -15,10 +16,11 @@ const USAGE: &str = "usage: oracle COMMAND ..
   scene SEED                    the seeded scene, as text
   answer FILE                   every answer for a scene of that text ('-': standard input)
   rays FILE                     every ray that the sun pass and the bake fire, one a line
-  coverage COUNT                runs seeds 0..COUNT through every module; fails where a branch is never reached
+  coverage COUNT                runs seeds 0..COUNT through every module; fails where a branch is never reached or a scene is refused
   stream MODULE FIRST COUNT     the records of seeds FIRST.. for a module's program, on standard output
   bad MODULE FIRST COUNT        the same for bad inputs
-  record FOLDER                 writes each module's recorded answers to FOLDER/replay_MODULE/stdin
+  record FOLDER                 writes each module's recorded answers to FOLDER/replay_MODULE/stdin, and to stdout beside it
+                                how many records and comparisons its program then says
   compare FOLDER                makes them again and compares
   count FIRST COUNT             how many scenes, triangles and rays those seeds hold
   time SEED                     bakes a seeded scene and says how fast
@@ -135,15 +137,28 @@ fn directions() -> Result<bool, String> {
     Ok(other == 0)
 }
 
+/// Every seeded scene is inside the limits, and together they reach every branch that can be reached.
 fn coverage(count: u64) -> Result<bool, String> {
+    let mut good = true;
     for seed in 0..count {
         for name in MODULES {
-            for item in items::good(name, seed) {
-                item.bytes();
+            for (place, item) in items::good(name, seed).iter().enumerate() {
+                good &= accepted(&item.record(), &format!("{name}: record {place} of seed {seed}"))?;
             }
         }
     }
-    report()
+    Ok(good & report()?)
+}
+
+/// Whether no answer of a record is a refusal; says which is.
+fn accepted(record: &Record, what: &str) -> Result<bool, String> {
+    match record.refusals.iter().find(|r| **r != 0) {
+        Some(number) => {
+            say(&format!("{what}: REFUSED {number}, though inside the limits\n"))?;
+            Ok(false)
+        }
+        None => Ok(true),
+    }
 }
 
 /// Prints how often each branch was taken; false where a reachable one never was, or an unreachable one was.
@@ -161,8 +176,8 @@ fn report() -> Result<bool, String> {
     Ok(good)
 }
 
-/// The recorded answers: which seeds each module's program replays.
-fn recorded(name: &str) -> Vec<Item> {
+/// The recorded answers: which seeds each module's program replays. First those inside the limits, then the bad inputs.
+fn recorded(name: &str) -> (Vec<Item>, Vec<Item>) {
     let (seeds, bases): (u64, u64) = match name {
         "rays" => (60, 2),
         "masks" => (100, 3),
@@ -187,30 +202,42 @@ fn recorded(name: &str) -> Vec<Item> {
     for &seed in faint {
         out.extend(items::good(name, seed));
     }
-    for seed in 0..bases {
-        out.extend(items::bad(name, seed, true, 40));
-    }
-    out
+    let bad = (0..bases).flat_map(|seed| items::bad(name, seed, true, 40)).collect();
+    (out, bad)
 }
 
-/// Writes or compares each module's records.
+/// Writes or compares each module's records and what its program says of them.
 fn record(folder: &str, compare: bool) -> Result<bool, String> {
     let mut good = true;
     for name in MODULES {
-        let path = format!("{folder}/replay_{name}/stdin");
-        let items = recorded(name);
-        let bytes: Vec<u8> = items.iter().flat_map(Item::bytes).collect();
-        if compare {
-            let held = fs::read(&path).map_err(|e| format!("{path}: {e}"))?;
-            let same = held == bytes;
-            good &= same;
-            say(&format!("{path}: {} records, {} bytes, {}\n", items.len(), bytes.len(), if same { "the same" } else { "DIFFERENT" }))?;
-        } else {
-            let parent = format!("{folder}/replay_{name}");
-            fs::create_dir_all(&parent).map_err(|e| format!("{parent}: {e}"))?;
-            fs::write(&path, &bytes).map_err(|e| format!("{path}: {e}"))?;
-            say(&format!("{path}: {} records, {} bytes\n", items.len(), bytes.len()))?;
+        let parent = format!("{folder}/replay_{name}");
+        let (inside, bad) = recorded(name);
+        let (mut bytes, mut comparisons) = (Vec::new(), 0);
+        for (place, item) in inside.iter().chain(&bad).enumerate() {
+            let record = item.record();
+            if place < inside.len() {
+                good &= accepted(&record, &format!("{name}: record {place}"))?;
+            }
+            bytes.extend(record.bytes);
+            comparisons += record.comparisons;
         }
+        let said = format!("{} records, {comparisons} comparisons, all the same\n", inside.len() + bad.len());
+        if !compare {
+            fs::create_dir_all(&parent).map_err(|e| format!("{parent}: {e}"))?;
+        }
+        for (file, made) in [("stdin", &bytes[..]), ("stdout", said.as_bytes())] {
+            let path = format!("{parent}/{file}");
+            let mut verdict = "";
+            if compare {
+                let held = fs::read(&path).map_err(|e| format!("{path}: {e}"))?;
+                verdict = if held == made { ", the same" } else { ", DIFFERENT" };
+                good &= held == made;
+            } else {
+                fs::write(&path, made).map_err(|e| format!("{path}: {e}"))?;
+            }
+            say(&format!("{path}: {} bytes{verdict}\n", made.len()))?;
+        }
+        say(&format!("  {said}"))?;
     }
     Ok(good & report()?)
 }

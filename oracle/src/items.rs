@@ -3,8 +3,7 @@ use crate::answers::{baked, sunned};
 use crate::bad;
 use crate::calls::{Bake, Call, Grid, Lists, Ray, Scratch};
 use crate::chance::Chance;
-use crate::records;
-use crate::table;
+use crate::records::{self, Record};
 use crate::worlds::{self, voxels, World};
 
 #[derive(Clone, Debug)]
@@ -18,15 +17,19 @@ pub enum Item {
 }
 
 impl Item {
-    pub fn bytes(&self) -> Vec<u8> {
+    pub fn record(&self) -> Record {
         match self {
             Item::One(call) => records::record(call),
             Item::Rays { lists, hits, asked } => records::rays(lists, hits, asked),
             Item::LightLookups { grid, light, positions } => records::light_lookups(grid, light, positions),
             Item::CoefficientLookups { grid, volume, positions } => records::coefficient_lookups(grid, volume, positions),
-            Item::Bakes { bake, calls } => records::bakes(bake, calls).0,
+            Item::Bakes { bake, calls } => records::bakes(bake, calls),
             Item::Fired(bake) => records::fired(bake),
         }
+    }
+
+    pub fn bytes(&self) -> Vec<u8> {
+        self.record().bytes
     }
 }
 
@@ -52,13 +55,6 @@ pub fn good(module: &str, seed: u64) -> Vec<Item> {
             let light = lit(c, &world);
             let mut bake = worlds::bake(c, &world, light);
             bake.active = few(c, &bake.active);
-            // no ray reads the light list; a bake that is refused fires none
-            if table::refusal(&Call::Bake(Box::new(bake.clone()))) == 13 {
-                bake.light.fill(1.0);
-            }
-            if table::refusal(&Call::Bake(Box::new(bake.clone()))) != 0 {
-                return vec![];
-            }
             vec![Item::Fired(Box::new(bake))]
         }
         _ => vec![],
@@ -92,15 +88,145 @@ pub fn module_of(call: &Call) -> &'static str {
     }
 }
 
-/// Records made for slips that a seeded scene seldom shows.
+/// Records made for slips that a seeded scene seldom shows. They are as small as the slip lets them be.
 pub fn made(module: &str) -> Vec<Item> {
     let mut chance = Chance::new(0x5117);
     let c = &mut chance;
     match module {
-        "rays" => (0..12).map(|k| stack(c, k % 3 == 0)).collect(),
-        "masks" => (0..48).map(|k| on_the_planes(c, k)).collect(),
+        "rays" => {
+            let mut out: Vec<Item> = (0..12).map(|k| stack(c, k % 3 == 0)).collect();
+            out.extend(at_the_bounds());
+            out
+        }
+        "masks" => {
+            let mut out: Vec<Item> = (0..48).map(|k| on_the_planes(c, k)).collect();
+            out.extend((0..8).map(|k| at_a_square(c, 1 + k % 4)));
+            out
+        }
+        // the C library's powf(x, 2.0) is not x*x here
+        "blurs" => vec![Item::One(Call::LightBlur { axes: [1, 1, 1], light: vec![f32::from_bits(0x3e80_0800)], scratch: vec![0.0] })],
+        "sun" => [0.0, 5.0e-5, 1.0e-4, 2.0e-4].map(just_past_the_start).to_vec(),
+        "bake" => {
+            let mut out: Vec<Item> = (0..6).map(|_| whole(floored(c))).collect();
+            out.extend((0..3).map(|k| whole(faintly_lit(c, k))));
+            out
+        }
         _ => vec![],
     }
+}
+
+/// A bake in one call.
+fn whole(bake: Bake) -> Item {
+    Item::Bakes { bake: Box::new(bake), calls: vec![(0, u64::MAX)] }
+}
+
+/// Single triangles about the two bounds of the test: |det| at 1e-8 and the cross's squared length at 1e-12, each with the floats next to it.
+fn at_the_bounds() -> Vec<Item> {
+    let one = |points: [f32; 9], origin: [f32; 3], direction: [f32; 3]| {
+        Item::One(Call::Triangle { points, ray: Ray { origin, direction, shortest: 0.0, longest: f32::INFINITY } })
+    };
+    let mut out = Vec::new();
+    for d in [1.0e-8f32.next_down(), 1.0e-8, 1.0e-8f32.next_up()] {
+        for side in [1.0, -1.0] {
+            // det is d or -d
+            out.push(one([0.0, 0.0, 0.0, 1.0, 0.0, 0.0, 0.0, 1.0, 0.0], [0.25, 0.25, side], [0.0, 0.0, -side * d]));
+        }
+    }
+    // a small triangle: its det is small against 1e-8 and not against its own edges
+    let leg = 1.0 / 64.0;
+    out.push(one([0.0, 0.0, 0.0, leg, 0.0, 0.0, 0.0, leg, 0.0], [leg / 4.0, leg / 4.0, 1.0], [0.0, 0.0, -1.0e-5]));
+    // the cross is (0, -a, b) with a*a + b*b as the bound, or next to it
+    let bound = 1.0e-12f32;
+    for square in [bound.next_down(), bound, bound.next_up()] {
+        let mut b = 1.0e-6f32;
+        while b * b >= bound.next_down() {
+            b = b.next_down();
+        }
+        let a = (1..100_000).map(|k| k as f32 * 1.0e-12).find(|a| a * a + b * b == square);
+        let a = a.expect("a square that makes up the rest");
+        out.push(one([0.0, 0.0, 0.0, 1.0, 0.0, 0.0, 0.0, b, a], [0.25, b * 0.25, 1.0], [0.0, 0.0, -1.0]));
+    }
+    out
+}
+
+/// A triangle whose target of samples is the square of `n` if the area is divided by the edge's square, and not if it is divided by the
+/// edge twice, or the other way round; its samples for n lie in other cells than those for n+1.
+fn at_a_square(c: &mut Chance, n: usize) -> Item {
+    loop {
+        let (least, edge) = (c.between(-2.0, 2.0), c.between(0.1, 1.5));
+        let grid = Grid { axes: [6, 6, 1], corners: [least, least, least, least + 6.0 * edge, least + 6.0 * edge, least + 2.0 * edge] };
+        let own = (grid.corners[3] - grid.corners[0]) / 6.0;
+        let (leg, from) = (n as f32 * own, least + own * 0.5);
+        let (x, z) = (from + leg, least + edge);
+        let points = vec![from, from, z, x, from, z, from, x, z];
+        let area = 0.5 * ((x - from) * (x - from));
+        let steps = |samples: f32| (samples.ceil()).sqrt().ceil();
+        if steps((area / (own * own)) * 2.0) != steps((area / own / own) * 2.0) {
+            let cells = voxels(&grid);
+            return Item::One(Call::Masks { grid, points, occupied: vec![5; cells], active: vec![6; cells] });
+        }
+    }
+}
+
+/// One voxel whose ray to the sun meets a sheet `past` its start.
+fn just_past_the_start(past: f32) -> Item {
+    let grid = Grid { axes: [1, 1, 1], corners: [0.0, 0.0, 0.0, 1.0, 1.0, 1.0] };
+    let z = 0.5 + 3.0f32.sqrt() * 3.0 + past;
+    let lists = Lists {
+        points: vec![-4.0, -4.0, z, 8.0, -4.0, z, -4.0, 8.0, z],
+        uses: vec![0],
+        kinds: vec![1],
+        numbers: vec![0.5, 0.5, 0.5, 0.0, 0.0, 0.0, 0.7],
+    };
+    let hits = Scratch { distances: vec![0.0], places: vec![0] };
+    Item::One(Call::Sun { grid, lists, direction: [0.0, 0.0, 1.0], active: vec![1], light: vec![0.5], scratch: vec![0.25], hits })
+}
+
+/// A voxel of a 1x1x1 grid over lists that are given, under a sky of one colour.
+fn single(lists: Lists, sunlight: [f32; 6], ambient: [f32; 12], sky: [f32; 3]) -> Bake {
+    let hits = Scratch { distances: vec![0.0; lists.uses.len()], places: vec![0; lists.uses.len()] };
+    Bake {
+        grid: Grid { axes: [1, 1, 1], corners: [0.0, 0.0, 0.0, 1.0, 1.0, 1.0] },
+        lists,
+        sunlight,
+        ambient,
+        sky: (0..1728).map(|i| sky[i % 3]).collect(),
+        active: vec![1],
+        light: vec![0.5],
+        volume: vec![0.0; 16],
+        scratch: vec![0.0; 16],
+        hits,
+        progress: 0,
+        allowance: u64::MAX,
+    }
+}
+
+/// A dim sky under a bright ambient: the brightness floor takes a part of the way, towards coefficients of either sign.
+fn floored(c: &mut Chance) -> Bake {
+    let ambient = [0; 12].map(|_| c.between(-300.0, 300.0));
+    let mut ambient: [f32; 12] = ambient;
+    for x in &mut ambient[..3] {
+        *x = c.between(100.0, 1000.0);
+    }
+    // the sky's first coefficient comes to its colour times about pi
+    let sky = [0, 1, 2].map(|i| ambient[i] * 0.005 * c.between(0.1, 0.8) / 3.2);
+    single(Lists::default(), [0.0, 0.0, 1.0, 1.0, 1.0, 1.0], ambient, sky)
+}
+
+/// A surface whose ambient has no squared length, though it has components, and whose own light is about as faint.
+fn faintly_lit(c: &mut Chance, k: usize) -> Bake {
+    let (x, z) = (c.between(6.0, 9.0), c.between(-3.0, -2.0));
+    let lists = Lists {
+        points: vec![-x, -x, z, 3.0 * x, -x, z, -x, 3.0 * x, z],
+        uses: vec![0],
+        kinds: vec![0],
+        numbers: vec![1.0, 0.5, 1.0, 4.0e-23, 6.0e-23, c.between(3.0, 9.0) * 1.0e-23, 0.0],
+    };
+    let mut ambient = [0.0; 12];
+    let faint = c.between(1.0, 2.0) * 1.0e-23;
+    ambient[k] = faint;
+    ambient[(k + 1) % 3] = faint;
+    single(lists, [0.0, 0.0, -1.0, 1.0, 1.0, 1.0], ambient, [0.0, 0.0, 0.0])
 }
 
 /// Translucent sheets in no order of place, some of them at one distance: the order of the product shows in its last bits.

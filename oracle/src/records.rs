@@ -3,13 +3,26 @@
 //! A list is: its length, the length k of a pattern, the pattern's k words (entry i is word i mod k), the count of exceptions, and for
 //! each its place and its word. A list of u64 has two words an entry, low first, and its length counts words. The first word of a
 //! record is its kind; then stand the numbers passed by value, the lists in the order of the call's arguments, and the answer.
+//!
+//! Beside its bytes a record says how many comparisons its program makes of it, counted here from what was recorded: one that the lists fit
+//! (not for a triangle, which has none), one for each word or group of words held to the answer, one for each list, and one where hit scratch
+//! must stand as it was.
 use crate::answers::{self, bake_call, baked, bake_answer};
 use crate::calls::{bits, bytes, halves, Answer, Bake, Call, Grid, Lists, Ray, Scratch};
 use crate::table;
 
+/// A record, led by its length; the comparisons that its program makes of it; and the refusals among its answers, 0 for none.
+pub struct Record {
+    pub bytes: Vec<u8>,
+    pub comparisons: u64,
+    pub refusals: Vec<u32>,
+}
+
 #[derive(Default)]
-pub struct Writer {
-    pub words: Vec<u32>,
+struct Writer {
+    words: Vec<u32>,
+    comparisons: u64,
+    refusals: Vec<u32>,
 }
 
 impl Writer {
@@ -25,7 +38,7 @@ impl Writer {
         self.words.extend(bits(l));
     }
 
-    pub fn list(&mut self, l: &[u32]) {
+    fn list(&mut self, l: &[u32]) {
         let n = l.len();
         let mut best: (usize, usize) = (n + 3, n);
         for k in [1, 2, 3, 7, 9, 16, 18, 192] {
@@ -84,13 +97,18 @@ impl Writer {
         }
     }
 
-    /// The record's bytes: length first.
-    pub fn bytes(&self) -> Vec<u8> {
-        let mut out = (4 * self.words.len() as u32).to_le_bytes().to_vec();
+    /// An answer that is held to the record by so many comparisons.
+    fn held(&mut self, comparisons: u64, refusal: u32) {
+        self.comparisons += comparisons;
+        self.refusals.push(refusal);
+    }
+
+    fn record(self) -> Record {
+        let mut bytes = (4 * self.words.len() as u32).to_le_bytes().to_vec();
         for w in &self.words {
-            out.extend(w.to_le_bytes());
+            bytes.extend(w.to_le_bytes());
         }
-        out
+        Record { bytes, comparisons: self.comparisons, refusals: self.refusals }
     }
 }
 
@@ -107,18 +125,18 @@ pub const PART: u32 = 10;
 pub const FIRED: u32 = 11;
 
 /// A record of one call and the oracle's answer.
-pub fn record(call: &Call) -> Vec<u8> {
+pub fn record(call: &Call) -> Record {
     match call {
         Call::Nearest { lists, ray } => rays(lists, &Scratch::default(), &[(false, *ray)]),
         Call::Transmittance { lists, ray, hits } => rays(lists, hits, &[(true, *ray)]),
         Call::LightLookup { grid, light, position } => light_lookups(grid, light, &[*position]),
         Call::CoefficientLookup { grid, volume, position } => coefficient_lookups(grid, volume, &[*position]),
-        Call::Bake(bake) => bakes(bake, &[(bake.progress, bake.allowance)]).0,
+        Call::Bake(bake) => bakes(bake, &[(bake.progress, bake.allowance)]),
         _ => plain(call),
     }
 }
 
-fn plain(call: &Call) -> Vec<u8> {
+fn plain(call: &Call) -> Record {
     let mut w = Writer::default();
     let answer = answers::answer(call);
     match call {
@@ -170,16 +188,25 @@ fn plain(call: &Call) -> Vec<u8> {
     // hit scratch that must stand as it was is in the record already
     let keep = Answer { words: answer.words.clone(), lists: answer.lists[..answer.lists.len().min(2)].to_vec() };
     w.answer(&keep);
-    w.bytes()
+    let comparisons = match call {
+        Call::Triangle { .. } => 1,
+        Call::Masks { .. } => 6,
+        Call::Sun { .. } => 5 + (answer.lists.len() > 2) as u64,
+        Call::Part { .. } => 3,
+        _ => 4,
+    };
+    w.held(comparisons, answer.words[0]);
+    w.record()
 }
 
 /// Rays over one scene: each the nearest hit (false) or the transmittance (true).
-pub fn rays(lists: &Lists, hits: &Scratch, asked: &[(bool, Ray)]) -> Vec<u8> {
+pub fn rays(lists: &Lists, hits: &Scratch, asked: &[(bool, Ray)]) -> Record {
     let mut w = Writer::default();
     w.word(RAYS);
     w.lists(lists);
     w.hits(hits);
     w.word(asked.len() as u32);
+    w.comparisons = 1;
     for (through, ray) in asked {
         w.word(*through as u32);
         w.ray(ray);
@@ -190,35 +217,42 @@ pub fn rays(lists: &Lists, hits: &Scratch, asked: &[(bool, Ray)]) -> Vec<u8> {
         };
         let mut words = answers::answer(&call).words;
         words.resize(6, 0);
+        w.held(1 + (*through && words[0] != 0) as u64, words[0]);
         w.words.extend(words);
     }
-    w.bytes()
+    w.record()
 }
 
-pub fn light_lookups(grid: &Grid, light: &[f32], positions: &[[f32; 3]]) -> Vec<u8> {
+pub fn light_lookups(grid: &Grid, light: &[f32], positions: &[[f32; 3]]) -> Record {
     let mut w = Writer::default();
     w.word(LIGHT_LOOKUP);
     w.grid(grid);
     w.list(&bits(light));
     w.word(positions.len() as u32);
+    w.comparisons = 1;
     for p in positions {
         w.floats(p);
-        w.answer(&answers::answer(&Call::LightLookup { grid: *grid, light: light.to_vec(), position: *p }));
+        let answer = answers::answer(&Call::LightLookup { grid: *grid, light: light.to_vec(), position: *p });
+        w.held(1, answer.words[0]);
+        w.answer(&answer);
     }
-    w.bytes()
+    w.record()
 }
 
-pub fn coefficient_lookups(grid: &Grid, volume: &[f32], positions: &[[f32; 3]]) -> Vec<u8> {
+pub fn coefficient_lookups(grid: &Grid, volume: &[f32], positions: &[[f32; 3]]) -> Record {
     let mut w = Writer::default();
     w.word(COEFFICIENT_LOOKUP);
     w.grid(grid);
     w.list(&bits(volume));
     w.word(positions.len() as u32);
+    w.comparisons = 1;
     for p in positions {
         w.floats(p);
-        w.answer(&answers::answer(&Call::CoefficientLookup { grid: *grid, volume: volume.to_vec(), position: *p }));
+        let answer = answers::answer(&Call::CoefficientLookup { grid: *grid, volume: volume.to_vec(), position: *p });
+        w.held(1, answer.words[0]);
+        w.answer(&answer);
     }
-    w.bytes()
+    w.record()
 }
 
 fn bake_arguments(w: &mut Writer, b: &Bake) {
@@ -234,15 +268,15 @@ fn bake_arguments(w: &mut Writer, b: &Bake) {
     w.hits(&b.hits);
 }
 
-/// Calls of the bake one after another over the same lists: each with its progress and allowance. Answers the record and the last progress.
-pub fn bakes(bake: &Bake, calls: &[(u64, u64)]) -> (Vec<u8>, u64) {
+/// Calls of the bake one after another over the same lists: each with its progress and allowance.
+pub fn bakes(bake: &Bake, calls: &[(u64, u64)]) -> Record {
     let mut w = Writer::default();
     w.word(BAKE);
     bake_arguments(&mut w, bake);
     w.word(calls.len() as u32);
+    w.comparisons = 1;
     let mut now = bake.clone();
     let mut figures = None;
-    let mut last = bake.progress;
     for (progress, allowance) in calls {
         now.progress = *progress;
         now.allowance = *allowance;
@@ -257,14 +291,14 @@ pub fn bakes(bake: &Bake, calls: &[(u64, u64)]) -> (Vec<u8>, u64) {
         w.wide(*allowance);
         let answer = bake_answer(&now, refusal, next, rays);
         w.word((answer.lists.len() > 2) as u32);
+        w.held(5 + (answer.lists.len() > 2) as u64, refusal);
         w.answer(&Answer { words: answer.words, lists: answer.lists[..2].to_vec() });
-        last = next;
     }
-    (w.bytes(), last)
+    w.record()
 }
 
 /// A bake in one call from progress 0 and every ray it fires: kind, origin, direction, shortest and longest.
-pub fn fired(bake: &Bake) -> Vec<u8> {
+pub fn fired(bake: &Bake) -> Record {
     let mut w = Writer::default();
     w.word(FIRED);
     bake_arguments(&mut w, bake);
@@ -275,5 +309,7 @@ pub fn fired(bake: &Bake) -> Vec<u8> {
         w.word(ray.kind);
         w.floats(&[ray.origin.x, ray.origin.y, ray.origin.z, ray.direction.x, ray.direction.y, ray.direction.z, ray.shortest, ray.longest]);
     }
-    w.bytes()
+    // the bake's own count, each ray, and their number
+    w.held(3 + figures.rays.len() as u64, table::refusal(&Call::Bake(Box::new(bake.clone()))));
+    w.record()
 }

@@ -353,7 +353,7 @@ pub fn family(which: usize, seed: u64) -> World {
         }
         "degenerate on both sides of absent" => {
             let axes = small(c);
-            let fine = c.pick(&[0.001, 0.002, 0.01, 1.0]);
+            let fine = c.pick(&[0.0014, 0.002, 0.01, 1.0]);
             grid = sized(c, axes, fine, 0.0);
             scatter(c, &grid, &mut lists, count);
             for _ in 0..count {
@@ -496,7 +496,7 @@ pub fn ray(c: &mut Chance, world: &World) -> Ray {
         let target = [0, 1, 2].map(|i| p[i] * (1.0 - a - b) + p[3 + i] * a + p[6 + i] * b);
         d = [0, 1, 2].map(|i| target[i] - origin[i]);
         let most = d.iter().fold(0.0f32, |m, x| m.max(x.abs()));
-        if most > 0.0 {
+        if most >= f32::MIN_POSITIVE {
             let scale = c.pick(&[1.0, 2.0, 0.5]) / most;
             d = d.map(|x| (x * scale).clamp(-2.0, 2.0));
         }
@@ -543,7 +543,7 @@ pub fn light_list(c: &mut Chance, n: usize) -> Vec<f32> {
         .map(|_| match kind {
             0 => c.pick(&[0.0, -0.0, 1.0]),
             1 => c.unit(),
-            2 => c.pick(&[-0.0, 0.5, -3.0, 1e-40, 1e30, -1e30, 18446744073709551616.0, -18446744073709551616.0]),
+            2 => c.pick(&[-0.0, 0.5, -3.0, 1e-40, 1e19, -1e19, 18446744073709551616.0, -18446744073709551616.0]),
             3 => c.between(-2.0, 2.0),
             _ => -0.0,
         })
