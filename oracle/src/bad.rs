@@ -502,11 +502,26 @@ fn applied(base: &Call, changes: &[&Change]) -> Bad {
     Bad { what, call }
 }
 
-/// Every single change of a base, and `several` random sets of two to four.
+/// Every single change of a base; for every two numbers that it can be refused with one call that earns both, of which the lower is given;
+/// and `several` random sets of two to four.
 pub fn of(c: &mut Chance, base: &Call, few: bool, several: usize) -> Vec<Bad> {
     assert!(table::refusal(base) == 0, "a base is good: {}", table::refusal(base));
     let all = changes(base, few);
     let mut out: Vec<Bad> = all.iter().map(|change| applied(base, &[change])).collect();
+    let one_of = |c: &mut Chance, number: u32| {
+        let fit: Vec<&Change> = all.iter().filter(|change| change.number == Some(number) && !change.name.contains("triangles")).collect();
+        fit.get(c.below(fit.len().max(1))).copied()
+    };
+    for low in 1..14 {
+        for high in low + 1..14 {
+            if let (Some(a), Some(b)) = (one_of(c, low), one_of(c, high)) {
+                let both = applied(base, &[a, b]);
+                let number = table::refusal(&both.call);
+                assert!(number == low, "{} gives {number}, meant was {low}", both.what);
+                out.push(both);
+            }
+        }
+    }
     for _ in 0..several {
         let set: Vec<&Change> = (0..c.from(2, 4)).map(|_| &all[c.below(all.len())]).collect();
         // thousands of triangles are tried alone

@@ -7,6 +7,7 @@ use crate::watch;
 use crate::worlds::{world, FAMILIES};
 use std::fs;
 use std::io::{self, Write};
+use std::ops::Range;
 use std::process::ExitCode;
 use std::time::Instant;
 
@@ -19,6 +20,7 @@ const USAGE: &str = "usage: oracle COMMAND ..
   coverage COUNT                runs seeds 0..COUNT through every module; fails where a branch is never reached or a scene is refused
   stream MODULE FIRST COUNT     the records of seeds FIRST.. for a module's program, on standard output
   bad MODULE FIRST COUNT        the same for bad inputs
+  every MODULE SEED [PLACE]     the same for bad inputs with each number broken at every place of its list; PLACE: what that one record holds
   record FOLDER                 writes each module's recorded answers to FOLDER/replay_MODULE/stdin, and to stdout beside it
                                 how many records and comparisons its program then says
   compare FOLDER                makes them again and compares
@@ -27,6 +29,10 @@ const USAGE: &str = "usage: oracle COMMAND ..
   one MODULE SEED PLACE         a single record of a stream, by its place, with what it holds as text
   shrink MODULE SEED PLACE CMD..  the smallest record that CMD still answers otherwise than the oracle
 MODULE is rays, masks, blurs, sun, bake, lookup or fired.";
+
+const COMMANDS: [&str; 15] = [
+    "directions", "families", "scene", "answer", "rays", "coverage", "stream", "bad", "every", "record", "compare", "count", "time", "one", "shrink",
+];
 
 pub fn main() -> ExitCode {
     let words: Vec<String> = std::env::args().skip(1).collect();
@@ -39,7 +45,8 @@ pub fn main() -> ExitCode {
             }
         }
         Err(text) => {
-            eprintln!("oracle: {text}");
+            // whoever closes standard error early still gets the status
+            let _ = writeln!(io::stderr(), "oracle: {text}");
             ExitCode::from(2)
         }
     }
@@ -47,6 +54,16 @@ pub fn main() -> ExitCode {
 
 fn number(text: &str, what: &str) -> Result<u64, String> {
     text.parse().map_err(|_| format!("{what} is to be a whole number, not '{text}'"))
+}
+
+/// COUNT seeds from FIRST on, at least one.
+fn seeds(first: &str, count: &str) -> Result<Range<u64>, String> {
+    let (low, count) = (number(first, "FIRST")?, number(count, "COUNT")?);
+    if count == 0 {
+        return Err("COUNT is to be at least 1".into());
+    }
+    let high = low.checked_add(count).ok_or_else(|| format!("no {count} seeds from {first} on: the last is {}", u64::MAX - 1))?;
+    Ok(low..high)
 }
 
 fn module(text: &str) -> Result<&str, String> {
@@ -95,10 +112,10 @@ fn run(words: &[String]) -> Result<bool, String> {
             say(&crate::text::fired(&crate::text::parsed(&read(path)?)?)?)?;
             Ok(true)
         }
-        ["coverage", count] => coverage(number(count, "COUNT")?),
+        ["coverage", count] => coverage(seeds("0", count)?),
         ["stream", name, first, count] => {
-            let (name, first, count) = (module(name)?, number(first, "FIRST")?, number(count, "COUNT")?);
-            for seed in first..first + count {
+            let name = module(name)?;
+            for seed in seeds(first, count)? {
                 for item in items::good(name, seed) {
                     put(&item.bytes())?;
                 }
@@ -106,23 +123,37 @@ fn run(words: &[String]) -> Result<bool, String> {
             Ok(true)
         }
         ["bad", name, first, count] => {
-            let (name, first, count) = (module(name)?, number(first, "FIRST")?, number(count, "COUNT")?);
-            for seed in first..first + count {
+            let name = module(name)?;
+            for seed in seeds(first, count)? {
                 for item in items::bad(name, seed, true, 60) {
                     put(&item.bytes())?;
                 }
             }
             Ok(true)
         }
+        ["every", name, seed] => {
+            for item in items::bad(module(name)?, number(seed, "SEED")?, false, 0) {
+                put(&item.bytes())?;
+            }
+            Ok(true)
+        }
+        ["every", name, seed, place] => {
+            let (all, at) = (items::bad(module(name)?, number(seed, "SEED")?, false, 0), number(place, "PLACE")?);
+            let item = all.get(at as usize).ok_or_else(|| format!("there are {} records, none at {at}", all.len()))?;
+            say(&format!("{item:?}\n"))?;
+            Ok(true)
+        }
         ["record", folder] => record(folder, false),
         ["compare", folder] => record(folder, true),
-        ["count", first, count] => tally(number(first, "FIRST")?, number(count, "COUNT")?),
+        ["count", first, count] => tally(seeds(first, count)?),
         ["time", seed] => time(number(seed, "SEED")?),
         ["one", name, seed, place] => crate::shrink::one(module(name)?, number(seed, "SEED")?, number(place, "PLACE")? as usize),
         ["shrink", name, seed, place, ref command @ ..] if !command.is_empty() => {
             crate::shrink::shrink(module(name)?, number(seed, "SEED")?, number(place, "PLACE")? as usize, command)
         }
-        _ => Err(USAGE.into()),
+        [] => Err(USAGE.into()),
+        [name, ..] if COMMANDS.contains(&name) => Err(format!("{name} does not take the words '{}'\n{USAGE}", words[1..].join(" "))),
+        [name, ..] => Err(format!("no command '{name}'\n{USAGE}")),
     }
 }
 
@@ -138,9 +169,9 @@ fn directions() -> Result<bool, String> {
 }
 
 /// Every seeded scene is inside the limits, and together they reach every branch that can be reached.
-fn coverage(count: u64) -> Result<bool, String> {
+fn coverage(seeds: Range<u64>) -> Result<bool, String> {
     let mut good = true;
-    for seed in 0..count {
+    for seed in seeds {
         for name in MODULES {
             for (place, item) in items::good(name, seed).iter().enumerate() {
                 good &= accepted(&item.record(), &format!("{name}: record {place} of seed {seed}"))?;
@@ -202,7 +233,7 @@ fn recorded(name: &str) -> (Vec<Item>, Vec<Item>) {
     for &seed in faint {
         out.extend(items::good(name, seed));
     }
-    let bad = (0..bases).flat_map(|seed| items::bad(name, seed, true, 40)).collect();
+    let bad = (0..bases).flat_map(|seed| items::bad(name, seed, true, 10)).collect();
     (out, bad)
 }
 
@@ -242,9 +273,10 @@ fn record(folder: &str, compare: bool) -> Result<bool, String> {
     Ok(good & report()?)
 }
 
-fn tally(first: u64, count: u64) -> Result<bool, String> {
+fn tally(seeds: Range<u64>) -> Result<bool, String> {
+    let count = seeds.end - seeds.start;
     let (mut triangles, mut voxels, mut halls) = (0, 0, 0);
-    for seed in first..first + count {
+    for seed in seeds {
         let w = world(seed);
         triangles += w.lists.uses.len();
         voxels += w.active.len();

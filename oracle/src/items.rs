@@ -101,14 +101,22 @@ pub fn made(module: &str) -> Vec<Item> {
         "masks" => {
             let mut out: Vec<Item> = (0..48).map(|k| on_the_planes(c, k)).collect();
             out.extend((0..8).map(|k| at_a_square(c, 1 + k % 4)));
+            out.extend([64.0, 90.0].map(most_samples));
             out
         }
         // the C library's powf(x, 2.0) is not x*x here
         "blurs" => vec![Item::One(Call::LightBlur { axes: [1, 1, 1], light: vec![f32::from_bits(0x3e80_0800)], scratch: vec![0.0] })],
-        "sun" => [0.0, 5.0e-5, 1.0e-4, 2.0e-4].map(just_past_the_start).to_vec(),
+        "sun" => {
+            let mut out = [0.0, 5.0e-5, 1.0e-4, 2.0e-4].map(just_past_the_start).to_vec();
+            out.extend((0..3).map(|_| along_an_edge(c)));
+            out.push(beside_the_dark());
+            out
+        }
         "bake" => {
             let mut out: Vec<Item> = (0..6).map(|_| whole(floored(c))).collect();
             out.extend((0..3).map(|k| whole(faintly_lit(c, k))));
+            out.extend((0..2).map(|_| whole(under_a_sheet(c))));
+            out.push(whole(darker_than_black()));
             out
         }
         _ => vec![],
@@ -168,6 +176,14 @@ fn at_a_square(c: &mut Chance, n: usize) -> Item {
     }
 }
 
+/// A triangle with legs of so many cells, far larger than the grid: with fewer than 64 samples a side, cells are missed.
+fn most_samples(cells: f32) -> Item {
+    let grid = Grid { axes: [22, 22, 1], corners: [0.0, 0.0, 0.0, 11.0, 11.0, 0.5] };
+    let points = vec![0.0, 0.0, 0.25, 0.5 * cells, 0.0, 0.25, 0.0, 0.5 * cells, 0.25];
+    let n = voxels(&grid);
+    Item::One(Call::Masks { grid, points, occupied: vec![7; n], active: vec![8; n] })
+}
+
 /// One voxel whose ray to the sun meets a sheet `past` its start.
 fn just_past_the_start(past: f32) -> Item {
     let grid = Grid { axes: [1, 1, 1], corners: [0.0, 0.0, 0.0, 1.0, 1.0, 1.0] };
@@ -180,6 +196,42 @@ fn just_past_the_start(past: f32) -> Item {
     };
     let hits = Scratch { distances: vec![0.0], places: vec![0] };
     Item::One(Call::Sun { grid, lists, direction: [0.0, 0.0, 1.0], active: vec![1], light: vec![0.5], scratch: vec![0.25], hits })
+}
+
+/// Two sheets that share an edge, straight above a voxel's centre: the ray to the sun meets both there, and a step to either side one alone.
+/// The centre is one that another order of adding puts a step aside.
+fn along_an_edge(c: &mut Chance) -> Item {
+    let (least, edge, x) = loop {
+        let (least, edge) = (c.between(-3.0, 3.0), c.between(0.3, 2.0));
+        let own = ((least + 3.0 * edge) - least) / 3.0;
+        let centre = |k: f32| (least + own * 0.5) + k * own;
+        if let Some(k) = [1.0, 2.0].into_iter().find(|k| centre(*k) != least + (k + 0.5) * own) {
+            break (least, edge, centre(k));
+        }
+    };
+    let grid = Grid { axes: [3, 1, 1], corners: [least, 0.0, 0.0, least + 3.0 * edge, 1.0, 1.0] };
+    let mut lists = Lists::default();
+    for (side, passes) in [(8.0, 0.7), (-8.0, 0.6)] {
+        lists.points.extend([x, -4.0, 20.0, x + side, -4.0, 20.0, x, 8.0, 20.0]);
+        lists.uses.push(lists.kinds.len() as u32);
+        lists.kinds.push(1);
+        lists.numbers.extend([0.5, 0.5, 0.5, 0.0, 0.0, 0.0, passes]);
+    }
+    let hits = Scratch { distances: vec![0.0; 2], places: vec![0; 2] };
+    Item::One(Call::Sun { grid, lists, direction: [0.0, 0.0, 1.0], active: vec![1; 3], light: vec![0.5; 3], scratch: vec![0.25; 3], hits })
+}
+
+/// A voxel in the shade beside two that are not active: the blur reaches one of them.
+fn beside_the_dark() -> Item {
+    let grid = Grid { axes: [3, 1, 1], corners: [0.0, 0.0, 0.0, 3.0, 1.0, 1.0] };
+    let lists = Lists {
+        points: vec![-40.0, -40.0, 20.0, 80.0, -40.0, 20.0, -40.0, 80.0, 20.0],
+        uses: vec![0],
+        kinds: vec![0],
+        numbers: vec![0.5, 0.5, 0.5, 0.0, 0.0, 0.0, 0.0],
+    };
+    let hits = Scratch { distances: vec![0.0], places: vec![0] };
+    Item::One(Call::Sun { grid, lists, direction: [0.0, 0.0, 1.0], active: vec![1, 0, 0], light: vec![0.5; 3], scratch: vec![0.25; 3], hits })
 }
 
 /// A voxel of a 1x1x1 grid over lists that are given, under a sky of one colour.
@@ -277,6 +329,31 @@ fn on_the_planes(c: &mut Chance, k: usize) -> Item {
     }
     let n = voxels(&grid);
     Item::One(Call::Masks { grid, points, occupied: vec![3; n], active: vec![4; n] })
+}
+
+/// A large triangle across z, its material the one that stands last.
+fn level(lists: &mut Lists, z: f32, kind: u8, numbers: [f32; 7]) {
+    lists.points.extend([-50.0, -50.0, z, 150.0, -50.0, z, -50.0, 150.0, z]);
+    lists.uses.push(lists.kinds.len() as u32);
+    lists.kinds.push(kind);
+    lists.numbers.extend(numbers);
+}
+
+/// A floor on which the sun falls slantwise through a sheet: the light is a product of three numbers that are none of them 0 or 1.
+fn under_a_sheet(c: &mut Chance) -> Bake {
+    let mut lists = Lists::default();
+    level(&mut lists, -2.0, 0, [0.8, 0.6, 0.7, 0.0, 0.0, 0.0, 0.0]);
+    level(&mut lists, 3.0, 1, [0.0, 0.0, 0.0, 0.0, 0.0, 0.0, c.between(0.5, 0.9)]);
+    let sunlight = [c.between(0.1, 0.4), c.between(0.1, 0.4), 0.9, c.between(1.0, 3.0), c.between(1.0, 3.0), c.between(1.0, 3.0)];
+    single(lists, sunlight, [0.0; 12], [0.0, 0.0, 0.0])
+}
+
+/// A floor and a ceiling whose colours are at most 0: black once they are raised to 0, and so without rays of their own.
+fn darker_than_black() -> Bake {
+    let mut lists = Lists::default();
+    level(&mut lists, -2.0, 0, [-1.0, 0.0, -0.5, 0.0, 0.0, 0.0, 0.0]);
+    level(&mut lists, 3.0, 0, [0.0, 0.0, 0.0, 0.0, -0.25, -1.0, 0.0]);
+    single(lists, [0.0, 0.0, 1.0, 1.0, 1.0, 1.0], [0.5; 12], [0.25, 0.5, 0.75])
 }
 
 fn rays(c: &mut Chance, world: &World) -> Vec<Item> {

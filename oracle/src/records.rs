@@ -38,22 +38,27 @@ impl Writer {
         self.words.extend(bits(l));
     }
 
+    /// Of the patterns tried, the one that makes the list shortest: its first words repeated, its last ones, or the list itself.
     fn list(&mut self, l: &[u32]) {
         let n = l.len();
-        let mut best: (usize, usize) = (n + 3, n);
+        let apart = |pattern: &[u32]| (0..n).filter(|i| l[*i] != pattern[*i % pattern.len()]).collect::<Vec<usize>>();
+        let mut best = (l.to_vec(), Vec::new());
         for k in [1, 2, 3, 7, 9, 16, 18, 192] {
             if k < n {
-                let odd = (0..n).filter(|i| l[*i] != l[*i % k]).count();
-                if odd <= 40 && k + 3 + 2 * odd < best.0 {
-                    best = (k + 3 + 2 * odd, k);
+                // entry i of the last k stands at place i mod k
+                let last: Vec<u32> = (0..k).map(|j| l[n - 1 - (n - 1 - j) % k]).collect();
+                for pattern in [l[..k].to_vec(), last] {
+                    let odd = apart(&pattern);
+                    if odd.len() <= 40 && k + 2 * odd.len() < best.0.len() + 2 * best.1.len() {
+                        best = (pattern, odd);
+                    }
                 }
             }
         }
-        let k = best.1;
+        let (pattern, odd) = best;
         self.word(n as u32);
-        self.word(k as u32);
-        self.words.extend(&l[..k]);
-        let odd: Vec<usize> = (0..n).filter(|i| l[*i] != l[*i % k.max(1)]).collect();
+        self.word(pattern.len() as u32);
+        self.words.extend(pattern);
         self.word(odd.len() as u32);
         for i in odd {
             self.word(i as u32);
