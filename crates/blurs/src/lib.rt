@@ -25,7 +25,7 @@ pub fn coefficient_blur(axes: Axes, volume: &mut [f32], scratch: &mut [f32]) -> 
     let refusal = coefficient_refusal(axes, volume, scratch);
     if refusal == 0 {
         means::inner::copy(volume, scratch);
-        means::inner::mean(scratch, volume, 16, axes.width, axes.height, axes.depth);
+        means::inner::mean(scratch, volume, axes.width, axes.height, axes.depth);
         return 0;
     }
     refusal

@@ -31,7 +31,7 @@ pub fn finish(axes: Axes, active: &[u8], volume: &mut [f32], scratch: &mut [f32]
         return;
     }
     means::inner::copy(volume, scratch);
-    means::inner::mean(scratch, volume, 16, axes.width, axes.height, axes.depth);
+    means::inner::mean(scratch, volume, axes.width, axes.height, axes.depth);
 }
 
 // The sixteen numbers of one voxel, from the place at on.

@@ -29,6 +29,16 @@ module _ {A : Type 0} where
   unfolding some
   some-end f l i h = rw (drop-of-length-le l h)
 
+  -- a scan that goes to the end: what it has found, or finds in what is left
+
+  pub some-more : (f : A → Bool) (l : List A) (i : ℕ) (d : A) (a : Bool) → i < length l → a || some f (drop i l) ≡ (a || f (getD l i d)) || some f (drop (i + 1) l)
+  some-more f l i d true h = refl
+  some-more f l i d false h = some-step f l i d h
+
+  pub some-all : (f : A → Bool) (l : List A) (i : ℕ) (a : Bool) → length l ≤ i → a || some f (drop i l) ≡ a
+  some-all f l i true h = refl
+  some-all f l i false h = some-end f l i h
+
   -- ---- what it says
 
   -- there is such an element

@@ -236,34 +236,32 @@ pub fn bad_coefficients(volume: &[f32]) -> bool
     any_out_of(volume, COEFFICIENT_LIMIT)
 }
 
-// ---- scans
+// ---- scans, without a way out: then several entries are tested at once
 
 // Whether some number of a list is not finite, or beyond ±b.
 pub fn any_out_of(l: &[f32], b: f32) -> bool
     ensures { λ r. ⌜ r ≡ some (outside b) (now (l .entry)) ⌝ }
 {
+    let mut any = false;
     let mut i = 0;
     while i < l.len() {
-        if out_of(b, l[i]) {
-            return true;
-        }
+        any = any | out_of(b, l[i]);
         i += 1;
     }
-    false
+    any
 }
 
 // Whether some entry of a list is above the most that it may be.
 pub fn any_above(l: &[u8], most: u8) -> bool
     ensures { λ r. ⌜ r ≡ some (ltb most) (now (l .entry)) ⌝ }
 {
+    let mut any = false;
     let mut i = 0;
     while i < l.len() {
-        if most < l[i] {
-            return true;
-        }
+        any = any | (most < l[i]);
         i += 1;
     }
-    false
+    any
 }
 
 // Whether some place of a list is n or past it.

@@ -2,7 +2,7 @@
 use mathlib.Core.List.{List}
 use Prim.Native.Nat.{ℕ, _+_, _-_, _*_}
 use lib.Ieee.{Float}
-use Rattle.lists.specs.Fold.{fold}
+use Rattle.lists.specs.Fold.{fold, tab}
 use Rattle.means.specs.Box.{plus}
 
 abbrev pub plusCell : List Float → ℕ → ℕ → ℕ → ℕ → Float → Float
@@ -22,3 +22,7 @@ plusPlane src stride c w h f t g u z s = planeSum src stride c w f t (z * h) g u
 
 unfoldable pub boxSum : List Float → ℕ → ℕ → ℕ → ℕ → ℕ → ℕ → ℕ → ℕ → ℕ → ℕ → Float → Float
 boxSum src stride c w h f t g u m n s = fold (plusPlane src stride c w h f t g u) (n - m) m s
+
+-- what f gives for each of a voxel's sixteen numbers
+abbrev pub each : (ℕ → Float) → List Float
+each f = tab f 16 0

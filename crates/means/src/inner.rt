@@ -2,20 +2,23 @@
 ghost use mathlib.Core.Path.{_≡_};
 ghost use Prim.Native.Nat.{_+_, _-_, _*_, _≤_, _<_};
 ghost use lib.IntN.{pos};
-ghost use lib.Ieee.{binary32, ofInt};
-ghost use lib.ListN.{length};
-ghost use Rattle.means.specs.Box.{firstNear, pastNear, meanIn, meanAt, meanOf, squareAt, lightBlurOf};
-ghost use Rattle.means.specs.Sums.{rowSum, planeSum, boxSum};
+ghost use lib.Ieee.{binary32, nan, div, ofInt};
+ghost use lib.ListN.{length, take, getD};
+ghost use mathlib.Core.List.{_++_};
+ghost use Rattle.lists.specs.Fold.{tab};
+ghost use Rattle.means.specs.Box.{firstNear, pastNear, plus, meanIn, meanAt, squareAt, lightBlurOf, coefficientBlurOf};
+ghost use Rattle.means.specs.Sums.{rowSum, planeSum, boxSum, each};
 
-// The mean of each number of src, in dst.
-pub fn mean(src: &[f32], dst: &mut [f32], stride: usize, w: usize, h: usize, d: usize)
-    requires { ⌜ (0 < stride) × (0 < w) × (0 < h) × (d * h * w * stride ≡ length (now src)) × (length (now dst) ≡ length (now src)) ⌝ }
-    ensures { λ r. ⌜ now (dst .exit) ≡ meanOf (now (src .entry)) stride w h d ⌝ }
+// The mean of each number of src, sixteen a voxel, in dst.
+pub fn mean(src: &[f32], dst: &mut [f32], w: usize, h: usize, d: usize)
+    requires { ⌜ (0 < w) × (0 < h) × (d * h * w * 16 ≡ length (now src)) × (length (now dst) ≡ length (now src)) ⌝ }
+    ensures { λ r. ⌜ now (dst .exit) ≡ coefficientBlurOf (now (src .entry)) w h d ⌝ }
 {
-    let mut i = 0;
-    while i < dst.len() {
-        dst[i] = mean_at(src, stride, w, h, d, i);
-        i += 1;
+    let count = dst.len() / 16;
+    let mut v = 0;
+    while v < count {
+        voxel(src, dst, w, h, d, v);
+        v += 1;
     }
 }
 
@@ -174,6 +177,129 @@ fn row_sum(src: &[f32], stride: usize, c: usize, row: usize, f: usize, t: usize,
     while x < t {
         sum = sum + src[(row + x) * stride + c];
         x += 1;
+    }
+    sum
+}
+
+// ---- a voxel's sixteen numbers at once, so that they are added four by four
+
+// The sixteen means of voxel v, in dst: what is written before v, and what the definition gives from v on, are written up to the next voxel.
+fn voxel(src: &[f32], dst: &mut [f32], w: usize, h: usize, d: usize, v: usize)
+    requires { ⌜ (0 < w) × (0 < h) × (d * h * w * 16 ≡ length (now src)) × (v * 16 + 16 ≤ length (now dst)) × (length (now dst) ≡ length (now src)) ⌝ }
+    ensures { λ r. ⌜ take (v * 16 + 16) (now (dst .exit)) ++ tab (meanAt (now (src .entry)) 16 w h d) (length (now (dst .exit)) - (v * 16 + 16)) (v * 16 + 16)
+        ≡ take (v * 16) (now (dst .entry)) ++ tab (meanAt (now (src .entry)) 16 w h d) (length (now (dst .entry)) - v * 16) (v * 16) ⌝ }
+{
+    let r = v / w;
+    let m = means_in(src, w, h, d, v % w, r % h, r / h);
+    let at = v * 16;
+    let mut k = 0;
+    while k < 16 {
+        dst[at + k] = m[k];
+        k += 1;
+    }
+}
+
+// The sixteen means of the voxels round (x, y, z).
+fn means_in(src: &[f32], w: usize, h: usize, d: usize, x: usize, y: usize, z: usize) -> [f32; 16]
+    requires { ⌜ (x < w) × (y < h) × (z < d) × (d * h * w * 16 ≤ length (now src)) ⌝ }
+    ensures { λ r. ⌜ r ≡ each (λ k. meanIn (now (src .entry)) 16 k w h d x y z) ⌝ }
+{
+    let f = first_near(x);
+    let t = past_near(x, w);
+    let g = first_near(y);
+    let u = past_near(y, h);
+    let m = first_near(z);
+    let n = past_near(z, d);
+    let s = box_sums(src, w, h, f, t, g, u, m, n, [0.0; 16]);
+    shares(s, cells(t - f, u - g, n - m))
+}
+
+// Each sum over the count.
+fn shares(s: [f32; 16], n: f32) -> [f32; 16]
+    ensures { λ r. ⌜ r ≡ each (λ k. div binary32 (getD s k nan) n) ⌝ }
+{
+    let mut m = [0.0; 16];
+    let mut k = 0;
+    while k < 16 {
+        m[k] = s[k] / n;
+        k += 1;
+    }
+    m
+}
+
+fn box_sums(
+    src: &[f32],
+    w: usize,
+    h: usize,
+    f: usize,
+    t: usize,
+    g: usize,
+    u: usize,
+    m: usize,
+    n: usize,
+    s: [f32; 16],
+) -> [f32; 16]
+    requires { ⌜ (f ≤ t) × (t ≤ w) × (g ≤ u) × (u ≤ h) × (m ≤ n) × (0 < w) × (0 < h) × (n * h * w * 16 ≤ length (now src)) × (length s ≡ 16) ⌝ }
+    ensures { λ r. ⌜ r ≡ each (λ k. boxSum (now (src .entry)) 16 k w h f t g u m n (getD s k nan)) ⌝ }
+{
+    let mut sum = s;
+    let mut z = m;
+    while z < n {
+        let next = plane_sums(src, w, f, t, z * h, g, u, sum);
+        sum = next;
+        z += 1;
+    }
+    sum
+}
+
+fn plane_sums(
+    src: &[f32],
+    w: usize,
+    f: usize,
+    t: usize,
+    plane: usize,
+    g: usize,
+    u: usize,
+    s: [f32; 16],
+) -> [f32; 16]
+    requires { ⌜ (f ≤ t) × (t ≤ w) × (g ≤ u) × (0 < w) × ((plane + u) * w * 16 ≤ length (now src)) × (length s ≡ 16) ⌝ }
+    ensures { λ r. ⌜ r ≡ each (λ k. planeSum (now (src .entry)) 16 k w f t plane g u (getD s k nan)) ⌝ }
+{
+    let mut sum = s;
+    let mut y = g;
+    while y < u {
+        let next = row_sums(src, (plane + y) * w, f, t, sum);
+        sum = next;
+        y += 1;
+    }
+    sum
+}
+
+fn row_sums(src: &[f32], row: usize, f: usize, t: usize, s: [f32; 16]) -> [f32; 16]
+    requires { ⌜ (f ≤ t) × ((row + t) * 16 ≤ length (now src)) × (length s ≡ 16) ⌝ }
+    ensures { λ r. ⌜ r ≡ each (λ k. rowSum (now (src .entry)) 16 k row f t (getD s k nan)) ⌝ }
+{
+    let mut sum = s;
+    let mut x = f;
+    while x < t {
+        let next = with_voxel(src, row + x, sum);
+        sum = next;
+        x += 1;
+    }
+    sum
+}
+
+// The numbers of voxel v added to the sums.
+fn with_voxel(src: &[f32], v: usize, s: [f32; 16]) -> [f32; 16]
+    requires { ⌜ v * 16 + 16 ≤ length (now src) ⌝ }
+    ensures { λ r. ⌜ r ≡ each (λ k. plus (now (src .entry)) 16 k v (getD s k nan)) ⌝ }
+{
+    let at = v * 16;
+    let mut sum = [0.0; 16];
+    let mut k = 0;
+    while k < 16 {
+        sum[k] = s[k] + src[at + k];
+        k += 1;
     }
     sum
 }

@@ -19,7 +19,7 @@ mean-requires : tie.Need-mean-requires
 mean-requires c κs =
     let f = coefficient-blur-fitting _ _ _ (sym (c .before .before .before .before .before .before .before .before .coefficient-refusal .ensures) ∙ c .before .before .before .before .before .before .before .if1 .taken) in
     let a = f .axes-within in
-    (omega arith, a .width, a .height, rw (c .before .before .before .before .copy .ensures) (sym (f .list-fits)), rw (c .before .before .before .before .copy .ensures) refl)
+    (a .width, a .height, rw (c .before .before .before .before .copy .ensures) (sym (f .list-fits)), rw (c .before .before .before .before .copy .ensures) refl)
 
 same-length : tie.Need-same-length
 same-length c = search needs

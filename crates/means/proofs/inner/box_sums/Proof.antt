@@ -1,0 +1,64 @@
+-- `means::inner::box_sums` gives the definition's sixteen folds: what is left of the planes, folded over the sums so far, is the whole. Assumes nothing.
+use Prim.Native.Nat.{_+_, _-_, _*_, _≤_}
+use mathlib.Core.Path.{_≡_, refl, sym, _∙_}
+use native.Mathlib.Omega.{arith}
+use native.Mathlib.Nat.{mul-le-mul-right}
+use lib.ListN.{length, getD}
+use lib.Ieee.{nan}
+use Rattle.lists.specs.Fold.{fold, length-tab, inside, scaled, factor}
+use Rattle.means.specs.Sums.{plusPlane, boxSum, each}
+use Rattle.means.proofs.Sixteen.{each-step, each-end}
+use Rattle.means.proofs.inner.box_sums.Statement.{statement}
+use Rattle.means.proofs.inner.box_sums.Tie as tie
+
+abbrev Inv-loop : tie.InvT-loop
+Inv-loop src w h f t g u m n sum₀ z₀ sum z =
+    (z ≤ n) × (length sum ≡ 16)
+    × (each (λ k. boxSum src 16 k w h f t g u m n (getD sum₀ k nan)) ≡ each (λ k. fold (plusPlane src 16 k w h f t g u) (n - z) z (getD sum k nan)))
+
+abbrev μ-loop : tie.MeasureT-loop
+μ-loop src w h f t g u m n sum₀ z₀ sum z = n - z
+
+loop-holds : tie.Need-loop-holds Inv-loop μ-loop
+unfolding boxSum
+loop-holds c = (omega arith, omega arith, refl)
+
+mul-plane-sums : tie.Need-mul-plane-sums Inv-loop μ-loop
+mul-plane-sums c =
+    let a = c .before .before .before .args in let p = c .before .before .before .pre in let z = c .before .loop .z in
+    omega (arith, inside z (a .n) (a .u) (a .h) (omega arith) (p .3), factor (a .n * a .h) (a .w) (p .5) (factor (a .n * a .h * a .w) 16 (omega arith) (p .7)))
+
+plane-sums-requires : tie.Need-plane-sums-requires Inv-loop μ-loop
+plane-sums-requires c κs =
+    let a = c .before .before .before .args in let p = c .before .before .before .pre in let z = c .before .loop .z in
+    (p .0, p .1, p .2, p .5, scaled 16 (mul-le-mul-right (a .w) (inside z (a .n) (a .u) (a .h) (omega arith) (p .3))) (p .7), c .before .loop .inv .1)
+
+add-z : tie.Need-add-z Inv-loop μ-loop
+add-z c = omega arith
+
+loop-less : tie.Need-loop-less Inv-loop μ-loop
+loop-less c = omega arith
+
+loop-again : tie.Need-loop-again Inv-loop μ-loop
+loop-again c =
+    let k = c .before .before in let a = k .before .before .args in
+    (omega arith, rw (c .plane-sums .ensures) (length-tab _ 16 0), k .loop .inv .2 ∙ each-step (λ j. plusPlane (a .src .now) 16 j (a .w) (a .h) (a .f) (a .t) (a .g) (a .u)) (k .loop .z) (a .n) (k .loop .sum) _ (omega arith) (c .plane-sums .ensures))
+
+returns : tie.Need-returns Inv-loop μ-loop
+returns c =
+    let l = c .before .loop in let a = c .before .before .before .args in
+    sym (l .inv .2 ∙ each-end (λ j. plusPlane (a .src .now) 16 j (a .w) (a .h) (a .f) (a .t) (a .g) (a .u)) (l .z) (a .n) (l .sum) (omega arith) (l .inv .1))
+
+pub box-sums-spec : {M : Type 1} → statement M
+box-sums-spec =
+    tie.close
+    (tie.spec
+    Inv-loop
+    μ-loop
+    loop-holds
+    mul-plane-sums
+    plane-sums-requires
+    add-z
+    loop-less
+    loop-again
+    returns)

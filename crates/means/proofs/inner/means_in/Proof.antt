@@ -1,0 +1,112 @@
+-- `means::inner::means_in` is the definition for each of the sixteen: the bounds are those of the box, each sum is its walk by rows from +0, and the count is
+-- the product of its sides. Assumes nothing.
+use borrow.Author.Needs.{needs}
+use native.Mathlib.Omega.{arith}
+use native.Mathlib.Nat.{mul-le-mul-right}
+use mathlib.Core.Path.{_≡_, refl, sym, ap, ap₂, _∙_}
+use mathlib.Core.List.{List}
+use Prim.Native.Nat.{ℕ, _-_, _≤_, _*_}
+use lib.IntN.{pos}
+use lib.ListN.{getD, replicate, getD-replicate}
+use lib.Ieee.{Float, nan, binary32, div, ofInt}
+use Rattle.names.specs.Bits.{zero32}
+use Rattle.lists.specs.Fold.{scaled}
+use Rattle.means.specs.Box.{firstNear, pastNear, meanIn}
+use Rattle.means.specs.Sums.{boxSum, each}
+use Rattle.means.specs.BoxLaws.{mean-by-rows}
+use Rattle.means.proofs.Sixteen.{each-same, getD-each}
+use Rattle.means.proofs.inner.means_in.Statement.{statement}
+use Rattle.means.proofs.inner.means_in.Tie as tie
+
+-- each of the sixteen
+module _ (src : List Float) (w h d x y z : ℕ) {f t g u m n : ℕ} {s : List Float} {k : Float} where
+  whole : f ≡ firstNear x → t ≡ pastNear x w → g ≡ firstNear y → u ≡ pastNear y h → m ≡ firstNear z → n ≡ pastNear z d
+      → s ≡ each (λ j. boxSum src 16 j w h f t g u m n (getD (replicate 16 zero32) j nan)) → k ≡ ofInt binary32 (pos ((n - m) * ((u - g) * (t - f))))
+      → each (λ j. div binary32 (getD s j nan) k) ≡ each (λ j. meanIn src 16 j w h d x y z)
+  whole ef et eg eu em en es ek =
+      each-same _ _
+      (λ j p.
+      ap₂ (div binary32) (ap (λ (l : List Float). getD l j nan) es ∙ getD-each _ j p ∙ ap (boxSum src 16 j w h f t g u m n) (getD-replicate 16 j zero32 nan p)) ek
+      ∙ rw (ef, et, eg, eu, em, en) (sym (mean-by-rows src 16 j w h d x y z)))
+
+first-near-requires : tie.Need-first-near-requires
+first-near-requires c κs = search needs
+
+past-near-requires : tie.Need-past-near-requires
+past-near-requires c κs = search needs
+
+first-near-requires-2 : tie.Need-first-near-requires-2
+first-near-requires-2 c κs = search needs
+
+past-near-requires-2 : tie.Need-past-near-requires-2
+past-near-requires-2 c κs = search needs
+
+first-near-requires-3 : tie.Need-first-near-requires-3
+first-near-requires-3 c κs = search needs
+
+past-near-requires-3 : tie.Need-past-near-requires-3
+past-near-requires-3 c κs = search needs
+
+box-sums-requires : tie.Need-box-sums-requires
+box-sums-requires c κs =
+    let a = c .before .before .before .before .before .before .before .args in
+    let p = c .before .before .before .before .before .before .before .pre in
+    let n : c .past-near3 .result ≤ a .d = omega arith in (
+      omega arith,
+      omega arith,
+      omega arith,
+      omega arith,
+      omega arith,
+      omega arith,
+      omega arith,
+      scaled 16 (mul-le-mul-right (a .w) (mul-le-mul-right (a .h) n)) (p .3),
+      refl,
+    )
+
+sub-cells : tie.Need-sub-cells
+sub-cells c = search needs
+
+sub-cells-2 : tie.Need-sub-cells-2
+sub-cells-2 c = search needs
+
+sub-cells-3 : tie.Need-sub-cells-3
+sub-cells-3 c = search needs
+
+cells-requires : tie.Need-cells-requires
+cells-requires c κs = search needs
+
+shares-requires : tie.Need-shares-requires
+shares-requires c κs = search needs
+
+returns : tie.Need-returns
+returns c =
+    let b = c .before .before in
+    let a = b .before .before .before .before .before .before .before .before .args in
+    c .shares .ensures
+    ∙ whole (a .src .now) (a .w) (a .h) (a .d) (a .x) (a .y) (a .z)
+    (b .before .before .before .before .before .before .first-near .ensures)
+    (b .before .before .before .before .before .past-near .ensures)
+    (b .before .before .before .before .first-near2 .ensures)
+    (b .before .before .before .past-near2 .ensures)
+    (b .before .before .first-near3 .ensures)
+    (b .before .past-near3 .ensures)
+    (b .box-sums .ensures)
+    (c .before .cells .ensures)
+
+pub means-in-spec : {M : Type 1} → statement M
+means-in-spec =
+    tie.close
+    (tie.spec
+    first-near-requires
+    past-near-requires
+    first-near-requires-2
+    past-near-requires-2
+    first-near-requires-3
+    past-near-requires-3
+    box-sums-requires
+    sub-cells
+    sub-cells-2
+    sub-cells-3
+    cells-requires
+    shares-requires
+    returns)

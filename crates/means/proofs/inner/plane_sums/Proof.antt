@@ -1,0 +1,69 @@
+-- `means::inner::plane_sums` gives the definition's sixteen folds: what is left of the rows, folded over the sums so far, is the whole. Assumes nothing.
+use Prim.Native.Nat.{_+_, _-_, _*_, _≤_}
+use mathlib.Core.Path.{_≡_, refl, sym, _∙_}
+use native.Mathlib.Omega.{arith}
+use lib.ListN.{length, getD}
+use lib.Ieee.{nan}
+use Rattle.lists.specs.Fold.{fold, length-tab, inside, scaled, factor}
+use Rattle.means.specs.Sums.{plusRow, planeSum, each}
+use Rattle.means.proofs.Sixteen.{each-step, each-end}
+use Rattle.means.proofs.inner.plane_sums.Statement.{statement}
+use Rattle.means.proofs.inner.plane_sums.Tie as tie
+
+abbrev Inv-loop : tie.InvT-loop
+Inv-loop src w f t plane g u sum₀ y₀ sum y =
+    (y ≤ u) × (length sum ≡ 16)
+    × (each (λ k. planeSum src 16 k w f t plane g u (getD sum₀ k nan)) ≡ each (λ k. fold (plusRow src 16 k w f t plane) (u - y) y (getD sum k nan)))
+
+abbrev μ-loop : tie.MeasureT-loop
+μ-loop src w f t plane g u sum₀ y₀ sum y = u - y
+
+loop-holds : tie.Need-loop-holds Inv-loop μ-loop
+unfolding planeSum
+loop-holds c = (omega arith, omega arith, refl)
+
+add-row-sums : tie.Need-add-row-sums Inv-loop μ-loop
+add-row-sums c =
+    let a = c .before .before .before .args in let p = c .before .before .before .pre in
+    omega (arith, factor (a .plane + a .u) (a .w) (p .3) (factor ((a .plane + a .u) * a .w) 16 (omega arith) (p .4)))
+
+mul-row-sums : tie.Need-mul-row-sums Inv-loop μ-loop
+mul-row-sums c =
+    let a = c .before .before .before .args in let p = c .before .before .before .pre in let y = c .before .loop .y in
+    omega (arith, inside (a .plane + y) (a .plane + a .u) (a .t) (a .w) (omega arith) (p .1), factor ((a .plane + a .u) * a .w) 16 (omega arith) (p .4))
+
+row-sums-requires : tie.Need-row-sums-requires Inv-loop μ-loop
+row-sums-requires c κs =
+    let a = c .before .before .before .args in let p = c .before .before .before .pre in let y = c .before .loop .y in
+    (p .0, scaled 16 (inside (a .plane + y) (a .plane + a .u) (a .t) (a .w) (omega arith) (p .1)) (p .4), c .before .loop .inv .1)
+
+add-y : tie.Need-add-y Inv-loop μ-loop
+add-y c = omega arith
+
+loop-less : tie.Need-loop-less Inv-loop μ-loop
+loop-less c = omega arith
+
+loop-again : tie.Need-loop-again Inv-loop μ-loop
+loop-again c =
+    let k = c .before .before in let a = k .before .before .args in
+    (omega arith, rw (c .row-sums .ensures) (length-tab _ 16 0), k .loop .inv .2 ∙ each-step (λ j. plusRow (a .src .now) 16 j (a .w) (a .f) (a .t) (a .plane)) (k .loop .y) (a .u) (k .loop .sum) _ (omega arith) (c .row-sums .ensures))
+
+returns : tie.Need-returns Inv-loop μ-loop
+returns c =
+    let l = c .before .loop in let a = c .before .before .before .args in
+    sym (l .inv .2 ∙ each-end (λ j. plusRow (a .src .now) 16 j (a .w) (a .f) (a .t) (a .plane)) (l .y) (a .u) (l .sum) (omega arith) (l .inv .1))
+
+pub plane-sums-spec : {M : Type 1} → statement M
+plane-sums-spec =
+    tie.close
+    (tie.spec
+    Inv-loop
+    μ-loop
+    loop-holds
+    add-row-sums
+    mul-row-sums
+    row-sums-requires
+    add-y
+    loop-less
+    loop-again
+    returns)
