@@ -291,3 +291,29 @@ unfolding betweenOf
 coordinate-between n k f c w h l =
     let e = coordinate-cell n k f c w h l in
     (e, ap (λ (j : ℕ). clamped n (j + 1)) e ∙ clamped-next n k (omega arith))
+
+-- k < f < k + 1 ≤ n, of floats: the cell is k, the next is the one above it or the last, and the fraction is f less k
+
+none-above-minus : (a m : ℕ) (e : ℤ) (x : Float) → HasValue x false a 1 → lt x (fin true m e) ≡ true → ⊥
+unfolding lt
+none-above-minus a m e nan v h = v
+none-above-minus a m e (inf s) v h = v
+none-above-minus a m e (fin true l d) v h = false≢true (sym (v .0))
+none-above-minus a m e (fin false l d) v h = false≢true h
+
+less-most : (x y : Float) → lt x y ≡ true → le x y ≡ true
+unfolding le
+less-most x y h = rw h refl
+
+floor-inside : (k : ℕ) (f x y : Float) → HasValue x false k 1 → HasValue y false (k + 1) 1 → k < 16777216 → lt x f ≡ true → lt f y ≡ true → floorOf f ≡ floatOf k
+floor-inside k nan x y v u w h l = absurd (none-below y l)
+floor-inside k (inf true) x y v u w h l = absurd (least-of-all k x v (less-most x (inf true) h))
+floor-inside k (inf false) x y v u w h l = absurd (most-of-all (k + 1) y u l)
+floor-inside k (fin true m e) x y v u w h l = absurd (none-above-minus k m e x v h)
+floor-inside k (fin false m e) x y v u w h l = floor-is k m e (least-whole k m e x v (less-most x (fin false m e) h)) (most-whole (k + 1) m e y u l)
+
+pub strictly-between : (n k : ℕ) (f : Float) → k < n → n ≤ axisLimit → lt (floatOf k) f ≡ true → lt f (floatOf (k + 1)) ≡ true
+    → betweenOf n f ≡ record { cell = k; next = clamped n (k + 1); fraction = Ieee.sub binary32 f (floatOf k) }
+unfolding betweenOf
+strictly-between n k f c w h l =
+    rw (floor-inside k f (floatOf k) (floatOf (k + 1)) (whole-value k (omega arith)) (whole-value (k + 1) (omega arith)) (omega arith) h l, cell-of-whole n k c w)

@@ -49,8 +49,38 @@ fn cells_from(axes: Axes, x: Between, y: Between, z: Between) -> Cells
     }
 }
 
-// The cell of a coordinate, the next one, and the fraction between them.
+// The cell of a coordinate, the next one, and the fraction between them. A guess at the cell is tested first; where it fails, the floor tells.
 pub fn between(n: usize, f: f32) -> Between
+    requires { ⌜ (1 ≤ n) × (n ≤ axisLimit) ⌝ }
+    ensures { λ r. ⌜ Placed n f r ⌝ }
+{
+    let k = guess(f);
+    if k < n {
+        let low = grid::inner::float(k);
+        if low < f {
+            if f < grid::inner::float(k + 1) {
+                return Between {
+                    cell: k,
+                    next: clamp_cell(n, k + 1),
+                    fraction: f - low,
+                };
+            }
+        }
+    }
+    floored(n, f)
+}
+
+// From 0 to 2^22 mostly the whole number below f: with 2^23 − 1/2 added, what is left of the fraction is rounded off.
+fn guess(f: f32) -> usize {
+    let s = f + 8388607.5;
+    if s != s {
+        return 0;
+    }
+    (f32::to_bits(s) % 8388608) as usize
+}
+
+// The same by the floor.
+fn floored(n: usize, f: f32) -> Between
     requires { ⌜ (1 ≤ n) × (n ≤ axisLimit) ⌝ }
     ensures { λ r. ⌜ Placed n f r ⌝ }
 {
