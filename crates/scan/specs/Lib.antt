@@ -4,3 +4,4 @@ pub mod Hits
 pub mod HitLaws
 pub mod Transmittance
 pub mod OpaqueLaws
+pub mod FirstHit

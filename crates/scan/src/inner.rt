@@ -6,9 +6,12 @@ ghost use Rattle.names.specs.Bits.{one32};
 ghost use Rattle.names.specs.Scene.{Sound, sceneOf};
 ghost use Rattle.triangle.specs.Meet.{meetOf};
 ghost use Rattle.triangle.specs.Places.{triangleAt};
+ghost use Rattle.triangle.specs.declared.Meet.the-variants.{Hit};
 ghost use Rattle.scan.specs.Nearest.{beats, nearerOf, nearestOf};
 ghost use Rattle.scan.specs.Hits.{struck, before, rankOf, insertAt, insertOf, paired};
+ghost use Rattle.scan.specs.FirstHit.{FirstFrom};
 ghost use Rattle.scan.specs.Transmittance.{kindAt, Fitting, passOf, transmittanceOf};
+use super::FirstHit;
 use super::Nearest;
 use triangle::Meet;
 use vectors::Ray;
@@ -28,28 +31,32 @@ pub fn nearest(points: &[f32], uses: &[u32], kinds: &[u8], numbers: &[f32], ray:
     let mut best = Nearest::Nothing;
     let mut i = 0;
     while i < n {
-        let m = meet_at(points, i, ray);
-        best = nearer(best, i, m);
-        i += 1;
+        let f = first_hit(points, i, n, ray);
+        match f {
+            FirstHit::Nothing => {
+                i = n;
+            }
+            FirstHit::At(j, t, u, v) => {
+                best = nearer(best, j, t, u, v);
+                i = j + 1;
+            }
+        }
     }
     best
 }
 
-// The better of what is held and a meeting at place i.
-fn nearer(best: Nearest, i: usize, m: Meet) -> Nearest
-    ensures { λ r. ⌜ r ≡ nearerOf best i m ⌝ }
+// The better of what is held and a hit at place i.
+fn nearer(best: Nearest, i: usize, t: f32, u: f32, v: f32) -> Nearest
+    ensures { λ r. ⌜ r ≡ nearerOf best i (Hit t u v) ⌝ }
 {
-    match m {
-        Meet::Miss => best,
-        Meet::Hit(t, u, v) => match best {
-            Nearest::Nothing => Nearest::At(i, t, u, v),
-            Nearest::At(j, s, _, _) => {
-                if better(t, i, s, j) {
-                    return Nearest::At(i, t, u, v);
-                }
-                best
+    match best {
+        Nearest::Nothing => Nearest::At(i, t, u, v),
+        Nearest::At(j, s, _, _) => {
+            if better(t, i, s, j) {
+                return Nearest::At(i, t, u, v);
             }
-        },
+            best
+        }
     }
 }
 
@@ -64,14 +71,6 @@ fn better(t: f32, i: usize, s: f32, j: usize) -> bool
         return j < i;
     }
     false
-}
-
-// The one step that both scans take of each triangle.
-fn meet_at(points: &[f32], i: usize, ray: Ray) -> Meet
-    requires { ⌜ i * 9 + 8 < length (now points) ⌝ }
-    ensures { λ r. ⌜ r ≡ meetOf ray (triangleAt (now (points .entry)) i) ⌝ }
-{
-    triangle::inner::test(ray, triangle::inner::at(points, i))
 }
 
 // ---- how much light passes
@@ -96,19 +95,20 @@ pub fn transmittance(
     let mut m = 0;
     let mut i = 0;
     while i < n {
-        let next = i + 1;
-        let a = meet_at(points, i, ray);
-        match a {
-            Meet::Miss => {}
-            Meet::Hit(t, _, _) => {
-                if kind_at(uses, kinds, i) == 0 {
+        let f = first_hit(points, i, n, ray);
+        match f {
+            FirstHit::Nothing => {
+                i = n;
+            }
+            FirstHit::At(j, t, _, _) => {
+                if kind_at(uses, kinds, j) == 0 {
                     return 0.0;
                 }
-                add_hit(distances, places, m, t, i);
+                add_hit(distances, places, m, t, j);
                 m += 1;
+                i = j + 1;
             }
         }
-        i = next;
     }
     product(uses, kinds, numbers, &places[..m])
 }
@@ -212,4 +212,52 @@ fn product(uses: &[u32], kinds: &[u8], numbers: &[f32], places: &[usize]) -> f32
         j += 1;
     }
     w
+}
+
+// ---- the search that both go by
+
+// How many triangles are looked over at once: enough that the compiler takes them four by four, and few, since after a hit the rest is looked over
+// again.
+const RUN: usize = 8;
+
+// The first hit from place i up to place n, in the list's order. Runs of triangles that are surely missed are passed over; the test decides of a
+// triangle that may be met.
+pub fn first_hit(points: &[f32], from: usize, n: usize, ray: Ray) -> FirstHit
+    requires { ⌜ (from ≤ n) × (n * 9 ≤ length (now points)) ⌝ }
+    ensures { λ r. ⌜ FirstFrom (now (points .entry)) ray from n r ⌝ }
+{
+    let mut i = from;
+    while i < n {
+        let k = run_of(n - i);
+        let c = triangle::inner::clear(points, i, k, ray);
+        let j = i + c as usize;
+        if c == k {
+            i = j;
+        } else {
+            let m = meet_at(points, j, ray);
+            match m {
+                Meet::Miss => {
+                    i = j + 1;
+                }
+                Meet::Hit(t, u, v) => {
+                    return FirstHit::At(j, t, u, v);
+                }
+            }
+        }
+    }
+    FirstHit::Nothing
+}
+
+// How many of those left are looked over at once.
+fn run_of(left: usize) -> u16
+    ensures { λ r. ⌜ (r ≤ left) × (0 < left → 0 < r) ⌝ }
+{
+    if left < RUN { left as u16 } else { RUN as u16 }
+}
+
+fn meet_at(points: &[f32], i: usize, ray: Ray) -> Meet
+    requires { ⌜ i * 9 + 8 < length (now points) ⌝ }
+    ensures { λ r. ⌜ r ≡ meetOf ray (triangleAt (now (points .entry)) i) ⌝ }
+{
+    triangle::inner::test(ray, triangle::inner::at(points, i))
 }

@@ -1,4 +1,5 @@
--- Where a ray meets one triangle; what that means; and the triangle at a place of a lent list.
+-- Where a ray meets one triangle; what that means; the triangle at a place of a lent list; and what a search may pass over.
 pub mod Meet
 pub mod Laws
 pub mod Places
+pub mod Missed

@@ -1,9 +1,11 @@
 // The test of one triangle, and a triangle out of a lent list of points.
 ghost use mathlib.Core.Path.{_≡_};
-ghost use Prim.Native.Nat.{_+_, _*_, _<_};
+ghost use mathlib.Core.Bool.{cond};
+ghost use Prim.Native.Nat.{_+_, _*_, _≤_, _<_};
 ghost use lib.ListN.{length};
 ghost use Rattle.triangle.specs.Places.{vecAt, triangleAt};
 ghost use Rattle.triangle.specs.Meet.{absentOf, solvedOf, judgedOf, meetOf};
+ghost use Rattle.triangle.specs.Missed.{outsideOf, Missed};
 use super::Meet;
 use super::Solved;
 use vectors::Ray;
@@ -93,6 +95,42 @@ fn judged(s: Solved, shortest: f32, longest: f32) -> Meet
         return Meet::Hit(s.t, s.u, s.v);
     }
     Meet::Miss
+}
+
+// How many triangles from place i on, at most k, the ray surely misses. The loop has no branch and no store, so that the compiler asks four triangles
+// at once, and counts in u16, of which SSE2 has the lesser of several at once.
+pub fn clear(points: &[f32], i: usize, k: u16, ray: Ray) -> u16
+    requires { ⌜ (i + k) * 9 ≤ length (now points) ⌝ }
+    ensures { λ r. ⌜ (r ≤ k) × Missed (now (points .entry)) ray i (i + r) ⌝ }
+{
+    let mut c = k;
+    let mut j = 0;
+    while j < k {
+        let s = solve(ray, at(points, i + j as usize));
+        c = lesser(c, where_met(outside(s, ray.shortest, ray.longest), j, k));
+        j += 1;
+    }
+    c
+}
+
+// Whether u, v and t alone show a miss. No test is skipped: each is cheaper than a branch.
+fn outside(s: Solved, shortest: f32, longest: f32) -> bool
+    ensures { λ r. ⌜ r ≡ outsideOf s shortest longest ⌝ }
+{
+    !(0.0 <= s.u) | (s.v < 0.0) | (s.u + s.v > 1.0) | (s.t < shortest) | (s.t > longest)
+}
+
+// k for a triangle that is missed, and its own place j for another.
+fn where_met(missed: bool, j: u16, k: u16) -> u16
+    ensures { λ r. ⌜ r ≡ cond missed k j ⌝ }
+{
+    if missed { k } else { j }
+}
+
+fn lesser(a: u16, b: u16) -> u16
+    ensures { λ r. ⌜ (r ≤ a) × (r ≤ b) ⌝ }
+{
+    if a < b { a } else { b }
 }
 
 // The triangle at place i: nine numbers, p0 xyz, p1 xyz, p2 xyz.

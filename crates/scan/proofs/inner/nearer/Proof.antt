@@ -7,12 +7,6 @@ use Rattle.scan.proofs.inner.nearer.Tie as tie
 enum-told : tie.Need-enum-told
 enum-told c = search needs
 
-enum-known-m : tie.Need-enum-known-m
-enum-known-m c = search needs
-
-enum-told-2 : tie.Need-enum-told-2
-enum-told-2 c = search needs
-
 enum-known-best : tie.Need-enum-known-best
 enum-known-best c = search needs
 
@@ -21,32 +15,16 @@ better-requires c κs = search needs
 
 returns : tie.Need-returns
 unfolding nearerOf
-returns c =
-    rw (c .before .before .before .before .before .before .m .given .1, c .before .before .before .best .given .1, ← c .before .better .ensures, c .if1 .taken)
+returns c = rw (c .before .before .before .best .given .1, ← c .before .better .ensures, c .if1 .taken)
 
 returns-2 : tie.Need-returns-2
 unfolding nearerOf
-returns-2 c = cc
+returns-2 c = rw (c .enum-told .given .1)
 
 returns-3 : tie.Need-returns-3
 unfolding nearerOf
-returns-3 c = cc
-
-returns-4 : tie.Need-returns-4
-unfolding nearerOf
-returns-4 c =
-    rw (c .before .before .before .before .before .before .m .given .1, c .before .before .before .best .given .1, ← c .before .better .ensures, c .if1 .left)
+returns-3 c = rw (c .before .before .before .best .given .1, ← c .before .better .ensures, c .if1 .left)
 
 pub nearer-spec : {M : Type 1} → statement M
 nearer-spec =
-    tie.close
-    (tie.spec
-    enum-told
-    enum-known-m
-    enum-told-2
-    enum-known-best
-    better-requires
-    returns
-    returns-2
-    returns-3
-    returns-4)
+    tie.close (tie.spec enum-told enum-known-best better-requires returns returns-2 returns-3)

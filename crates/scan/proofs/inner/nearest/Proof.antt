@@ -1,10 +1,12 @@
--- `scan::inner::nearest` meets its contract. The loop's invariant: what is held is the nearest among the first i.
-use mathlib.Core.Path.{_≡_, refl}
+-- `scan::inner::nearest` meets its contract. The loop's invariant: what is held is the nearest among the first i. The triangles before the first hit
+-- are missed and change nothing, and the hit is one step of the definition.
+use mathlib.Core.Path.{_≡_, refl, sym, _∙_}
 use Prim.Native.Nat.{_≤_, _-_}
 use native.Mathlib.Omega.{arith}
 use native.Mathlib.Numerals.{add-one}
 use lib.ListN.{length}
 use Rattle.names.specs.Scene.{sceneOf}
+use Rattle.scan.specs.FirstHit.{FirstFrom, nearest-over, nearest-first}
 use Rattle.scan.specs.Nearest.{nearestTo, nearestOf}
 use borrow.Author.Needs.{needs}
 use Rattle.scan.proofs.inner.nearest.Statement.{statement}
@@ -21,22 +23,45 @@ loop-holds : tie.Need-loop-holds Inv-loop μ-loop
 unfolding nearestTo
 loop-holds c = (search needs, refl)
 
-meet-at-requires : tie.Need-meet-at-requires Inv-loop μ-loop
-meet-at-requires c κs = omega arith
+first-hit-requires : tie.Need-first-hit-requires Inv-loop μ-loop
+first-hit-requires c κs = (omega arith, omega arith)
 
-nearer-requires : tie.Need-nearer-requires Inv-loop μ-loop
-nearer-requires c κs = search needs
-
-add-i : tie.Need-add-i Inv-loop μ-loop
-add-i c = omega arith
+enum-told : tie.Need-enum-told Inv-loop μ-loop
+enum-told c = search needs
 
 loop-less : tie.Need-loop-less Inv-loop μ-loop
 loop-less c = omega arith
 
 loop-again : tie.Need-loop-again Inv-loop μ-loop
-unfolding nearestTo
 loop-again c =
-    (omega arith, rw (add-one, c .nearer .ensures, c .before .meet-at .ensures, c .before .before .before .loop .inv .1))
+    let f = c .before .before in
+    let at = f .before .before .loop in
+    (omega arith, at .inv .1 ∙ sym (nearest-over _ _ _ _ (at .inv .0) (rw (c .enum-told .given .1) at (f .first-hit .ensures))))
+
+enum-known-f : tie.Need-enum-known-f Inv-loop μ-loop
+enum-known-f c = search needs
+
+nearer-requires : tie.Need-nearer-requires Inv-loop μ-loop
+nearer-requires c κs = search needs
+
+add-i : tie.Need-add-i Inv-loop μ-loop
+add-i c =
+    let h = c .before .before in
+    let g = rw (h .f .given .1) at (h .before .before .first-hit .ensures) in
+    omega (arith, g .1)
+
+loop-less-2 : tie.Need-loop-less-2 Inv-loop μ-loop
+loop-less-2 c =
+    let h = c .before .before in
+    let g = rw (h .f .given .1) at (h .before .before .first-hit .ensures) in
+    omega (arith, g .0, g .1)
+
+loop-again-2 : tie.Need-loop-again-2 Inv-loop μ-loop
+loop-again-2 c =
+    let h = c .before .before in
+    let at = h .before .before .before .before .loop in
+    let g = rw (h .f .given .1) at (h .before .before .first-hit .ensures) in
+    (omega (arith, g .1), rw (add-one, c .nearer .ensures, at .inv .1) (sym (nearest-first _ _ _ _ _ _ _ _ g)))
 
 returns : tie.Need-returns Inv-loop μ-loop
 unfolding nearestOf
@@ -51,9 +76,13 @@ nearest-spec =
     Inv-loop
     μ-loop
     loop-holds
-    meet-at-requires
-    nearer-requires
-    add-i
+    first-hit-requires
+    enum-told
     loop-less
     loop-again
+    enum-known-f
+    nearer-requires
+    add-i
+    loop-less-2
+    loop-again-2
     returns)

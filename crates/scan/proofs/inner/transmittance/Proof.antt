@@ -1,5 +1,6 @@
 -- `scan::inner::transmittance` meets its contract. The loop's invariant: the first m of the two lists, paired, are the hits of the first i triangles.
--- An opaque hit on the way is the whole answer; otherwise the product is taken over the places of all hits, each of which stands in the list of uses.
+-- The triangles before the first hit are missed and add none. An opaque hit is the whole answer; otherwise the product is taken over the places of
+-- all hits, each of which stands in the list of uses.
 use mathlib.Core.Path.{_≡_, refl, sym, ap, _∙_}
 use mathlib.Core.List.{List}
 use Prim.Native.Nat.{_≤_, _-_}
@@ -7,7 +8,8 @@ use native.Mathlib.Numerals.{add-one}
 use native.Mathlib.Omega.{arith}
 use lib.ListN.{length, take}
 use lib.Seq.{length-take-le}
-use Rattle.scan.specs.Hits.{Struck, paired, hitsOf, withMeet, placesOf}
+use Rattle.scan.specs.FirstHit.{FirstFrom, hits-over, hits-first}
+use Rattle.scan.specs.Hits.{Struck, struck, insertOf, paired, hitsOf, placesOf}
 use Rattle.scan.specs.HitLaws.{places-below}
 use Rattle.scan.specs.OpaqueLaws.{opaque-dark}
 use Rattle.scan.specs.Transmittance.{transmittanceOf}
@@ -28,23 +30,36 @@ loop-holds : tie.Need-loop-holds Inv-loop μ-loop
 unfolding hitsOf paired
 loop-holds c = (search needs, search needs, refl, refl, refl)
 
-add-next : tie.Need-add-next Inv-loop μ-loop
-add-next c = omega arith
-
-meet-at-requires : tie.Need-meet-at-requires Inv-loop μ-loop
-meet-at-requires c κs = omega arith
+first-hit-requires : tie.Need-first-hit-requires Inv-loop μ-loop
+first-hit-requires c κs = (omega arith, omega arith)
 
 enum-told : tie.Need-enum-told Inv-loop μ-loop
 enum-told c = search needs
 
-enum-known-a : tie.Need-enum-known-a Inv-loop μ-loop
-enum-known-a c = search needs
+loop-less : tie.Need-loop-less Inv-loop μ-loop
+loop-less c = omega arith
+
+loop-again : tie.Need-loop-again Inv-loop μ-loop
+loop-again c =
+    let f = c .before .before in
+    let at = f .before .before .loop in (
+      omega arith,
+      omega arith,
+      at .inv .2,
+      at .inv .3,
+      at .inv .4 ∙ sym (hits-over _ _ _ _ (at .inv .0) (rw (c .enum-told .given .1) at (f .first-hit .ensures))),
+    )
+
+enum-known-f : tie.Need-enum-known-f Inv-loop μ-loop
+enum-known-f c = search needs
 
 kind-at-requires : tie.Need-kind-at-requires Inv-loop μ-loop
 kind-at-requires c κs =
-    let k = c .before .before .before .before in
-    let s = k .before .before .before .before .before .before .before .before in
-    (k .loop-test .taken, s .pre .0 .within _ (k .loop-test .taken))
+    let h = c .before in
+    let f = h .before .before in
+    let g = rw (h .f .given .1) at (f .first-hit .ensures) in
+    let s = f .before .before .before .before .before .before .before .before .before in
+    (g .1, s .pre .0 .within _ (g .1))
 
 same-length : tie.Need-same-length Inv-loop μ-loop
 same-length c = c .before .before .before .before .before .before .before .loop .inv .2
@@ -54,9 +69,9 @@ same-length-2 c = c .before .before .before .before .before .before .before .loo
 
 returns : tie.Need-returns Inv-loop μ-loop
 returns c =
-    let a = c .before .before .before in
-    let m = a .before .before in
-    sym (opaque-dark _ _ _ _ _ _ (m .before .loop-test .taken) (sym (m .meet-at .ensures) ∙ a .a .given .1) (sym (c .before .kind-at .ensures) ∙ c .if1 .taken))
+    let h = c .before .before .before in
+    let g = rw (h .f .given .1) at (h .before .before .first-hit .ensures) in
+    sym (opaque-dark _ _ _ _ _ _ (g .1) (g .3) (sym (c .before .kind-at .ensures) ∙ c .if1 .taken))
 
 add-hit-requires : tie.Need-add-hit-requires Inv-loop μ-loop
 add-hit-requires c κs = omega arith
@@ -64,34 +79,29 @@ add-hit-requires c κs = omega arith
 add-m : tie.Need-add-m Inv-loop μ-loop
 add-m c = omega arith
 
-loop-less : tie.Need-loop-less Inv-loop μ-loop
-loop-less c = omega arith
-
-loop-again : tie.Need-loop-again Inv-loop μ-loop
-unfolding hitsOf withMeet
-loop-again c =
-    let at = c .before .before .before .before .loop in (
-      omega arith,
-      omega arith,
-      at .inv .2,
-      at .inv .3,
-      rw (add-one, ← at .inv .4, ← c .before .before .meet-at .ensures, c .enum-told .given .1),
-    )
+add-i : tie.Need-add-i Inv-loop μ-loop
+add-i c =
+    let h = c .before .before .before .before .before .before .before .before .before .before in
+    let g = rw (h .f .given .1) at (h .before .before .first-hit .ensures) in
+    omega (arith, g .1)
 
 loop-less-2 : tie.Need-loop-less-2 Inv-loop μ-loop
-loop-less-2 c = omega arith
+loop-less-2 c =
+    let h = c .before .before .before .before .before .before .before .before .before .before in
+    let g = rw (h .f .given .1) at (h .before .before .first-hit .ensures) in
+    omega (arith, g .0, g .1)
 
 loop-again-2 : tie.Need-loop-again-2 Inv-loop μ-loop
-unfolding hitsOf withMeet
 loop-again-2 c =
     let hit = c .before .before .before .before in
-    let a = hit .before .before .before .before .before .before in
-    let at = a .before .before .before .before .loop in (
-      omega arith,
-      omega arith,
+    let h = hit .before .before .before .before .before .before in
+    let at = h .before .before .before .before .loop in
+    let g = rw (h .f .given .1) at (h .before .before .first-hit .ensures) in (
+      omega (arith, g .1),
+      omega (arith, g .0),
       hit .add-hit .kept .0 ∙ at .inv .2,
       hit .add-hit .kept .1 .0 ∙ at .inv .3,
-      hit .add-hit .ensures ∙ rw (add-one, ← at .inv .4, ← a .before .before .meet-at .ensures, a .a .given .1),
+      hit .add-hit .ensures ∙ rw (add-one, at .inv .4) (sym (hits-first _ _ _ _ _ _ _ _ g)),
     )
 
 slice-reshare-prefix-product : tie.Need-slice-reshare-prefix-product Inv-loop μ-loop
@@ -139,18 +149,18 @@ transmittance-spec =
     Inv-loop
     μ-loop
     loop-holds
-    add-next
-    meet-at-requires
+    first-hit-requires
     enum-told
-    enum-known-a
+    loop-less
+    loop-again
+    enum-known-f
     kind-at-requires
     same-length
     same-length-2
     returns
     add-hit-requires
     add-m
-    loop-less
-    loop-again
+    add-i
     loop-less-2
     loop-again-2
     slice-reshare-prefix-product
