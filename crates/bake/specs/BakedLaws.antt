@@ -1,11 +1,13 @@
--- The contract leaves one answer; and a refusal fires no ray.
+-- The contract leaves one answer; which row refuses; and a refusal fires no ray.
 use mathlib.Core.Path.{_≡_, sym, ap, _∙_}
 use mathlib.Core.List.{List}
 use Prim.Native.Nat.{ℕ}
+use native.Mathlib.Omega.{arith}
 use lib.ListN.{length}
 use lib.Ieee.{Float}
+use Rattle.names.specs.Refusals.{RefusedBy, refused-by}
 use Rattle.spread.specs.Spread.{Stage, Called}
-use Rattle.intake.specs.Intake.{BakeInput}
+use Rattle.intake.specs.Intake.{BakeInput, bakeRows, bakeRefusal}
 use Rattle.demand.specs.Calls.{refused-call, answers-refusal}
 use Rattle.bake.specs.declared.BakeAnswer.{BakeAnswer}
 use Rattle.bake.specs.Baked.{Baked}
@@ -43,6 +45,12 @@ baked-once b s a d p r r' v v' x x' e e' q q' f g =
         ap (λ (n : ℕ). record { refusal = n; progress = r .progress; rays = r .rays }) h
         ∙ ap (λ (n : ℕ). record { refusal = r' .refusal; progress = n; rays = r .rays }) i
         ∙ ap (λ (n : ℕ). record { refusal = r' .refusal; progress = r' .progress; rays = n }) j
+
+-- k is answered exactly when row k holds and none before it, 0 exactly when none holds
+pub bake-refused-by : (b : BakeInput) (s : Stage Float) (a : ℕ) (r : BakeAnswer) (v x d d' : List Float) (p p' : List ℕ)
+    → Baked b s a r v x d d' p p' → RefusedBy (bakeRows b s a) (r .refusal)
+unfolding bakeRows bakeRefusal
+bake-refused-by b s a r v x d d' p p' f = refused-by (bakeRows b s a) (r .refusal) (omega arith) (f .refusal ∙ answers-refusal b s a)
 
 -- no ray is fired on a refusal, so that it leaves all four lists as they were
 pub record Untouched (s : Stage Float) (r : BakeAnswer) (v x d d' : List Float) (p p' : List ℕ) : Type 0 where

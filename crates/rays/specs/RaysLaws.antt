@@ -1,15 +1,14 @@
--- What the answers of the ray calls mean: each contract leaves one answer, an accepted scene's lists fit each other, and good calls are accepted.
+-- What the answers of the ray calls mean: which row refuses, each contract leaves one answer, an accepted scene's lists fit each other, and good calls are accepted.
 use mathlib.Core.Path.{_≡_, refl, sym, ap, ap₂, _∙_}
 use mathlib.Core.Bool.{Bool, true, false, cond}
-use mathlib.Core.Logic.{_↔_}
 use mathlib.Core.List.{List}
-use Prim.Native.Nat.{ℕ, _≤_, _<_}
+use Prim.Native.Nat.{ℕ, zero, suc, _≤_}
 use native.Mathlib.Omega.{arith}
 use lib.Dec.{eqb}
 use lib.ListN.{length}
 use lib.Ieee.{Float}
-use borrow.Author.Tests.{ltb-false}
-use Rattle.names.specs.Refusals.{firstOf, unlessRefused, FirstIs, NoneHolds, first-given, first-found, none-given, none-found}
+use borrow.Author.Tests.{ltb-false, ne-eqb}
+use Rattle.names.specs.Refusals.{firstOf, unlessRefused, Numbered, RefusedBy, refused-by}
 use Rattle.names.specs.Scene.{Scene, Sound}
 use Rattle.vectors.specs.declared.Ray.{Ray}
 use Rattle.vectors.specs.declared.Triangle.{Triangle}
@@ -23,40 +22,47 @@ use Rattle.scan.specs.declared.Nearest.{Nearest}
 use Rattle.rays.specs.declared.Met.{Met}
 use Rattle.rays.specs.declared.Found.{Found}
 use Rattle.rays.specs.declared.Transmitted.{Transmitted}
-use Rattle.rays.specs.Rays.{Values, metValues, foundValues, meetRows, meetRefusal, metCase, testValues, metOf, meetValues, MeetAnswered, wrongSceneLists, sceneRows, nearestRefusal, foundCase, scanValues, foundOf, nearestValues, NearestAnswered, wrongScratch, transmittanceRefusal, TransmittanceAnswered}
+use Rattle.rays.specs.Rays.{Values, refusedValues, metValues, foundValues, meetRows, meetRefusal, metCase, testValues, metOf, meetValues, MeetAnswered, wrongSceneLists, sceneRows, nearestRefusal, foundCase, scanValues, foundOf, nearestValues, NearestAnswered, wrongScratch, transmittanceRefusal, TransmittanceAnswered}
 
--- ---- k is refused exactly when row k holds and none before it, and a call is accepted exactly when none holds
+-- ---- which row refuses, of each contract: k exactly when row k holds and none before it, 0 exactly when none holds
 
-module _ (ray : Ray) (triangle : Triangle) where
-  pub meet-refused-by : (k : ℕ) → 0 < k → (meetRefusal ray triangle ≡ k) ↔ FirstIs k (meetRows ray triangle)
-  unfolding meetRefusal
-  meet-refused-by k h = (first-found k (meetRows ray triangle) h, first-given)
+-- values that a refusal decides bear its number, where the others bear 0
+number-of : (k : ℕ) (new : Values) → new .number ≡ 0 → unlessRefused k new (refusedValues k) .number ≡ k
+unfolding unlessRefused
+number-of zero new e = e
+number-of (suc k) new e = rw (ne-eqb (suc k) 0 (λ z. omega (arith, z))) refl
 
-  pub meet-passed-by : (meetRefusal ray triangle ≡ 0) ↔ NoneHolds (meetRows ray triangle)
-  unfolding meetRefusal
-  meet-passed-by = (none-found (meetRows ray triangle) (omega arith, (omega arith, tt)), none-given)
+pub meet-refused-by : (ray : Ray) (triangle : Triangle) (r : Met) → MeetAnswered ray triangle r → RefusedBy (meetRows ray triangle) (metValues r .number)
+unfolding meetValues meetRefusal testValues
+meet-refused-by ray triangle r a =
+    refused-by (meetRows ray triangle) _ (omega arith, (omega arith, tt))
+    (ap (λ (x : Values). x .number) (a .values) ∙ number-of (meetRefusal ray triangle) (testValues (meetOf ray triangle)) (accepted (meetOf ray triangle)))
+  where
+    accepted : (m : Meet) → testValues m .number ≡ 0
+    accepted Meet.Miss = refl
+    accepted (Meet.Hit t u v) = refl
 
-module _ (scene : Scene) (ray : Ray) where
-  pub nearest-refused-by : (k : ℕ) → 0 < k → (nearestRefusal scene ray ≡ k) ↔ FirstIs k (sceneRows (wrongSceneLists scene) scene ray)
-  unfolding nearestRefusal
-  nearest-refused-by k h = (first-found k (sceneRows (wrongSceneLists scene) scene ray) h, first-given)
+scene-numbered : (wrong : Bool) (scene : Scene) (ray : Ray) → Numbered (sceneRows wrong scene ray)
+scene-numbered wrong scene ray = (omega arith, (omega arith, (omega arith, (omega arith, (omega arith, tt)))))
 
-  pub nearest-passed-by : (nearestRefusal scene ray ≡ 0) ↔ NoneHolds (sceneRows (wrongSceneLists scene) scene ray)
-  unfolding nearestRefusal
-  nearest-passed-by =
-      (none-found (sceneRows (wrongSceneLists scene) scene ray) (omega arith, (omega arith, (omega arith, (omega arith, (omega arith, tt))))), none-given)
+pub nearest-refused-by : (scene : Scene) (ray : Ray) (r : Found) → NearestAnswered scene ray r
+    → RefusedBy (sceneRows (wrongSceneLists scene) scene ray) (foundValues r .number)
+unfolding nearestValues nearestRefusal scanValues
+nearest-refused-by scene ray r a =
+    refused-by (sceneRows (wrongSceneLists scene) scene ray) _ (scene-numbered (wrongSceneLists scene) scene ray)
+    (ap (λ (x : Values). x .number) (a .values) ∙ number-of (nearestRefusal scene ray) (scanValues (nearestOf scene ray)) (accepted (nearestOf scene ray)))
+  where
+    accepted : (n : Nearest) → scanValues n .number ≡ 0
+    accepted Nearest.Nothing = refl
+    accepted (Nearest.At i t u v) = refl
 
-  module _ (distances : List Float) (places : List ℕ) where
-    pub transmittance-refused-by : (k : ℕ) → 0 < k
-        → (transmittanceRefusal scene ray distances places ≡ k) ↔ FirstIs k (sceneRows (wrongScratch scene (length distances) (length places)) scene ray)
-    unfolding transmittanceRefusal
-    transmittance-refused-by k h = (first-found k (sceneRows (wrongScratch scene (length distances) (length places)) scene ray) h, first-given)
-
-    pub transmittance-passed-by : (transmittanceRefusal scene ray distances places ≡ 0)
-        ↔ NoneHolds (sceneRows (wrongScratch scene (length distances) (length places)) scene ray)
-    unfolding transmittanceRefusal
-    transmittance-passed-by =
-        (none-found (sceneRows (wrongScratch scene (length distances) (length places)) scene ray) (omega arith, (omega arith, (omega arith, (omega arith, (omega arith, tt))))), none-given)
+pub transmittance-refused-by : (scene : Scene) (ray : Ray) (distances : List Float) (places : List ℕ) (r : Transmitted) (distances' : List Float) (places' : List ℕ)
+    → TransmittanceAnswered scene ray distances places r distances' places'
+    → RefusedBy (sceneRows (wrongScratch scene (length distances) (length places)) scene ray) (r .refusal)
+unfolding transmittanceRefusal
+transmittance-refused-by scene ray distances places r distances' places' a =
+    let wrong = wrongScratch scene (length distances) (length places) in
+    refused-by (sceneRows wrong scene ray) (r .refusal) (scene-numbered wrong scene ray) (a .answer)
 
 -- ---- one answer
 
@@ -132,7 +138,7 @@ nearest-answered scene ray r e =
 scene-sound : (wrong : Bool) (scene : Scene) (ray : Ray) → (wrong ≡ false → wrongSceneLists scene ≡ false) → firstOf (sceneRows wrong scene ray) ≡ 0
     → (wrong ≡ false) × Sound scene
 scene-sound wrong scene ray w e =
-    let p = passed (sceneRows wrong scene ray) (omega arith, (omega arith, (omega arith, (omega arith, (omega arith, tt))))) e in
+    let p = passed (sceneRows wrong scene ray) (scene-numbered wrong scene ray) e in
     (p .0, sound _ _ _ _ (w (p .0)) (p .1 .0) (p .1 .1 .1 .0))
 
 pub nearest-sound : (scene : Scene) (ray : Ray) → nearestRefusal scene ray ≡ 0 → Sound scene
