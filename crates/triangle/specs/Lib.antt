@@ -3,3 +3,4 @@ pub mod Meet
 pub mod Laws
 pub mod Places
 pub mod Missed
+pub mod Halves

@@ -5,7 +5,9 @@ ghost use Prim.Native.Nat.{_+_, _*_, _≤_, _<_};
 ghost use lib.ListN.{length};
 ghost use Rattle.triangle.specs.Places.{vecAt, triangleAt};
 ghost use Rattle.triangle.specs.Meet.{absentOf, solvedOf, judgedOf, meetOf};
+ghost use Rattle.triangle.specs.Halves.{halfSolvedOf, restSolvedOf, besideOf};
 ghost use Rattle.triangle.specs.Missed.{outsideOf, Missed};
+use super::HalfSolved;
 use super::Meet;
 use super::Solved;
 use vectors::Ray;
@@ -21,12 +23,16 @@ const FLAT: f32 = 1.0e-8;
 // the largest finite number: "A non-finite t is a miss"
 const LARGEST: f32 = 3.4028235e38;
 
-// Where the ray meets the triangle, between the ray's shortest and longest distance. An absent triangle is met nowhere; hits are rare, so absence is
-// asked at a hit alone, and a miss is a miss either way (`judged-missed`).
+// Where the ray meets the triangle, between the ray's shortest and longest distance. As in the Rust, u is asked before v and t are computed. An absent
+// triangle is met nowhere; hits are rare, so absence is asked at a hit alone, and a miss is a miss either way (`judged-missed`).
 pub fn test(ray: Ray, triangle: Triangle) -> Meet
     ensures { λ r. ⌜ r ≡ meetOf ray triangle ⌝ }
 {
-    let m = judged(solve(ray, triangle), ray.shortest, ray.longest);
+    let h = half_solved(ray, triangle);
+    if beside(h.u) {
+        return Meet::Miss;
+    }
+    let m = judged(rest_solved(ray.direction, h), ray.shortest, ray.longest);
     match m {
         Meet::Miss => m,
         Meet::Hit(_, _, _) => {
@@ -51,19 +57,49 @@ pub fn absent(triangle: Triangle) -> bool
 fn solve(ray: Ray, triangle: Triangle) -> Solved
     ensures { λ r. ⌜ r ≡ solvedOf ray triangle ⌝ }
 {
+    rest_solved(ray.direction, half_solved(ray, triangle))
+}
+
+fn half_solved(ray: Ray, triangle: Triangle) -> HalfSolved
+    ensures { λ r. ⌜ r ≡ halfSolvedOf ray triangle ⌝ }
+{
     let p0 = triangle.p0;
-    let d = ray.direction;
     let e1 = vectors::sub(triangle.p1, p0);
     let e2 = vectors::sub(triangle.p2, p0);
-    let p = vectors::cross(d, e2);
+    let p = vectors::cross(ray.direction, e2);
     let det = vectors::dot(e1, p);
     let inverse = 1.0 / det;
     let s = vectors::sub(ray.origin, p0);
     let u = vectors::dot(s, p) * inverse;
-    let q = vectors::cross(s, e1);
-    let v = vectors::dot(d, q) * inverse;
-    let t = vectors::dot(e2, q) * inverse;
-    Solved { det, u, v, t }
+    HalfSolved {
+        e1,
+        e2,
+        s,
+        det,
+        inverse,
+        u,
+    }
+}
+
+fn rest_solved(direction: Vec3, h: HalfSolved) -> Solved
+    ensures { λ r. ⌜ r ≡ restSolvedOf direction h ⌝ }
+{
+    let q = vectors::cross(h.s, h.e1);
+    let v = vectors::dot(direction, q) * h.inverse;
+    let t = vectors::dot(h.e2, q) * h.inverse;
+    Solved {
+        det: h.det,
+        u: h.u,
+        v,
+        t,
+    }
+}
+
+// Whether u is outside 0..1 or no number.
+fn beside(u: f32) -> bool
+    ensures { λ r. ⌜ r ≡ besideOf u ⌝ }
+{
+    !((0.0 <= u) & (u <= 1.0))
 }
 
 // The tests, in the Rust's order and with its answers where a number is no number.

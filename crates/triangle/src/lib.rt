@@ -15,3 +15,13 @@ pub struct Solved {
     pub v: f32,
     pub t: f32,
 }
+
+// The half of it that shows most misses, and what the rest is computed from: the two edges from p0, the origin from p0, and the determinant's inverse.
+pub struct HalfSolved {
+    pub e1: vectors::Vec3,
+    pub e2: vectors::Vec3,
+    pub s: vectors::Vec3,
+    pub det: f32,
+    pub inverse: f32,
+    pub u: f32,
+}

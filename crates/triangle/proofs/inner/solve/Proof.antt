@@ -1,62 +1,17 @@
--- `triangle::inner::solve` meets its contract: the code is the definition, call for call.
-use Rattle.triangle.specs.Meet.{solvedOf}
+-- `triangle::inner::solve` meets its contract: the two halves make what is solved.
+use Rattle.triangle.specs.Halves.{two-halves}
 use borrow.Author.Needs.{needs}
 use Rattle.triangle.proofs.inner.solve.Statement.{statement}
 use Rattle.triangle.proofs.inner.solve.Tie as tie
 
-sub-requires : tie.Need-sub-requires
-sub-requires c κs = search needs
+half-solved-requires : tie.Need-half-solved-requires
+half-solved-requires c κs = search needs
 
-sub-requires-2 : tie.Need-sub-requires-2
-sub-requires-2 c κs = search needs
-
-cross-requires : tie.Need-cross-requires
-cross-requires c κs = search needs
-
-dot-requires : tie.Need-dot-requires
-dot-requires c κs = search needs
-
-sub-requires-3 : tie.Need-sub-requires-3
-sub-requires-3 c κs = search needs
-
-dot-requires-2 : tie.Need-dot-requires-2
-dot-requires-2 c κs = search needs
-
-cross-requires-2 : tie.Need-cross-requires-2
-cross-requires-2 c κs = search needs
-
-dot-requires-3 : tie.Need-dot-requires-3
-dot-requires-3 c κs = search needs
-
-dot-requires-4 : tie.Need-dot-requires-4
-dot-requires-4 c κs = search needs
+rest-solved-requires : tie.Need-rest-solved-requires
+rest-solved-requires c κs = search needs
 
 returns : tie.Need-returns
-unfolding solvedOf
-returns c =
-    rw (
-      ← c .before .before .before .before .before .before .before .before .sub .ensures,
-      ← c .before .before .before .before .before .before .before .sub2 .ensures,
-      ← c .before .before .before .before .before .before .cross .ensures,
-      ← c .before .before .before .before .before .dot .ensures,
-      ← c .before .before .before .before .sub3 .ensures,
-      ← c .before .before .before .dot2 .ensures,
-      ← c .before .before .cross2 .ensures,
-      ← c .before .dot3 .ensures,
-      ← c .dot4 .ensures,
-    )
+returns c = rw (c .rest-solved .ensures, c .before .half-solved .ensures) (two-halves _ _)
 
 pub solve-spec : {M : Type 1} → statement M
-solve-spec =
-    tie.close
-    (tie.spec
-    sub-requires
-    sub-requires-2
-    cross-requires
-    dot-requires
-    sub-requires-3
-    dot-requires-2
-    cross-requires-2
-    dot-requires-3
-    dot-requires-4
-    returns)
+solve-spec = tie.close (tie.spec half-solved-requires rest-solved-requires returns)
