@@ -38,6 +38,13 @@ within-out a b e = let p = both e in (leb-true _ _ (p .0), leb-true _ _ (p .1))
 within-in : (a b : ℕ) → a ≤ b + 2 → b ≤ a + 2 → withinReach a b ≡ true
 within-in a b p q = and-both (le-leb _ _ p) (le-leb _ _ q)
 
+-- a test that also asks for the reach on one axis
+pub near-out : {b : Bool} (i x : ℕ) → b && withinReach i x ≡ true → (b ≡ true) × (i ≤ x + 2) × (x ≤ i + 2)
+near-out i x e = let p = both e in let w = within-out i x (p .1) in (p .0, w .0, w .1)
+
+pub near-in : {b : Bool} (i x : ℕ) → b ≡ true → i ≤ x + 2 → x ≤ i + 2 → b && withinReach i x ≡ true
+near-in i x e p q = and-both e (within-in i x p q)
+
 module _ (axes : Axes) (occupied : List ℕ) where
   -- a voxel that passes the definition's test
   found : (x y z i j k : ℕ) → i < axes .width → j < axes .height → k < axes .depth
@@ -79,17 +86,19 @@ module _ (axes : Axes) (occupied : List ℕ) where
   unfolding activeOf
   active-length = length-tab _ (voxels axes) 0
 
-  pub active-at : (i : ℕ) → i < voxels axes → isMarked (activeOf axes occupied) i ≡ activeIn axes occupied (xOf axes i) (yOf axes i) (zOf axes i)
+  pub active-value : (i : ℕ) → i < voxels axes → getD (activeOf axes occupied) i 0 ≡ cond (activeIn axes occupied (xOf axes i) (yOf axes i) (zOf axes i)) 1 0
   unfolding activeOf activeEntry
-  active-at i h = rw (getD-tab (activeEntry axes occupied) (voxels axes) 0 i 0 h, zero-add i) (bit (activeIn axes occupied (xOf axes i) (yOf axes i) (zOf axes i)))
+  active-value i h = rw (getD-tab (activeEntry axes occupied) (voxels axes) 0 i 0 h, zero-add i) refl
+
+  pub active-at : (i : ℕ) → i < voxels axes → isMarked (activeOf axes occupied) i ≡ activeIn axes occupied (xOf axes i) (yOf axes i) (zOf axes i)
+  active-at i h = rw (active-value i h) (bit (activeIn axes occupied (xOf axes i) (yOf axes i) (zOf axes i)))
     where
       bit : (b : Bool) → eqb (cond {A = ℕ} b 1 0) 1 ≡ b
       bit true = refl
       bit false = refl
 
   pub active-entry : (i : ℕ) → i < voxels axes → (getD (activeOf axes occupied) i 0 ≡ 0) ⊎ (getD (activeOf axes occupied) i 0 ≡ 1)
-  unfolding activeOf activeEntry
-  active-entry i h = rw (getD-tab (activeEntry axes occupied) (voxels axes) 0 i 0 h) (bits (activeIn axes occupied (xOf axes (0 + i)) (yOf axes (0 + i)) (zOf axes (0 + i))))
+  active-entry i h = rw (active-value i h) (bits (activeIn axes occupied (xOf axes i) (yOf axes i) (zOf axes i)))
     where
       bits : (b : Bool) → (cond {A = ℕ} b 1 0 ≡ 0) ⊎ (cond {A = ℕ} b 1 0 ≡ 1)
       bits true = inr refl

@@ -1,5 +1,6 @@
--- The active mask: what it is, what it means, and the window that finds it.
+-- The active mask: what it is, what it means, and how spreading along the axes gives it.
 pub mod Active
 pub mod ActiveLaws
-pub mod Window
-pub mod WindowLaws
+pub mod ByAxes
+pub mod LineLaws
+pub mod ByAxesLaws

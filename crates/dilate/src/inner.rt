@@ -1,12 +1,11 @@
-// The active mask: for each voxel the window round it is searched until an occupied voxel is found. The window is clamped to the grid on every axis,
-// so that no row's end is run over.
+// The active mask: the marks of the occupied mask are copied into it and spread there, along x, then along y, then along z.
 ghost use mathlib.Core.Path.{_≡_};
-ghost use Prim.Native.Nat.{_+_, _-_, _*_, _≤_, _<_};
+ghost use mathlib.Core.Bool.{cond};
+ghost use Prim.Native.Nat.{_+_, _*_, _<_};
 ghost use lib.ListN.{length};
-ghost use Rattle.lists.specs.Fold.{tab};
 ghost use Rattle.grid.specs.Grid.{voxels};
 ghost use Rattle.dilate.specs.Active.{activeOf};
-ghost use Rattle.dilate.specs.Window.{firstWithin, pastWithin, rowHas, planeHas, boxHas, windowHas, windowEntry};
+ghost use Rattle.dilate.specs.ByAxes.{lineSpread, spreadMiddle, spreadByAxes, pastReach};
 use grid::Axes;
 
 // "Active exactly when some occupied voxel lies within 2 on every axis."
@@ -17,123 +16,94 @@ pub fn dilate(axes: Axes, occupied: &[u8], active: &mut [u8])
     requires { ⌜ (0 < axes .width) × (0 < axes .height) × (voxels axes ≡ length (now occupied)) × (length (now active) ≡ length (now occupied)) ⌝ }
     ensures { λ r. ⌜ now (active .exit) ≡ activeOf axes (now (occupied .entry)) ⌝ }
 {
-    fill(occupied, active, axes.width, axes.height, axes.depth);
+    // a grid without depth has no entry, and its planes may be larger than any list
+    if axes.depth == 0 {
+        return;
+    }
+    copy(occupied, active);
+    spread_by_axes(axes, active);
 }
 
-fn fill(occupied: &[u8], active: &mut [u8], w: usize, h: usize, d: usize)
-    requires { ⌜ (0 < w) × (0 < h) × (d * h * w ≡ length (now occupied)) × (length (now active) ≡ length (now occupied)) ⌝ }
-    ensures { λ r. ⌜ now (active .exit) ≡ tab (windowEntry (now (occupied .entry)) w h d) (length (now (occupied .entry))) 0 ⌝ }
+fn copy(from: &[u8], to: &mut [u8])
+    requires { ⌜ length (now to) ≡ length (now from) ⌝ }
+    ensures { λ r. ⌜ now (to .exit) ≡ now (from .entry) ⌝ }
 {
     let mut i = 0;
-    while i < active.len() {
-        active[i] = entry(occupied, w, h, d, i);
+    while i < to.len() {
+        to[i] = from[i];
         i += 1;
     }
 }
 
-fn entry(occupied: &[u8], w: usize, h: usize, d: usize, i: usize) -> u8
-    requires { ⌜ (0 < w) × (0 < h) × (d * h * w ≡ length (now occupied)) × (i < length (now occupied)) ⌝ }
-    ensures { λ r. ⌜ r ≡ windowEntry (now (occupied .entry)) w h d i ⌝ }
+// Along x, then y, then z: each is the middle axis of a grid that the list is.
+fn spread_by_axes(axes: Axes, mask: &mut [u8])
+    requires { ⌜ (0 < axes .width) × (0 < axes .height) × (0 < axes .depth) × (voxels axes ≡ length (now mask)) ⌝ }
+    ensures { λ r. ⌜ now (mask .exit) ≡ spreadByAxes axes (now (mask .entry)) ⌝ }
 {
-    let r = i / w;
-    if window_has(occupied, w, h, d, i % w, r % h, r / h) {
+    let x = Axes {
+        width: 1,
+        height: axes.width,
+        depth: axes.depth * axes.height,
+    };
+    let z = Axes {
+        width: axes.height * axes.width,
+        height: axes.depth,
+        depth: 1,
+    };
+    spread_middle(x, mask);
+    spread_middle(axes, mask);
+    spread_middle(z, mask);
+}
+
+// Spreads the marks of a grid along its middle axis, line by line.
+fn spread_middle(view: Axes, mask: &mut [u8])
+    requires { ⌜ (0 < view .width) × (0 < view .height) × (voxels view ≡ length (now mask)) ⌝ }
+    ensures { λ r. ⌜ now (mask .exit) ≡ spreadMiddle view (now (mask .entry)) ⌝ }
+{
+    let w = view.width;
+    let h = view.height;
+    let lines = view.depth * w;
+    let mut t = 0;
+    while t < lines {
+        spread_line(mask, t / w * h * w + t % w, w, h);
+        t += 1;
+    }
+}
+
+// Spreads the marks of a line of n places. A place is written when those up to 2 ahead have been read, and those before it, already written, are not
+// read again: `past`, the place past the reach of the last mark read, says how far it reaches.
+fn spread_line(mask: &mut [u8], start: usize, stride: usize, n: usize)
+    requires { ⌜ (0 < stride) × (start + n * stride < length (now mask) + stride) ⌝ }
+    ensures { λ r. ⌜ now (mask .exit) ≡ lineSpread start stride n (now (mask .entry)) ⌝ }
+{
+    let first = past_reach(mask, start, stride, n, 0, 0);
+    let mut past = past_reach(mask, start, stride, n, 1, first);
+    let mut k = 0;
+    while k < n {
+        past = past_reach(mask, start, stride, n, k + REACH, past);
+        mask[start + k * stride] = mark(k < past);
+        k += 1;
+    }
+}
+
+// The place past the reach of the mark at place k, if there is one; else as before.
+fn past_reach(mask: &[u8], start: usize, stride: usize, n: usize, k: usize, past: usize) -> usize
+    requires { ⌜ (0 < stride) × (start + n * stride < length (now mask) + stride) ⌝ }
+    ensures { λ r. ⌜ r ≡ pastReach (now (mask .entry)) start stride n k past ⌝ }
+{
+    if k < n {
+        if mask[start + k * stride] == 1 {
+            return k + (REACH + 1);
+        }
+    }
+    past
+}
+
+fn mark(here: bool) -> u8
+    ensures { λ r. ⌜ r ≡ cond here 1 0 ⌝ }
+{
+    if here {
         return 1;
     }
     0
-}
-
-// Whether the window round (x, y, z) has an occupied voxel.
-fn window_has(occupied: &[u8], w: usize, h: usize, d: usize, x: usize, y: usize, z: usize) -> bool
-    requires { ⌜ (x < w) × (y < h) × (z < d) × (d * h * w ≤ length (now occupied)) ⌝ }
-    ensures { λ r. ⌜ r ≡ windowHas (now (occupied .entry)) w h d x y z ⌝ }
-{
-    let f = first_within(x);
-    let t = past_within(x, w);
-    let g = first_within(y);
-    let u = past_within(y, h);
-    let m = first_within(z);
-    let n = past_within(z, d);
-    box_has(occupied, w, h, f, t, g, u, m, n)
-}
-
-// The first coordinate within 2 of x.
-fn first_within(x: usize) -> usize
-    ensures { λ r. ⌜ r ≡ firstWithin x ⌝ }
-{
-    if x <= REACH {
-        return 0;
-    }
-    x - REACH
-}
-
-// The coordinate past the last within 2 of x, on an axis of n.
-fn past_within(x: usize, n: usize) -> usize
-    requires { ⌜ x < n ⌝ }
-    ensures { λ r. ⌜ r ≡ pastWithin x n ⌝ }
-{
-    if n - x <= REACH + 1 {
-        return n;
-    }
-    x + (REACH + 1)
-}
-
-// Whether the planes from m to n have an occupied voxel, of each the rows from g to u, of each the cells from f to t.
-fn box_has(
-    occupied: &[u8],
-    w: usize,
-    h: usize,
-    f: usize,
-    t: usize,
-    g: usize,
-    u: usize,
-    m: usize,
-    n: usize,
-) -> bool
-    requires { ⌜ (f ≤ t) × (t ≤ w) × (g ≤ u) × (u ≤ h) × (m ≤ n) × (0 < w) × (0 < h) × (n * h * w ≤ length (now occupied)) ⌝ }
-    ensures { λ r. ⌜ r ≡ boxHas (now (occupied .entry)) w h f t g u m n ⌝ }
-{
-    let mut z = m;
-    while z < n {
-        if plane_has(occupied, w, f, t, z * h, g, u) {
-            return true;
-        }
-        z += 1;
-    }
-    false
-}
-
-fn plane_has(
-    occupied: &[u8],
-    w: usize,
-    f: usize,
-    t: usize,
-    plane: usize,
-    g: usize,
-    u: usize,
-) -> bool
-    requires { ⌜ (f ≤ t) × (t ≤ w) × (g ≤ u) × (0 < w) × ((plane + u) * w ≤ length (now occupied)) ⌝ }
-    ensures { λ r. ⌜ r ≡ planeHas (now (occupied .entry)) w f t plane g u ⌝ }
-{
-    let mut y = g;
-    while y < u {
-        if row_has(occupied, (plane + y) * w, f, t) {
-            return true;
-        }
-        y += 1;
-    }
-    false
-}
-
-fn row_has(occupied: &[u8], row: usize, f: usize, t: usize) -> bool
-    requires { ⌜ (f ≤ t) × (row + t ≤ length (now occupied)) ⌝ }
-    ensures { λ r. ⌜ r ≡ rowHas (now (occupied .entry)) row f t ⌝ }
-{
-    let mut x = f;
-    while x < t {
-        if occupied[row + x] == 1 {
-            return true;
-        }
-        x += 1;
-    }
-    false
 }
