@@ -19,11 +19,12 @@
  *    7  a light direction with a component beyond 4,096 or of squared length 1e-12 or less; a light, ambient or sky number not finite or beyond 65,536
  *    8  a ray's origin beyond 65,536, direction beyond 2, shortest distance outside 0..65,536, or longest distance NaN
  *    9  progress above the voxel count
- *   10  an allowance below 384
+ *   10  an allowance below 384, and 64 more for each lamp
  *   11  a position not finite or beyond 4,096, or a voxel index past the grid
  *   12  any fault in a volume file
- *   13  a mask's entry not 0 or 1; a light or a coefficient not finite or beyond 2^64 in magnitude
+ *   13  a mask's entry not 0 or 1; a light not finite or beyond 2^64 in magnitude; a coefficient not finite or beyond 2^96
  *   14  more than 65,536 bytes
+ *   19  more than eight lamps, a lamp's position not finite or beyond 4,096 in magnitude, or its colour not finite or beyond 65,536
  *
  * Lengths. N is the voxel count, width·height·depth; voxel (x,y,z) has the index x + width·(y + height·z). T is the triangle count.
  *   points      9·T: p0 x y z, p1 x y z, p2 x y z of each triangle       uses     T: the material of each triangle (this list gives T)
@@ -31,6 +32,7 @@
  *   occupied, active   N: 0 or 1                                          light, lights, and a light's scratch   N
  *   volume, and its scratch   16·N: the four coefficients of each voxel, x y z w of each in turn
  *   sky         1,728: red, green and blue of direction i of set s from 3·(64·s + i) on
+ *   lamps       6 a lamp, none to eight: position x y z, colour RGB; any multiple of 6 is a length
  *   distances, places   hit scratch, each at least T
  * Hit scratch is open after a call that traced rays: the contents are no one's promise. Where a call refuses, or fires no ray, it is as it was.
  */
@@ -229,9 +231,9 @@ GeaidnosaSunned geaidnosa_sun(
 
 /* ---- the bake */
 
-/* Bakes the volume from progress on, a voxel while at least 384 rays of the allowance remain; call again with the progress answered and the same
+/* Bakes the volume from progress on, a voxel while at least 384 rays of the allowance remain, and 64 more for each lamp; call again with the progress answered and the same
  * lists until it is the voxel count. At progress 0 the volume's contents do not matter, scratch's never do: it is written by the last call alone.
- * Refuses 1, 2, 3, 4, 5, 6, 7, 9, 10, 13. */
+ * Refuses 1, 2, 3, 4, 5, 6, 7, 19, 9, 10, 13. */
 GeaidnosaBakeAnswer geaidnosa_bake(
     GeaidnosaAxes axes,
     GeaidnosaCorners corners,
@@ -242,6 +244,7 @@ GeaidnosaBakeAnswer geaidnosa_bake(
     GeaidnosaLight light,
     GeaidnosaAmbient ambient,
     const float *sky, size_t sky_length,
+    const float *lamps, size_t lamps_length,
     const uint8_t *active, size_t active_length,
     const float *lights, size_t lights_length,
     float *volume, size_t volume_length,

@@ -18,6 +18,8 @@ from volume_vectors import good, parts, smallest, unlike
 
 HERE = os.path.dirname(os.path.dirname(os.path.abspath(__file__)))
 BATCH = 20000
+# the largest patterns accepted: 2^64 and 2^96
+LIGHT, COEFFICIENT = 0x5F800000, 0x6F800000
 
 
 def command(name):
@@ -59,14 +61,14 @@ def compare(files, what):
     sys.exit("%s: more was written than asked" % what)
 
 
-def some_number(chance):
-    """A finite pattern within ±2^64, with zeros of both signs, subnormals and the limits among them."""
+def some_number(chance, most):
+    """A finite pattern up to `most` in magnitude, with zeros of both signs, subnormals and the limits among them."""
     kind = chance.randrange(8)
     if kind == 0:
-        return chance.choice([0, 0x80000000, 1, 0x80000001, 0x007FFFFF, 0x00800000, 0x5F800000, 0xDF800000, 0x3F800000])
+        return chance.choice([0, 0x80000000, 1, 0x80000001, 0x007FFFFF, 0x00800000, most, most | 0x80000000, 0x3F800000])
     if kind == 1:
         return chance.randrange(0x00800000) | chance.randrange(2) << 31
-    return chance.randrange(0x5F800001) | chance.randrange(2) << 31
+    return chance.randrange(most + 1) | chance.randrange(2) << 31
 
 
 def some_volume(chance):
@@ -79,7 +81,7 @@ def some_volume(chance):
         n = axes[0] * axes[1] * axes[2]
     low = [chance.uniform(-4000, 3000) for _ in range(3)]
     high = [min(4096, x + chance.choice([a / 512, chance.uniform(1, 1000)])) for x, a in zip(low, axes)]
-    made = bodies([bits(x) for x in low + high], [some_number(chance) for _ in range(n)], [some_number(chance) for _ in range(16 * n)],
+    made = bodies([bits(x) for x in low + high], [some_number(chance, LIGHT) for _ in range(n)], [some_number(chance, COEFFICIENT) for _ in range(16 * n)],
                   [chance.randrange(2) for _ in range(n)], [chance.randrange(2) for _ in range(n)])
     foreign = sorted(chance.sample(range(128, 256), chance.choice([0, 0, 1, 2, 11])))
     return assemble(axes, made + [(k, chance.randbytes(chance.choice([0, 1, 3, 40]))) for k in foreign])

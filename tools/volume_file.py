@@ -77,10 +77,10 @@ def judge(data):
     light = struct.unpack("<%dI" % n, body[1])
     volume = struct.unpack("<%dI" % (16 * n), body[2])
     corners = struct.unpack("<6I", body[5])
-    for b in light + volume:
-        x = number(b)
-        if not (math.isfinite(x) and abs(x) <= 2.0 ** 64):
-            return None
+    for numbers, most in ((light, 2.0 ** 64), (volume, 2.0 ** 96)):
+        for x in map(number, numbers):
+            if not (math.isfinite(x) and abs(x) <= most):
+                return None
     if any(m > 1 for m in body[3] + body[4]):
         return None
     at = [number(b) for b in corners]

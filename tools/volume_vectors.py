@@ -47,7 +47,8 @@ def good():
     yield assemble([1, 1, 1], five + [(128 + i, bytes([i]) * i) for i in range(10)] + [(255, b"last")])
     yield assemble([1, 1, 1], five + [(128, b""), (255, b"")])
     yield assemble([1, 1, 1], parts(light=[bits(-0.0)], volume=[bits(-0.0)] * 16))
-    yield assemble([1, 1, 1], parts(light=[0x5F800000], volume=[0xDF800000] * 16))
+    yield assemble([1, 1, 1], parts(light=[0x5F800000], volume=[0xEF800000] * 16))
+    yield assemble([1, 1, 1], parts(light=[0xDF800000], volume=[0x5F800001] * 15 + [0x6F800000]))
     yield assemble([1, 1, 1], parts(light=[1], volume=[0x80000001, 0x007FFFFF] + [0] * 14))
     yield assemble([1, 1, 1], parts(active=[0]))
     yield assemble([1, 1, 1], parts(corners=[bits(x) for x in (-4096, -4096, -4096, 4096, 4096, 4096)]))
@@ -63,9 +64,11 @@ def bad():
     full = assemble([1, 1, 1], five + [(140, b"")])
     yield b""
     yield assemble([1, 1, 1], five + [(140, bytes(65537 - len(full)))])
-    for light in (0x5F800001, 0xDF800001, 0x7F800000, 0xFF800000, 0x7FC00000, 0x7F800001, 0xFFFFFFFF):
+    unfit = (0x7F800000, 0xFF800000, 0x7FC00000, 0x7F800001, 0xFFFFFFFF)
+    for light in (0x5F800001, 0xDF800001) + unfit:
         yield assemble([1, 1, 1], parts(light=[light]))
-        yield assemble([1, 1, 1], parts(volume=[0] * 15 + [light]))
+    for coefficient in (0x6F800001, 0xEF800001) + unfit:
+        yield assemble([1, 1, 1], parts(volume=[0] * 15 + [coefficient]))
     for mask in (2, 255):
         yield assemble([1, 1, 1], parts(active=[mask]))
         yield assemble([1, 1, 1], parts(occupied=[mask]))

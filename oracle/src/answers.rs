@@ -14,7 +14,7 @@ pub fn vector(v: &[f32]) -> Vec3A {
 
 /// A scene of which only the rays are asked.
 pub fn bare(lists: &Lists) -> Scene {
-    Scene::new(&lists.points, &lists.uses, &lists.kinds, &lists.numbers, [0.0; 6], [0.0; 12], &[])
+    Scene::new(&lists.points, &lists.uses, &lists.kinds, &lists.numbers, [0.0; 6], [0.0; 12], &[], &[])
 }
 
 pub fn voxel_grid(grid: &Grid) -> VoxelGrid {
@@ -62,7 +62,7 @@ pub struct Sunned {
 
 pub fn sunned(grid: &Grid, lists: &Lists, direction: [f32; 3], active: Option<&[u8]>) -> Sunned {
     let [x, y, z] = direction;
-    let scene = Scene::new(&lists.points, &lists.uses, &lists.kinds, &lists.numbers, [x, y, z, 0.0, 0.0, 0.0], [0.0; 12], &[]);
+    let scene = Scene::new(&lists.points, &lists.uses, &lists.kinds, &lists.numbers, [x, y, z, 0.0, 0.0, 0.0], [0.0; 12], &[], &[]);
     let tracer = RayTracer::new(&scene);
     let mut voxels = voxel_grid(grid);
     if let Some(mask) = active {
@@ -89,7 +89,7 @@ pub struct Baked {
 
 pub fn baked(bake: &Bake, active: Option<&[u8]>) -> Baked {
     let l = &bake.lists;
-    let scene = Scene::new(&l.points, &l.uses, &l.kinds, &l.numbers, bake.sunlight, bake.ambient, &bake.sky);
+    let scene = Scene::new(&l.points, &l.uses, &l.kinds, &l.numbers, bake.sunlight, bake.ambient, &bake.sky, &bake.lamps);
     let tracer = RayTracer::new(&scene);
     let mut voxels = voxel_grid(&bake.grid);
     if let Some(mask) = active {
@@ -130,14 +130,16 @@ pub fn bake_call(bake: &mut Bake, figures: &Baked) -> (u64, u64) {
     if start == 0 {
         bake.volume.copy_from_slice(&figures.filled);
     }
+    let cost = table::cost(&bake.lamps);
     let mut rays = 0;
     let mut at = start;
     while at < n {
         if bake.active[at] == 1 {
-            if bake.allowance - rays < 384 {
+            if bake.allowance - rays < cost {
                 return (at as u64, rays);
             }
             bake.volume[16 * at..16 * at + 16].copy_from_slice(&figures.before[16 * at..16 * at + 16]);
+            assert!((64..=cost).contains(&figures.rays_of[at]), "a voxel fires between 64 rays and its cost");
             rays += figures.rays_of[at];
         }
         at += 1;

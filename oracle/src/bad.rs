@@ -1,6 +1,6 @@
 //! Calls that break each accepted number in turn, by the least step and in both directions, several at once, lengths one off either
-//! way, 4,097 triangles, 257 materials, NaN and infinities; and beside each the accepted number next to it.
-use crate::calls::{Call, Grid, Lists, Ray, Scratch};
+//! way, 4,097 triangles, 257 materials, nine lamps, NaN and infinities; and beside each the accepted number next to it.
+use crate::calls::{Bake, Call, Grid, Lists, Ray, Scratch};
 use crate::chance::Chance;
 use crate::table;
 use crate::worlds::{self, step, voxels, World};
@@ -44,7 +44,7 @@ fn ray_slots(ray: &mut Ray, visit: Visit) {
 
 /// Every number that a call tests on its own: its least and greatest accepted value and the refusal.
 fn slots(call: &mut Call, visit: Visit) {
-    let stored = 18446744073709551616.0;
+    let (light_bound, coefficient_bound) = (18446744073709551616.0, 79228162514264337593543950336.0);
     match call {
         Call::Triangle { points, ray } => {
             each(points, "point", -4096.0, 4096.0, 5, visit);
@@ -59,8 +59,8 @@ fn slots(call: &mut Call, visit: Visit) {
             each(&mut grid.corners, "corner", -4096.0, 4096.0, 2, visit);
             each(points, "point", -4096.0, 4096.0, 5, visit);
         }
-        Call::LightBlur { light, .. } => each(light, "light", -stored, stored, 13, visit),
-        Call::CoefficientBlur { volume, .. } => each(volume, "coefficient", -stored, stored, 13, visit),
+        Call::LightBlur { light, .. } => each(light, "light", -light_bound, light_bound, 13, visit),
+        Call::CoefficientBlur { volume, .. } => each(volume, "coefficient", -coefficient_bound, coefficient_bound, 13, visit),
         Call::Sun { grid, lists, direction, .. } => {
             each(&mut grid.corners, "corner", -4096.0, 4096.0, 2, visit);
             each(&mut lists.points, "point", -4096.0, 4096.0, 5, visit);
@@ -75,20 +75,30 @@ fn slots(call: &mut Call, visit: Visit) {
             each(&mut b.sunlight[3..], "light colour", -65536.0, 65536.0, 7, visit);
             each(&mut b.ambient, "ambient", -65536.0, 65536.0, 7, visit);
             each(&mut b.sky, "sky", -65536.0, 65536.0, 7, visit);
-            each(&mut b.light, "light", -stored, stored, 13, visit);
+            for lamp in b.lamps.chunks_mut(6) {
+                if lamp.len() == 6 {
+                    for (i, name) in ["lamp x", "lamp y", "lamp z"].into_iter().enumerate() {
+                        visit(&mut lamp[i], name, -4096.0, 4096.0, 19);
+                    }
+                    for (i, name) in ["lamp red", "lamp green", "lamp blue"].into_iter().enumerate() {
+                        visit(&mut lamp[3 + i], name, -65536.0, 65536.0, 19);
+                    }
+                }
+            }
+            each(&mut b.light, "light", -light_bound, light_bound, 13, visit);
             if 0 < b.progress && b.progress < b.active.len() as u64 {
-                each(&mut b.volume, "coefficient", -stored, stored, 13, visit);
+                each(&mut b.volume, "coefficient", -coefficient_bound, coefficient_bound, 13, visit);
             }
         }
         Call::LightLookup { grid, light, position } => {
             each(&mut grid.corners, "corner", -4096.0, 4096.0, 2, visit);
             each(position, "position", -4096.0, 4096.0, 11, visit);
-            each(light, "light read or not", -stored, stored, 0, visit);
+            each(light, "light read or not", -light_bound, light_bound, 0, visit);
         }
         Call::CoefficientLookup { grid, volume, position } => {
             each(&mut grid.corners, "corner", -4096.0, 4096.0, 2, visit);
             each(position, "position", -4096.0, 4096.0, 11, visit);
-            each(volume, "coefficient read or not", -stored, stored, 0, visit);
+            each(volume, "coefficient read or not", -coefficient_bound, coefficient_bound, 0, visit);
         }
         Call::Part { .. } => {}
     }
@@ -164,7 +174,7 @@ fn resized(call: &mut Call, which: usize, by: i64) -> Option<&'static str> {
         Call::LightBlur { light, scratch, .. } => lists!(light => "light", scratch => "light scratch"),
         Call::CoefficientBlur { volume, scratch, .. } => lists!(volume => "volume", scratch => "scratch"),
         Call::Sun { active, light, scratch, .. } => lists!(active => "active", light => "light", scratch => "light scratch"),
-        Call::Bake(b) => lists!(&mut b.sky => "sky", &mut b.active => "active", &mut b.light => "light", &mut b.volume => "volume", &mut b.scratch => "scratch"),
+        Call::Bake(b) => lists!(&mut b.sky => "sky", &mut b.lamps => "lamps", &mut b.active => "active", &mut b.light => "light", &mut b.volume => "volume", &mut b.scratch => "scratch"),
         Call::LightLookup { light, .. } => lists!(light => "light"),
         Call::CoefficientLookup { volume, .. } => lists!(volume => "volume"),
         Call::Part { volume, scratch, .. } => lists!(volume => "volume", scratch => "scratch"),
@@ -190,6 +200,15 @@ fn more_materials(l: &mut Lists, count: usize) {
     }
 }
 
+fn lamps_to(lamps: &mut Vec<f32>, count: usize) {
+    lamps.truncate(lamps.len() / 6 * 6);
+    while lamps.len() < 6 * count {
+        let k = (lamps.len() / 6) as f32;
+        lamps.extend([0.25 * k - 0.5, 0.5, 0.125, 1.0, 0.5 * k, -0.25]);
+    }
+    lamps.truncate(6 * count);
+}
+
 fn room(hits: &mut Scratch, n: usize) {
     hits.distances.resize(n.max(hits.distances.len()), 1.5);
     hits.places.resize(n.max(hits.places.len()), 5);
@@ -212,6 +231,10 @@ pub fn changes(call: &Call, few: bool) -> Vec<Change> {
             values.extend([(step(high, 1), true), (step(low, -1), true), (high, false), (low, false), (f32::INFINITY, true), (f32::NEG_INFINITY, true)]);
         } else {
             values.extend([(f32::INFINITY, false), (f32::NEG_INFINITY, false)]);
+        }
+        if name.starts_with("coefficient") {
+            // what a coefficient could not be before there were lamps
+            values.extend([(step(18446744073709551616.0, 1), false), (step(-18446744073709551616.0, -1), false)]);
         }
         for (value, breaks) in values {
             let number = if breaks && number != 0 { Some(number) } else { None };
@@ -406,7 +429,8 @@ pub fn changes(call: &Call, few: bool) -> Vec<Change> {
                 }
             }));
         }
-        for (allowance, number) in [(383, Some(10)), (0, Some(10)), (384, None), (u64::MAX, None)] {
+        let cost = table::cost(&b.lamps);
+        for (allowance, number) in [(cost - 1, Some(10)), (0, Some(10)), (cost, None), (u64::MAX, None)] {
             out.push(change(format!("allowance := {allowance}"), number, move |call| {
                 if let Call::Bake(b) = call {
                     b.allowance = allowance;
@@ -422,12 +446,13 @@ pub fn changes(call: &Call, few: bool) -> Vec<Change> {
                 }
             }));
         }
-        out.push(change("allowance 383 at the end", Some(10), move |call| {
+        out.push(change("allowance one short at the end", Some(10), move |call| {
             if let Call::Bake(b) = call {
                 b.progress = b.active.len() as u64;
-                b.allowance = 383;
+                b.allowance = cost - 1;
             }
         }));
+        lamp_changes(&mut out);
     }
     if let Call::Part { axes, .. } = call {
         let n = axes[0] * axes[1] * axes[2];
@@ -440,6 +465,107 @@ pub fn changes(call: &Call, few: bool) -> Vec<Change> {
         }
     }
     out
+}
+
+/// Lamps of a bake: how many, with which allowance, and beside a fault of each row before and after 19.
+fn lamp_changes(out: &mut Vec<Change>) {
+    let mut lamps = |name: &str, number: Option<u32>, make: fn(&mut Bake)| {
+        out.push(change(format!("lamps: {name}"), number, move |call| {
+            if let Call::Bake(b) = call {
+                make(b);
+            }
+        }))
+    };
+    fn allowed(b: &mut Bake, count: usize, less: u64) {
+        lamps_to(&mut b.lamps, count);
+        b.allowance = 384 + 64 * count as u64 - less;
+    }
+    lamps("none", None, |b| allowed(b, 0, 0));
+    lamps("none, a ray too few", Some(10), |b| allowed(b, 0, 1));
+    lamps("one", None, |b| allowed(b, 1, 0));
+    lamps("one, a ray too few", Some(10), |b| allowed(b, 1, 1));
+    lamps("one, the allowance of none", Some(10), |b| allowed(b, 1, 64));
+    lamps("eight", None, |b| allowed(b, 8, 0));
+    lamps("eight, a ray too few", Some(10), |b| allowed(b, 8, 1));
+    lamps("eight, the allowance of seven", Some(10), |b| allowed(b, 8, 64));
+    lamps("nine", Some(19), |b| allowed(b, 9, 0));
+    lamps("nine, whatever they cost", Some(19), |b| {
+        allowed(b, 9, 0);
+        b.allowance = u64::MAX;
+    });
+    lamps("ten", Some(19), |b| allowed(b, 10, 0));
+    lamps("nine less a number", Some(3), |b| {
+        allowed(b, 9, 0);
+        b.lamps.pop();
+    });
+    lamps("eight and half a lamp", Some(3), |b| {
+        allowed(b, 8, 0);
+        b.lamps.extend([0.5; 3]);
+    });
+    lamps("a list one long with a NaN", Some(3), |b| {
+        allowed(b, 0, 0);
+        b.lamps = vec![f32::NAN];
+    });
+    lamps("a bad one among nine", Some(19), |b| {
+        allowed(b, 9, 0);
+        b.lamps[50] = f32::INFINITY;
+    });
+    lamps("a bad number in the eighth only", Some(19), |b| {
+        allowed(b, 8, 0);
+        b.lamps[47] = step(65536.0, 1);
+    });
+    lamps("all numbers at their bounds", None, |b| {
+        allowed(b, 8, 0);
+        for (i, x) in b.lamps.iter_mut().enumerate() {
+            *x = (if i % 6 < 3 { 4096.0 } else { 65536.0 }) * (if i % 2 == 0 { 1.0 } else { -1.0 });
+        }
+    });
+    // a position's bound is not a colour's
+    lamps("a position that a colour could be", Some(19), |b| {
+        allowed(b, 2, 0);
+        b.lamps[8] = 5000.0;
+    });
+    lamps("a colour that no position could be", None, |b| {
+        allowed(b, 2, 0);
+        b.lamps[9] = -5000.0;
+    });
+    lamps("a bad one and a bad sky", Some(7), |b| {
+        allowed(b, 2, 0);
+        b.lamps[0] = f32::NAN;
+        b.sky[1727] = f32::NAN;
+    });
+    lamps("a bad one and a bad material", Some(6), |b| {
+        allowed(b, 2, 0);
+        b.lamps[0] = f32::NAN;
+        b.lists.kinds[0] = 2;
+    });
+    lamps("a bad one and too much progress", Some(19), |b| {
+        allowed(b, 2, 0);
+        b.lamps[11] = f32::NEG_INFINITY;
+        b.progress = b.active.len() as u64 + 1;
+    });
+    lamps("nine and no allowance", Some(19), |b| {
+        allowed(b, 9, 0);
+        b.allowance = 0;
+    });
+    lamps("too much progress and a ray too few", Some(9), |b| {
+        allowed(b, 3, 1);
+        b.progress = b.active.len() as u64 + 1;
+    });
+    lamps("a bad one and a bad mask", Some(19), |b| {
+        allowed(b, 2, 0);
+        b.lamps[2] = step(-4096.0, -1);
+        b.active[0] = 2;
+    });
+    lamps("a ray too few and a bad mask", Some(10), |b| {
+        allowed(b, 5, 1);
+        b.active[0] = 2;
+    });
+    lamps("a bad one at the end", Some(19), |b| {
+        allowed(b, 2, 0);
+        b.lamps[7] = f32::NAN;
+        b.progress = b.active.len() as u64;
+    });
 }
 
 /// Good calls of every kind over a small world, to be broken.
@@ -456,6 +582,9 @@ pub fn bases(c: &mut Chance, world: &World) -> Vec<Call> {
     bake.progress = 1;
     bake.allowance = 500;
     bake.volume = unit(c, 16 * n);
+    let mut lamped = bake.clone();
+    lamps_to(&mut lamped.lamps, 3);
+    lamped.allowance += 3 * 64;
     let position = [0, 1, 2].map(|i| c.between(world.grid.corners[i], world.grid.corners[3 + i]));
     vec![
         Call::Triangle { points: p, ray },
@@ -478,6 +607,7 @@ pub fn bases(c: &mut Chance, world: &World) -> Vec<Call> {
         Call::LightLookup { grid: world.grid, light: unit(c, n), position },
         Call::CoefficientLookup { grid: world.grid, volume: unit(c, 16 * n), position },
         Call::Part { axes, volume: unit(c, 16 * n), scratch: unit(c, 16 * n), index: c.below(n) as u64, choice: c.one_in(2) },
+        Call::Bake(Box::new(lamped)),
     ]
 }
 
@@ -502,22 +632,35 @@ fn applied(base: &Call, changes: &[&Change]) -> Bad {
     Bad { what, call }
 }
 
-/// Every single change of a base; for every two numbers that it can be refused with one call that earns both, of which the lower is given;
-/// and `several` random sets of two to four.
+/// Every single change of a base; for every two numbers that it can be refused with one call that earns both, of which the one is given
+/// whose row comes first: 19 stands after 7, else the lower; and `several` random sets of two to four.
 pub fn of(c: &mut Chance, base: &Call, few: bool, several: usize) -> Vec<Bad> {
     assert!(table::refusal(base) == 0, "a base is good: {}", table::refusal(base));
-    let all = changes(base, few);
+    let mut all = changes(base, few);
+    if few && matches!(base, Call::Bake(b) if !b.lamps.is_empty()) {
+        // beside what concerns the lamps, a fault of each row that they stand among
+        let beside = ["lamp", "allowance", "progress", "sky", "coefficient", "mask entry", "NaN in the volume", "hit scratch", "kind :="];
+        all.retain(|change| beside.iter().any(|name| change.name.starts_with(name)));
+    }
     let mut out: Vec<Bad> = all.iter().map(|change| applied(base, &[change])).collect();
     let one_of = |c: &mut Chance, number: u32| {
-        let fit: Vec<&Change> = all.iter().filter(|change| change.number == Some(number) && !change.name.contains("triangles")).collect();
+        let fit: Vec<&Change> = all.iter().filter(|change| change.number == Some(number) && !change.name.contains("triangles") && !change.name.starts_with("lamps:")).collect();
         fit.get(c.below(fit.len().max(1))).copied()
     };
-    for low in 1..14 {
-        for high in low + 1..14 {
-            if let (Some(a), Some(b)) = (one_of(c, low), one_of(c, high)) {
-                let both = applied(base, &[a, b]);
+    let mut rows: Vec<u32> = (1..14).collect();
+    if all.iter().any(|change| change.number == Some(19)) {
+        rows.insert(7, 19);
+    }
+    for (place, first) in rows.iter().cloned().enumerate() {
+        for later in rows[place + 1..].iter().cloned() {
+            if let (Some(a), Some(b)) = (one_of(c, first), one_of(c, later)) {
+                let mut both = applied(base, &[a, b]);
+                if table::refusal(&both.call) != first {
+                    // the second change undid the first
+                    both = applied(base, &[b, a]);
+                }
                 let number = table::refusal(&both.call);
-                assert!(number == low, "{} gives {number}, meant was {low}", both.what);
+                assert!(number == first, "{} gives {number}, meant was {first}", both.what);
                 out.push(both);
             }
         }
@@ -540,6 +683,7 @@ pub fn base_world(seed: u64) -> World {
     let n = voxels(&w.grid);
     w.active = (0..n).map(|i| (i % 2 == 0) as u8).collect();
     w.sky = (0..1728).map(|i| [0.5, 0.25, 0.125][i % 3]).collect();
+    w.lamps.clear();
     while w.lists.uses.len() > 4 {
         w.lists.uses.pop();
         w.lists.points.truncate(9 * w.lists.uses.len());

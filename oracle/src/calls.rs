@@ -54,6 +54,8 @@ pub struct Bake {
     /// Coefficient by coefficient, RGB.
     pub ambient: [f32; 12],
     pub sky: Vec<f32>,
+    /// Six numbers a lamp: position, then colour.
+    pub lamps: Vec<f32>,
     pub active: Vec<u8>,
     pub light: Vec<f32>,
     pub volume: Vec<f32>,

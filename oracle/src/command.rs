@@ -24,7 +24,7 @@ const USAGE: &str = "usage: oracle COMMAND ..
   record FOLDER                 writes each module's recorded answers to FOLDER/replay_MODULE/stdin, and to stdout beside it
                                 how many records and comparisons its program then says
   compare FOLDER                makes them again and compares
-  count FIRST COUNT             how many scenes, triangles and rays those seeds hold
+  count FIRST COUNT             how many scenes, triangles, lamps and voxels those seeds hold
   time SEED                     bakes a seeded scene and says how fast
   one MODULE SEED PLACE         a single record of a stream, by its place, with what it holds as text
   shrink MODULE SEED PLACE CMD..  the smallest record that CMD still answers otherwise than the oracle
@@ -275,14 +275,16 @@ fn record(folder: &str, compare: bool) -> Result<bool, String> {
 
 fn tally(seeds: Range<u64>) -> Result<bool, String> {
     let count = seeds.end - seeds.start;
-    let (mut triangles, mut voxels, mut halls) = (0, 0, 0);
+    let (mut triangles, mut voxels, mut halls, mut lamps, mut dark) = (0, 0, 0, 0, 0);
     for seed in seeds {
         let w = world(seed);
         triangles += w.lists.uses.len();
         voxels += w.active.len();
         halls += (w.family == "closed hall") as usize;
+        lamps += w.lamps.len() / 6;
+        dark += w.lamps.is_empty() as usize;
     }
-    say(&format!("{count} scenes, {halls} of them halls, {triangles} triangles, {voxels} voxels\n"))?;
+    say(&format!("{count} scenes, {halls} of them halls, {dark} without lamps, {triangles} triangles, {lamps} lamps, {voxels} voxels\n"))?;
     Ok(true)
 }
 

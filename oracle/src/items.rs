@@ -3,7 +3,9 @@ use crate::answers::{baked, sunned};
 use crate::bad;
 use crate::calls::{Bake, Call, Grid, Lists, Ray, Scratch};
 use crate::chance::Chance;
+use crate::lamp_places;
 use crate::records::{self, Record};
+use crate::table;
 use crate::worlds::{self, voxels, World};
 
 #[derive(Clone, Debug)]
@@ -51,12 +53,7 @@ pub fn good(module: &str, seed: u64) -> Vec<Item> {
         "sun" => sun(c, &world),
         "bake" => bakes(c, &world),
         "lookup" => lookups(c, &world),
-        "fired" => {
-            let light = lit(c, &world);
-            let mut bake = worlds::bake(c, &world, light);
-            bake.active = few(c, &bake.active);
-            vec![Item::Fired(Box::new(bake))]
-        }
+        "fired" => fired(c, &world),
         _ => vec![],
     }
 }
@@ -117,8 +114,11 @@ pub fn made(module: &str) -> Vec<Item> {
             out.extend((0..3).map(|k| whole(faintly_lit(c, k))));
             out.extend((0..2).map(|_| whole(under_a_sheet(c))));
             out.push(whole(darker_than_black()));
+            out.extend(lamp_places::rooms().iter().flat_map(|world| bakes(c, world)));
+            out.push(whole(four_sheets(c)));
             out
         }
+        "fired" => lamp_places::rooms().iter().flat_map(|world| fired(c, world)).collect(),
         _ => vec![],
     }
 }
@@ -243,6 +243,7 @@ fn single(lists: Lists, sunlight: [f32; 6], ambient: [f32; 12], sky: [f32; 3]) -
         sunlight,
         ambient,
         sky: (0..1728).map(|i| sky[i % 3]).collect(),
+        lamps: vec![],
         active: vec![1],
         light: vec![0.5],
         volume: vec![0.0; 16],
@@ -348,6 +349,30 @@ fn under_a_sheet(c: &mut Chance) -> Bake {
     single(lists, sunlight, [0.0; 12], [0.0, 0.0, 0.0])
 }
 
+/// A small floor whose four rays to the sky pass four sheets far above it, one each: the order of the four shows in the last bit of their sum.
+fn four_sheets(c: &mut Chance) -> Bake {
+    let mut lists = Lists { kinds: vec![0], numbers: vec![0.8, 0.6, 0.7, 0.0, 0.0, 0.0, 0.0], ..Lists::default() };
+    lists.points.extend([-8.0, -8.0, -2.0, 18.0, -8.0, -2.0, -8.0, 18.0, -2.0]);
+    lists.uses.push(0);
+    let passes = loop {
+        let p = [0; 4].map(|_| c.between(0.1, 0.9));
+        if ((p[0] + p[1]) + p[2]) + p[3] != ((p[3] + p[2]) + p[1]) + p[0] {
+            break p;
+        }
+    };
+    // straight up, and up at 60 degrees from the normal, as the hemisphere's frame over a level floor lies
+    for ([x, y], passed) in [[0.0, 0.0], [0.0, 176.7], [-153.0, -88.3], [153.0, -88.3]].into_iter().zip(passes) {
+        let z = 100.0;
+        lists.points.extend([x - 60.0, y - 60.0, z, x + 140.0, y - 60.0, z, x - 60.0, y + 140.0, z]);
+        lists.uses.push(lists.kinds.len() as u32);
+        lists.kinds.push(1);
+        lists.numbers.extend([0.0, 0.0, 0.0, 0.0, 0.0, 0.0, passed]);
+    }
+    let mut ambient = [0.0; 12];
+    ambient[..3].copy_from_slice(&[0.9, 0.7, 0.3]);
+    single(lists, [0.0, 0.0, -1.0, 1.0, 1.0, 1.0], ambient, [0.0, 0.0, 0.0])
+}
+
 /// A floor and a ceiling whose colours are at most 0: black once they are raised to 0, and so without rays of their own.
 fn darker_than_black() -> Bake {
     let mut lists = Lists::default();
@@ -387,7 +412,7 @@ fn blurs(c: &mut Chance, world: &World) -> Vec<Item> {
     let junk = c.pick(&[0.0, f32::NAN, f32::INFINITY, -4.0]);
     vec![
         Item::One(Call::LightBlur { axes, light: worlds::light_list(c, n), scratch: vec![junk; n] }),
-        Item::One(Call::CoefficientBlur { axes, volume: worlds::light_list(c, 16 * n), scratch: vec![junk; 16 * n] }),
+        Item::One(Call::CoefficientBlur { axes, volume: worlds::coefficient_list(c, world), scratch: vec![junk; 16 * n] }),
     ]
 }
 
@@ -417,7 +442,14 @@ fn sun(c: &mut Chance, world: &World) -> Vec<Item> {
         .collect()
 }
 
-/// At most two of the voxels that are active: a voxel fires up to 384 rays, and each is recorded.
+fn fired(c: &mut Chance, world: &World) -> Vec<Item> {
+    let light = lit(c, world);
+    let mut bake = worlds::bake(c, world, light);
+    bake.active = few(c, &bake.active);
+    vec![Item::Fired(Box::new(bake))]
+}
+
+/// At most two of the voxels that are active: a voxel fires up to 896 rays, and each is recorded.
 fn few(c: &mut Chance, active: &[u8]) -> Vec<u8> {
     let on: Vec<usize> = (0..active.len()).filter(|i| active[*i] == 1).collect();
     let mut out = vec![0; active.len()];
@@ -440,6 +472,7 @@ fn lit(c: &mut Chance, world: &World) -> Vec<f32> {
 
 fn bakes(c: &mut Chance, world: &World) -> Vec<Item> {
     let n = voxels(&world.grid) as u64;
+    let cost = table::cost(&world.lamps);
     let light = lit(c, world);
     let bake = worlds::bake(c, world, light);
     let figures = baked(&bake, Some(&bake.active));
@@ -447,14 +480,14 @@ fn bakes(c: &mut Chance, world: &World) -> Vec<Item> {
         let none = baked(&bake, None);
         assert!(none.rays == figures.rays && crate::calls::bits(&none.after) == crate::calls::bits(&figures.after), "a mask of ones equals the Rust's None");
     }
-    let mut out = vec![Item::Bakes { bake: Box::new(bake.clone()), calls: vec![(0, u64::MAX), (n, 384)] }];
+    let mut out = vec![Item::Bakes { bake: Box::new(bake.clone()), calls: vec![(0, u64::MAX), (n, cost)] }];
     if n <= 40 {
         // interrupted, each call going on from the last; then once more at the end
         let mut calls = Vec::new();
         let mut now = bake.clone();
         let mut progress = 0;
         while calls.len() < 12 {
-            let allowance = if calls.len() == 11 { u64::MAX } else { c.pick(&[384, 384, 385, 447, 448, 500, 767, 768, 1000, 3000]) };
+            let allowance = if calls.len() == 11 { u64::MAX } else { cost + c.pick(&[0, 0, 1, 63, 64, 116, cost - 1, cost, 616, 2616]) };
             calls.push((progress, allowance));
             if progress == n {
                 break;
@@ -468,9 +501,9 @@ fn bakes(c: &mut Chance, world: &World) -> Vec<Item> {
     if n > 1 {
         // from the middle, over a volume that no bake wrote
         let mut middle = bake;
-        middle.volume = worlds::light_list(c, 16 * n as usize);
+        middle.volume = worlds::coefficient_list(c, world);
         let start = 1 + c.below(n as usize - 1) as u64;
-        out.push(Item::Bakes { bake: Box::new(middle), calls: vec![(start, c.pick(&[384, 1000, u64::MAX]))] });
+        out.push(Item::Bakes { bake: Box::new(middle), calls: vec![(start, c.pick(&[cost, cost + 616, u64::MAX]))] });
     }
     out
 }
@@ -479,8 +512,8 @@ fn lookups(c: &mut Chance, world: &World) -> Vec<Item> {
     let grid = world.grid;
     let n = voxels(&grid);
     let light = worlds::light_list(c, n);
-    let volume = worlds::light_list(c, 16 * n);
-    let scratch = worlds::light_list(c, 16 * n);
+    let volume = worlds::coefficient_list(c, world);
+    let scratch = worlds::coefficient_list(c, world);
     let positions: Vec<[f32; 3]> = (0..12).map(|_| worlds::position(c, &grid)).collect();
     let mut out = vec![
         Item::LightLookups { grid, light, positions: positions.clone() },

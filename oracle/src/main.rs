@@ -7,6 +7,8 @@ mod calls;
 mod chance;
 mod command;
 mod items;
+mod lamp_places;
+mod lamps;
 mod records;
 mod scene;
 mod shrink;

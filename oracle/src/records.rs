@@ -266,6 +266,7 @@ fn bake_arguments(w: &mut Writer, b: &Bake) {
     w.floats(&b.ambient);
     w.lists(&b.lists);
     w.list(&bits(&b.sky));
+    w.list(&bits(&b.lamps));
     w.list(&bytes(&b.active));
     w.list(&bits(&b.light));
     w.list(&bits(&b.volume));

@@ -14,6 +14,7 @@ pub struct Scene {
     pub materials: Vec<Material>,
     pub light: Light,
     pub irradiance_sh: [Vec3A; 4],
+    pub lamps: Vec<Lamp>,
     pub cubemap: Cubemap,
     sky: Vec<Vec3A>,
 }
@@ -45,6 +46,12 @@ pub struct Material {
 
 pub struct Light {
     pub direction: Vec3A,
+    pub color: Vec3A,
+}
+
+/// One of C-12's lamps.
+pub struct Lamp {
+    pub position: Vec3A,
     pub color: Vec3A,
 }
 
@@ -84,7 +91,7 @@ impl Scene {
         self.sky[64 * set + place]
     }
 
-    /// A scene of lent lists that fit: nine numbers a triangle, seven a material, sky empty or 1,728 numbers.
+    /// A scene of lent lists that fit: nine numbers a triangle, seven a material, sky empty or 1,728 numbers, six a lamp.
     #[allow(clippy::too_many_arguments)]
     pub fn new(
         points: &[f32],
@@ -94,6 +101,7 @@ impl Scene {
         light: [f32; 6],
         ambient: [f32; 12],
         sky: &[f32],
+        lamps: &[f32],
     ) -> Self {
         let primitives = (0..uses.len())
             .map(|t| Primitive {
@@ -128,6 +136,7 @@ impl Scene {
             materials,
             light: Light { direction: triple(&light, 0), color: triple(&light, 1) },
             irradiance_sh: [0, 1, 2, 3].map(|c| triple(&ambient, c)),
+            lamps: (0..lamps.len() / 6).map(|k| Lamp { position: triple(lamps, 2 * k), color: triple(lamps, 2 * k + 1) }).collect(),
             cubemap: Cubemap,
             sky: (0..sky.len() / 3).map(|i| triple(sky, i)).collect(),
         }

@@ -1,5 +1,5 @@
 //! From a record that the port answers otherwise to the smallest one that still shows it.
-use crate::calls::{Call, Lists, Scratch};
+use crate::calls::{Bake, Call, Lists, Scratch};
 use crate::items::{self, Item};
 use std::io::Write;
 use std::process::{Command, Stdio};
@@ -34,6 +34,18 @@ fn differs(item: &Item, command: &[&str]) -> Result<bool, String> {
     }
     let out = child.wait_with_output().map_err(|e| format!("{}: {e}", command[0]))?;
     Ok(String::from_utf8_lossy(&out.stdout).contains("differs"))
+}
+
+/// A bake with one lamp less.
+fn fewer_lamps(bake: &Bake) -> Vec<Box<Bake>> {
+    let count = bake.lamps.len() / 6;
+    (0..count)
+        .map(|gone| {
+            let mut b = Box::new(bake.clone());
+            b.lamps.drain(6 * gone..6 * gone + 6);
+            b
+        })
+        .collect()
 }
 
 fn fewer_triangles(l: &Lists, h: Option<&Scratch>) -> Vec<(Lists, Option<Scratch>)> {
@@ -82,6 +94,9 @@ fn smaller(item: &Item) -> Vec<Item> {
                 b.lists = l;
                 out.push(Item::Bakes { bake: b, calls: calls.clone() });
             }
+            for b in fewer_lamps(bake) {
+                out.push(Item::Bakes { bake: b, calls: calls.clone() });
+            }
             let on: Vec<usize> = (0..bake.active.len()).filter(|i| bake.active[*i] == 1).collect();
             if on.len() > 1 && calls.len() == 1 {
                 for i in on {
@@ -95,6 +110,9 @@ fn smaller(item: &Item) -> Vec<Item> {
             for (l, _) in fewer_triangles(&bake.lists, None) {
                 let mut b = bake.clone();
                 b.lists = l;
+                out.push(Item::Fired(b));
+            }
+            for b in fewer_lamps(bake) {
                 out.push(Item::Fired(b));
             }
             let on: Vec<usize> = (0..bake.active.len()).filter(|i| bake.active[*i] == 1).collect();

@@ -1,5 +1,5 @@
-//! Document 01's table of refusals and the order in which each call tests them, written from that document and the open points
-//! alone: which numbers are accepted, and for each call the first number whose condition holds, 0 if none.
+//! Document 01's table of refusals with what document 02's C-12 adds, and the order in which each call tests them, written from these
+//! and the open points alone: which numbers are accepted, and for each call the first number whose condition holds, 0 if none.
 use crate::calls::{Bake, Call, Grid, Lists, Ray, Scratch};
 
 const AXIS: u64 = 32;
@@ -12,9 +12,17 @@ const ORIGIN: f32 = 65536.0;
 const DIRECTION: f32 = 2.0;
 const DISTANCE: f32 = 65536.0;
 const THIN: f32 = 1.0e-12;
-const STORED: f32 = 18446744073709551616.0;
-const ALLOWANCE: u64 = 384;
+/// 2^64
+const LIGHT: f32 = 18446744073709551616.0;
+/// 2^96
+const COEFFICIENT: f32 = 79228162514264337593543950336.0;
 const SKY: usize = 1728;
+const LAMPS: usize = 8;
+
+/// The most rays that a voxel may cost, which is the least allowance: "With L lamps a voxel may cost 384+64L rays".
+pub fn cost(lamps: &[f32]) -> u64 {
+    384 + 64 * (lamps.len() / 6) as u64
+}
 
 /// The refusal's number for a call, 0 for none.
 pub fn refusal(call: &Call) -> u32 {
@@ -44,12 +52,12 @@ pub fn refusal(call: &Call) -> u32 {
         Call::LightBlur { axes, light, scratch } => first(&[
             (1, &|| bad_axes(*axes)),
             (3, &|| light.len() != count(*axes) || scratch.len() != count(*axes)),
-            (13, &|| bad_stored(light)),
+            (13, &|| beyond(light, LIGHT)),
         ]),
         Call::CoefficientBlur { axes, volume, scratch } => first(&[
             (1, &|| bad_axes(*axes)),
             (3, &|| volume.len() != 16 * count(*axes) || scratch.len() != 16 * count(*axes)),
-            (13, &|| bad_stored(volume)),
+            (13, &|| beyond(volume, COEFFICIENT)),
         ]),
         Call::Sun { grid, lists, direction, active, light, scratch, hits } => first(&[
             (1, &|| bad_axes(grid.axes)),
@@ -70,14 +78,14 @@ pub fn refusal(call: &Call) -> u32 {
             (2, &|| bad_corners(grid)),
             (3, &|| light.len() != count(grid.axes)),
             (11, &|| bad_position(*position)),
-            (13, &|| cells(grid, *position).iter().any(|c| bad_stored(&light[*c..c + 1]))),
+            (13, &|| cells(grid, *position).iter().any(|c| beyond(&light[*c..c + 1], LIGHT))),
         ]),
         Call::CoefficientLookup { grid, volume, position } => first(&[
             (1, &|| bad_axes(grid.axes)),
             (2, &|| bad_corners(grid)),
             (3, &|| volume.len() != 16 * count(grid.axes)),
             (11, &|| bad_position(*position)),
-            (13, &|| cells(grid, *position).iter().any(|c| bad_stored(&volume[16 * c..16 * c + 16]))),
+            (13, &|| cells(grid, *position).iter().any(|c| beyond(&volume[16 * c..16 * c + 16], COEFFICIENT))),
         ]),
         Call::Part { axes, volume, scratch, index, choice: _ } => first(&[
             (1, &|| bad_axes(*axes)),
@@ -98,6 +106,7 @@ fn bake_refusal(bake: &Bake) -> u32 {
             let n = count(grid.axes);
             misfit(lists)
                 || bake.sky.len() != SKY
+                || bake.lamps.len() % 6 != 0
                 || bake.active.len() != n
                 || bake.light.len() != n
                 || bake.volume.len() != 16 * n
@@ -113,12 +122,13 @@ fn bake_refusal(bake: &Bake) -> u32 {
                 || beyond(&bake.ambient, COLOUR)
                 || beyond(&bake.sky, COLOUR)
         }),
+        (19, &|| bad_lamps(&bake.lamps)),
         (9, &|| bake.progress > count(grid.axes) as u64),
-        (10, &|| bake.allowance < ALLOWANCE),
+        (10, &|| bake.allowance < cost(&bake.lamps)),
         (13, &|| {
             bad_mask(&bake.active)
-                || bad_stored(&bake.light)
-                || 0 < bake.progress && bake.progress < count(grid.axes) as u64 && bad_stored(&bake.volume)
+                || beyond(&bake.light, LIGHT)
+                || 0 < bake.progress && bake.progress < count(grid.axes) as u64 && beyond(&bake.volume, COEFFICIENT)
         }),
     ])
 }
@@ -196,8 +206,8 @@ fn bad_mask(mask: &[u8]) -> bool {
     mask.iter().any(|m| *m > 1)
 }
 
-fn bad_stored(numbers: &[f32]) -> bool {
-    beyond(numbers, STORED)
+fn bad_lamps(lamps: &[f32]) -> bool {
+    lamps.len() / 6 > LAMPS || lamps.chunks(6).any(|lamp| beyond(&lamp[..3], POINT) || beyond(&lamp[3..], COLOUR))
 }
 
 /// The eight cells that a lookup reads: on each axis the floored cell clamped to the grid, and the one after it, clamped too.

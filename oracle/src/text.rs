@@ -8,6 +8,7 @@
 //!   light DX DY DZ R G B
 //!   ambient (twelve numbers, coefficient by coefficient)
 //!   sky R G B            every direction alike; or: sky PLACE R G B, PLACE = 64·set+i
+//!   lamp X Y Z R G B     one of C-12's, in list order
 //!   active 0110..        one figure a voxel; left out, the masks' own
 //!   lit (a number a voxel)   the light lent to the bake; left out, the sun pass's own
 //!   ray OX OY OZ DX DY DZ SHORTEST LONGEST
@@ -52,6 +53,9 @@ pub fn written(w: &World) -> String {
             let _ = writeln!(out, "sky {i} {}", row(t));
         }
     }
+    for lamp in w.lamps.chunks(6) {
+        let _ = writeln!(out, "lamp {}", row(lamp));
+    }
     let _ = writeln!(out, "active {}", w.active.iter().map(|a| a.to_string()).collect::<String>());
     out
 }
@@ -89,6 +93,7 @@ pub fn parsed(text: &str) -> Result<Asked, String> {
         sunlight: [0.0, 0.0, 1.0, 0.0, 0.0, 0.0],
         ambient: [0.0; 12],
         sky: vec![0.0; 1728],
+        lamps: vec![],
         active: vec![],
     };
     let mut active: Option<Vec<u8>> = None;
@@ -126,6 +131,7 @@ pub fn parsed(text: &str) -> Result<Asked, String> {
                     let t = floats::<3>(rest)?;
                     world.sky = (0..1728).map(|i| t[i % 3]).collect();
                 }
+                "lamp" => world.lamps.extend(floats::<6>(rest)?),
                 "active" => {
                     let all: String = rest.concat();
                     if let Some(c) = all.chars().find(|c| *c != '0' && *c != '1') {
@@ -216,6 +222,7 @@ fn bake_of(asked: &Asked) -> Result<Bake, String> {
         sunlight: w.sunlight,
         ambient: w.ambient,
         sky: w.sky.clone(),
+        lamps: w.lamps.clone(),
         active: w.active.clone(),
         light,
         volume: vec![0.0; 16 * n],
@@ -269,7 +276,7 @@ pub fn answers(asked: &Asked) -> Result<String, String> {
     let mut now = bake.clone();
     for allowance in &asked.allowances {
         now.allowance = *allowance;
-        if *allowance < 384 {
+        if *allowance < table::cost(&w.lamps) {
             let _ = writeln!(out, "call allowance {allowance} refused 10");
             continue;
         }

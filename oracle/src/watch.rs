@@ -86,7 +86,17 @@ branches! {
     TowardsLight true "n.l above 0";
     AwayFromLight true "n.l at most 0";
     AmbientRaised true "ambient at the normal raised to 0";
-    TotalRaised true "sun and sky together raised to 0";
+    TotalRaised true "sun and sky together below 0";
+    LampTooNear true "a lamp with squared distance at most 1e-12";
+    LampHere true "a lamp at the point itself";
+    LampAtBound true "a lamp with a squared distance of 1e-12 itself";
+    LampBehind true "a lamp with n.l not above 0";
+    LampEdgewise true "a lamp with n.l = 0";
+    LampClose true "a lamp whose longest distance is below the shortest";
+    LampSeen true "a lamp with nothing before it";
+    LampDimmed true "a lamp behind something that lets light through";
+    LampHidden true "a lamp behind something that lets none through";
+    LampsRaised true "sun, sky and lamps together raised to 0";
     Bounced true "light bounced";
     NoBounce true "no light to bounce";
     NoBounceBySquare true "no light to bounce, by its square only";

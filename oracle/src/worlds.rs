@@ -1,7 +1,8 @@
 //! Seeded scenes inside the limits. `FAMILIES` names the corners; seed s makes family s mod their number.
 use crate::answers::{answer, vector};
-use crate::calls::{Bake, Call, Grid, Lists, Ray, Scratch};
+use crate::calls::{word, Bake, Call, Grid, Lists, Ray, Scratch};
 use crate::chance::Chance;
+use crate::lamp_places;
 
 #[derive(Clone, Debug)]
 pub struct World {
@@ -11,6 +12,7 @@ pub struct World {
     pub sunlight: [f32; 6],
     pub ambient: [f32; 12],
     pub sky: Vec<f32>,
+    pub lamps: Vec<f32>,
     pub active: Vec<u8>,
 }
 
@@ -465,7 +467,8 @@ pub fn family(which: usize, seed: u64) -> World {
         }
         _ => {}
     }
-    World { family: name, grid, sunlight, ambient: ambient(c, ambient_kind), sky: sky(c, sky_kind), lists, active }
+    let world = World { family: name, grid, sunlight, ambient: ambient(c, ambient_kind), sky: sky(c, sky_kind), lamps: vec![], lists, active };
+    World { lamps: lamp_places::lamps(seed, &world), ..world }
 }
 
 /// Lent hit scratch with something in it, at least as long as the triangle list.
@@ -550,6 +553,21 @@ pub fn light_list(c: &mut Chance, n: usize) -> Vec<f32> {
         .collect()
 }
 
+/// Coefficients that no bake wrote: as the light is, and in a scene with lamps some of them up to 2^96.
+pub fn coefficient_list(c: &mut Chance, world: &World) -> Vec<f32> {
+    let mut out = light_list(c, 16 * voxels(&world.grid));
+    if !world.lamps.is_empty() {
+        let mut own = Chance::new(out.len() as u64 ^ word(world.lamps[0]) as u64);
+        let most = 79228162514264337593543950336.0f32;
+        for x in out.iter_mut() {
+            if own.one_in(3) {
+                *x = own.pick(&[most, -most, step(18446744073709551616.0, 1), step(-18446744073709551616.0, -1), 1e25, -3e27, most * 0.75]);
+            }
+        }
+    }
+    out
+}
+
 pub fn position(c: &mut Chance, grid: &Grid) -> [f32; 3] {
     let reach = c.pick(&[0.0, 0.3, 2.0]);
     let p = somewhere(c, grid, reach);
@@ -578,6 +596,7 @@ pub fn bake(c: &mut Chance, world: &World, light: Vec<f32>) -> Bake {
         sunlight: world.sunlight,
         ambient: world.ambient,
         sky: world.sky.clone(),
+        lamps: world.lamps.clone(),
         active: world.active.clone(),
         light,
         volume: vec![junk; 16 * n],

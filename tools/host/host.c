@@ -39,6 +39,8 @@ static float numbers[7 * M] = {
     0.1f, 0.1f, 0.1f, 4, 3, 1, 0,        /* lamp */
     0, 0, 0, 0, 0, 0, 0,                 /* black */
 };
+static const float lamps[54] = {2, 2, 3, 6, 5, 4}; /* a lamp in the hall, and eight black ones at a corner; as many numbers are lent as a check asks for */
+static size_t lamp_numbers = 0;
 static uint8_t occupied[N], active[N];
 static float lights[N], lights_scratch[N], volume[16 * N], scratch[16 * N], distances[T];
 static size_t places[T];
@@ -132,7 +134,7 @@ static GeaidnosaSunned sun(GeaidnosaVec3 direction, uint8_t *mask) {
 }
 
 static GeaidnosaBakeAnswer bake(float *v, float *s, size_t progress, uint64_t allowance) {
-    return geaidnosa_bake(axes, corners, points, 9 * T, uses, T, kinds, M, numbers, 7 * M, light, ambient, sky, SKY, active, N, lights, N, v, 16 * N, s, 16 * N,
+    return geaidnosa_bake(axes, corners, points, 9 * T, uses, T, kinds, M, numbers, 7 * M, light, ambient, sky, SKY, lamps, lamp_numbers, active, N, lights, N, v, 16 * N, s, 16 * N,
                           distances, T, places, T, progress, allowance);
 }
 
@@ -288,6 +290,18 @@ static void check_bake(void) {
     points[9] = NAN;
     check("bake: a point NaN, refuses 5", bake(volume, scratch, N, 384).refusal == 5);
     points[9] = x;
+    lamp_numbers = 6;
+    check("bake: one lamp, an allowance of 447, refuses 10", bake(v, s, 0, 447).refusal == 10);
+    b = bake(v, s, 0, UINT64_MAX);
+    check("bake: one lamp, more rays and another volume", b.refusal == 0 && b.progress == N && b.rays > rays && memcmp(v, volume, sizeof v));
+    printf("   rays with a lamp %llu, volume sum %016llx\n", (unsigned long long)b.rays, (unsigned long long)sum_of(v, sizeof v));
+    lamp_numbers = 5;
+    check("bake: five numbers for a lamp, refuses 3", bake(v, s, 0, 448).refusal == 3);
+    lamp_numbers = 54;
+    check("bake: nine lamps, refuses 19", bake(v, s, 0, 0).refusal == 19);
+    lamp_numbers = 0;
+    b = bake(v, s, 0, UINT64_MAX);
+    check("bake: no lamp again, the same rays and volume", b.rays == rays && !memcmp(v, volume, sizeof v));
     printf("   rays %llu, volume sum %016llx, scratch sum %016llx\n", (unsigned long long)rays, (unsigned long long)sum_of(volume, sizeof volume),
            (unsigned long long)sum_of(scratch, sizeof scratch));
 }

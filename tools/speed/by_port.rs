@@ -64,7 +64,7 @@ impl State {
             let answer = unsafe {
                 port::geaidnosa_bake(
                     GRID, corners, hall.points.as_ptr(), 9 * TRIANGLES, hall.uses.as_ptr(), TRIANGLES, KINDS.as_ptr(), MATERIALS, NUMBERS.as_ptr(),
-                    7 * MATERIALS, light, ambient, hall.sky.as_ptr(), hall.sky.len(), lists.few.as_ptr(), VOXELS, lists.lights.as_ptr(), VOXELS,
+                    7 * MATERIALS, light, ambient, hall.sky.as_ptr(), hall.sky.len(), hall.sky.as_ptr(), 0, lists.few.as_ptr(), VOXELS, lists.lights.as_ptr(), VOXELS,
                     self.volume.as_mut_ptr(), 16 * VOXELS, self.volume_scratch.as_mut_ptr(), 16 * VOXELS, self.distances.as_mut_ptr(), TRIANGLES,
                     self.places.as_mut_ptr(), TRIANGLES, progress, allowance,
                 )

@@ -18,7 +18,7 @@ fn four(p: &[Vec3A]) -> Vec3x4 {
 }
 
 fn scene(hall: &Hall) -> Scene {
-    Scene::new(&hall.points, &hall.uses, &KINDS, &NUMBERS, SCENE_LIGHT, AMBIENT, &hall.sky)
+    Scene::new(&hall.points, &hall.uses, &KINDS, &NUMBERS, SCENE_LIGHT, AMBIENT, &hall.sky, &[])
 }
 
 fn grid() -> VoxelGrid {

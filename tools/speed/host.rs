@@ -8,6 +8,8 @@ mod by_rust;
 mod hall;
 mod port;
 
+#[path = "../../oracle/src/lamps.rs"]
+mod lamps;
 #[path = "../../oracle/src/scene.rs"]
 mod scene;
 // The oracle's features are off here: nothing is watched.

@@ -33,6 +33,7 @@ module _ {b : BakeInput} {p a : ℕ} {v x : List Float} (f : Fits b (stage p v x
         axes = f .axes;
         scene = f .scene;
         sky = f .sky;
+        lamps = f .lamps;
         active = f .active;
         lights = f .lights;
         distances = f .distances;

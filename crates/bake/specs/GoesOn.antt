@@ -1,13 +1,12 @@
--- "no call refused" is no empty hope. After an accepted call the next, with the same input and an allowance of at least 384, is not refused; so a run
+-- "no call refused" is no empty hope. After an accepted call the next, with the same input and an allowance for one voxel, is not refused; so a run
 -- that begins with what some call accepts is refused nowhere, and ends as the unbroken bake within the calls that the customer counts.
-use mathlib.Core.Path.{_≡_, refl}
+use mathlib.Core.Path.{_≡_, refl, sym}
 use mathlib.Core.List.{List, [], _∷_}
 use Prim.Native.Nat.{ℕ, _*_, _≤_, _<_}
 use native.Mathlib.Omega.{arith}
-use native.Mathlib.Nat.{le-trans, mul-le-mul-right}
+use native.Mathlib.Nat.{le-trans, le-of-eq, one-mul, mul-le-mul-right}
 use lib.ListN.{length}
 use lib.Ieee.{Float}
-use Rattle.names.specs.Numbers.{voxelCost}
 use Rattle.limits.specs.Limits.{wrongScene, badMask, badLights, badLight, badAmbient, badSky}
 use Rattle.limits.specs.LimitsLaws.{either, any-of-three, coefficients-row}
 use Rattle.spread.specs.Spread.{Stage, unbroken, run, EachAtLeast, NoneRefused}
@@ -16,13 +15,13 @@ use Rattle.spread.specs.Holds.{no-call-refused}
 use Rattle.gather.specs.Gather.{gatheredOf}
 use Rattle.gather.specs.GatherLaws.{length-gathered}
 use Rattle.gather_bounds.specs.GatherBounds.{Rows, gathered-within}
-use Rattle.intake.specs.Intake.{BakeInput, wrongBakeLists, badLighting, badContents, bakeRefusal}
+use Rattle.intake.specs.Intake.{BakeInput, bakeCost, wrongBakeLists, badLighting, badContents, bakeRefusal}
 use Rattle.intake.specs.IntakeLaws.{BakePassed, fits, none-refused, still-passed}
 use Rattle.demand.specs.Bake.{gatherInput, bakeOf}
 use Rattle.demand.specs.Demanded.{bake-fair, bake-demand}
 use Rattle.demand.specs.Lasting.{GathersWithin, bake-lasts}
 
--- what the gather writes of an accepted input lies within ±2^64
+-- what the gather writes of an accepted input lies within ±2^96
 gathers : (b : BakeInput) (s : Stage Float) (a : ℕ) → BakePassed b s a → GathersWithin b
 unfolding wrongBakeLists badLighting badContents
 gathers b s a p i h =
@@ -41,6 +40,7 @@ gathers b s a p i h =
       sky = l .2;
       lights = c .1;
       skies = f .sky;
+      lamps = p .lamps;
     } in
     coefficients-row (gatheredOf g i) .1 (λ j k. gathered-within g i rows (omega (arith, f .lights)) j (omega (arith, length-gathered g i)))
 
@@ -48,8 +48,8 @@ gathers b s a p i h =
 pub goes-on : (b : BakeInput) → Lasts (bakeOf b)
 goes-on b = bake-lasts b (gathers b)
 
--- nor is any of a run, at allowances of at least 384
-pub never-refused : (b : BakeInput) (s : Stage Float) (a : ℕ) → bakeRefusal b s a ≡ 0 → (l : List ℕ) → EachAtLeast voxelCost l
+-- nor is any of a run, at allowances for one voxel
+pub never-refused : (b : BakeInput) (s : Stage Float) (a : ℕ) → bakeRefusal b s a ≡ 0 → (l : List ℕ) → EachAtLeast (bakeCost b) l
     → NoneRefused (run (bakeOf b) l s .refusals)
 unfolding badContents
 never-refused b s a e l h =
@@ -63,14 +63,14 @@ each-up : (m n : ℕ) (l : List ℕ) → m ≤ n → EachAtLeast n l → EachAtL
 each-up m n [] h e = tt
 each-up m n (x ∷ l) h e = (le-trans h (e .0), each-up m n l h (e .1))
 
--- so a bake that is begun, by what some call accepts, ends as the unbroken bake: A active voxels at allowances of k·384 or more, k at least 1, in
+-- so a bake that is begun, by what some call accepts, ends as the unbroken bake: A active voxels at allowances of k times what a voxel may cost, or more, k at least 1, in
 -- ⌈A/k⌉ calls, and in one at least
 pub ends-unbroken : (b : BakeInput) (s : Stage Float) (a : ℕ) → bakeRefusal b s a ≡ 0 → s .progress ≡ 0 → (k : ℕ) (l : List ℕ) → 1 ≤ k
-    → EachAtLeast (k * voxelCost) l
+    → EachAtLeast (k * bakeCost b) l
     → 0 < length l
     → roundedUp (allActive (bakeOf b)) k ≤ length l
     → run (bakeOf b) l s .stage ≡ unbroken (bakeOf b) (s .scratch)
 ends-unbroken b s a e z k l h m n c =
     let d = bake-demand b s a e in
-    let w : voxelCost ≤ k * voxelCost = omega (arith, mul-le-mul-right voxelCost h) in
-    d .whole l s z (d .calls k l s h m n c z (never-refused b s a e l (each-up voxelCost (k * voxelCost) l w m)))
+    let w : bakeCost b ≤ k * bakeCost b = le-trans (le-of-eq (sym (one-mul (bakeCost b)))) (mul-le-mul-right (bakeCost b) h) in
+    d .whole l s z (d .calls k l s h m n c z (never-refused b s a e l (each-up (bakeCost b) (k * bakeCost b) l w m)))

@@ -14,7 +14,7 @@ use Rattle.bake.specs.Baked.{Baked}
 -- the input b with the hit lists d and p lent to it
 abbrev pub lending : BakeInput → List Float → List ℕ → BakeInput
 lending b d p =
-    inputOf (b .axes) (b .corners) (b .scene) (b .light) (b .ambient) (b .sky) (b .active) (b .lights) (length d) (length p)
+    inputOf (b .axes) (b .corners) (b .scene) (b .light) (b .ambient) (b .sky) (b .lamps) (b .active) (b .lights) (length d) (length p)
 
 -- what a call answered, and the stage that it left
 abbrev pub calledOf : BakeAnswer → List Float → List Float → Called Float
@@ -42,7 +42,7 @@ called {b} {s} {a} {r} {v} {x} f =
 -- lists of the same lengths make the same input
 same-input : (b : BakeInput) (d d' : List Float) (p p' : List ℕ) → length d' ≡ length d → length p' ≡ length p → lending b d' p' ≡ lending b d p
 same-input b d d' p p' e f =
-    ap₂ (inputOf (b .axes) (b .corners) (b .scene) (b .light) (b .ambient) (b .sky) (b .active) (b .lights)) e f
+    ap₂ (inputOf (b .axes) (b .corners) (b .scene) (b .light) (b .ambient) (b .sky) (b .lamps) (b .active) (b .lights)) e f
 
 pub successive-run : (b : BakeInput) (l : List ℕ) (s : Stage Float) (d : List Float) (p : List ℕ) (t : Ran Float) → Successive b l s d p t
     → t ≡ run (bakeOf (lending b d p)) l s

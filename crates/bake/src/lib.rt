@@ -1,4 +1,4 @@
-// The resumable bake of a volume of spherical harmonics. Document 01, module 7.
+// The resumable bake of a volume of spherical harmonics. Document 01, module 7; lamps by document 02, C-12.
 ghost use mathlib.Core.Path.{_≡_};
 ghost use mathlib.Core.Bool.{cond};
 ghost use Prim.Native.Nat.{_*_, _≤_, _<_};
@@ -27,7 +27,7 @@ pub struct BakeAnswer {
     pub rays: u64,
 }
 
-// Bakes from progress on while the allowance lasts. Refuses 1 to 7, 9, 10 and 13, in that order, and then returns progress as handed in and writes nothing.
+// Bakes from progress on while the allowance lasts. Refuses 1 to 7, 19, 9, 10 and 13, in that order, and then returns progress as handed in and writes nothing.
 pub fn bake(
     axes: Axes,
     corners: Corners,
@@ -38,6 +38,7 @@ pub fn bake(
     light: Light,
     ambient: Ambient,
     sky: &[f32],
+    lamps: &[f32],
     active: &[u8],
     lights: &[f32],
     volume: &mut [f32],
@@ -49,7 +50,7 @@ pub fn bake(
 ) -> BakeAnswer
     ensures { λ r. ⌜ Baked
         (inputOf axes corners (sceneOf (now (points .entry)) (now (uses .entry)) (now (kinds .entry)) (now (numbers .entry)))
-        light ambient (now (sky .entry)) (now (active .entry)) (now (lights .entry))
+        light ambient (now (sky .entry)) (now (lamps .entry)) (now (active .entry)) (now (lights .entry))
         (length (now (distances .entry))) (length (now (places .entry))))
         (stage progress (now (volume .entry)) (now (scratch .entry))) allowance
         r (now (volume .exit)) (now (scratch .exit)) (now (distances .entry)) (now (distances .exit)) (now (places .entry)) (now (places .exit)) ⌝ }
@@ -64,6 +65,7 @@ pub fn bake(
         light,
         ambient,
         sky,
+        lamps,
         active,
         lights,
         volume,
@@ -90,6 +92,7 @@ pub fn bake(
         light,
         ambient,
         sky,
+        lamps,
         active,
         lights,
         volume,
@@ -117,6 +120,7 @@ fn go_on(
     light: Light,
     ambient: Ambient,
     sky: &[f32],
+    lamps: &[f32],
     active: &[u8],
     lights: &[f32],
     volume: &mut [f32],
@@ -127,13 +131,13 @@ fn go_on(
     allowance: u64,
 ) -> Reached
     requires { ⌜ Fits
-        (inputOf axes corners (sceneOf (now points) (now uses) (now kinds) (now numbers)) light ambient (now sky) (now active) (now lights)
+        (inputOf axes corners (sceneOf (now points) (now uses) (now kinds) (now numbers)) light ambient (now sky) (now lamps) (now active) (now lights)
         (length (now distances)) (length (now places)))
         (stage progress (now volume) (now scratch)) allowance ⌝ }
     ensures { λ r. ⌜ Accepts
         (accepted
         (bakeOf (inputOf axes corners (sceneOf (now (points .entry)) (now (uses .entry)) (now (kinds .entry)) (now (numbers .entry)))
-        light ambient (now (sky .entry)) (now (active .entry)) (now (lights .entry))
+        light ambient (now (sky .entry)) (now (lamps .entry)) (now (active .entry)) (now (lights .entry))
         (length (now (distances .entry))) (length (now (places .entry)))))
         allowance (stage progress (now (volume .entry)) (now (scratch .entry))))
         r (now (volume .exit)) (now (scratch .exit)) (now (distances .entry)) (now (distances .exit)) (now (places .entry)) (now (places .exit)) ⌝ }
@@ -153,6 +157,7 @@ fn go_on(
         light,
         ambient,
         sky,
+        lamps,
         &table,
         active,
         lights,

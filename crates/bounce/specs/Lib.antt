@@ -3,3 +3,4 @@ pub mod Biases
 pub mod Hemisphere
 pub mod Light
 pub mod LightLaws
+pub mod Lamps

@@ -39,6 +39,6 @@ skylightOf ambient n visibility = scaleV (raisedV (evaluatedAt ambient n)) visib
 unfoldable pub bouncedOf : Vec3 → Vec3 → Vec3
 bouncedOf albedo e = cond (Ieee.lt zero32 (dotV e e)) (mulV albedo (divV e (lit 0x40490fdb))) zeroV
 
--- with e the light of sun and sky, raised to 0; and what the surface glows by itself
-unfoldable pub reflectedOf : Vec3 → Vec3 → Vec3 → Vec3 → Vec3
-reflectedOf albedo emissive sun sky = addV (bouncedOf albedo (raisedV (addV sun sky))) emissive
+-- with e the light that has fallen on it, sun plus sky and then the lamps, raised to 0; and what the surface glows by itself
+unfoldable pub reflectedOf : Vec3 → Vec3 → Vec3 → Vec3
+reflectedOf albedo emissive fallen = addV (bouncedOf albedo (raisedV fallen)) emissive

@@ -4,11 +4,17 @@ ghost use Prim.Native.Nat.{_<_};
 ghost use Rattle.bounce.specs.Biases.{biasesOf};
 ghost use Rattle.bounce.specs.Hemisphere.{upOf, frameOf, hemisphere, localAt, turnedBy, skyDirection};
 ghost use Rattle.bounce.specs.Light.{faceNormal, facingOf, blackOf, slantOf, sunlightOf, skylightOf, reflectedOf};
+ghost use Rattle.bounce.specs.Lamps.{wayTo, unlitBy, lampRayFrom, lamplightOf};
 use super::Biases;
 use super::Frame;
+use super::Way;
 use harmonics::Coefficients;
+use vectors::Ray;
 use vectors::Triangle;
 use vectors::Vec3;
+
+// "or with squared distance at most 1e-12"
+const THIN_LIMIT: f32 = 1.0e-12;
 
 // ---- biases
 
@@ -137,13 +143,13 @@ pub fn skylight(ambient: Coefficients, normal: Vec3, visibility: f32) -> Vec3
 }
 
 // What a surface sends out: albedo·(e/π) where the light e that falls on it has a squared length above 0, and what it glows by itself.
-pub fn reflect(albedo: Vec3, emissive: Vec3, sun: Vec3, sky: Vec3) -> Vec3
-    ensures { λ r. ⌜ r ≡ reflectedOf albedo emissive sun sky ⌝ }
+pub fn reflect(albedo: Vec3, emissive: Vec3, fallen: Vec3) -> Vec3
+    ensures { λ r. ⌜ r ≡ reflectedOf albedo emissive fallen ⌝ }
 {
-    let fallen = harmonics::inner::raise(vectors::add(sun, sky));
-    if vectors::dot(fallen, fallen) > 0.0 {
+    let raised = harmonics::inner::raise(fallen);
+    if vectors::dot(raised, raised) > 0.0 {
         return vectors::add(
-            vectors::mul(albedo, vectors::div(fallen, 3.1415927)),
+            vectors::mul(albedo, vectors::div(raised, 3.1415927)),
             emissive,
         );
     }
@@ -153,6 +159,51 @@ pub fn reflect(albedo: Vec3, emissive: Vec3, sun: Vec3, sky: Vec3) -> Vec3
         z: 0.0,
     };
     vectors::add(none, emissive)
+}
+
+// ---- lamps
+
+// From a point to a lamp's position.
+pub fn way_to(point: Vec3, position: Vec3) -> Way
+    ensures { λ r. ⌜ r ≡ wayTo point position ⌝ }
+{
+    let v = vectors::sub(position, point);
+    let unit = vectors::normalise(v);
+    Way {
+        unit,
+        squared: vectors::dot(v, v),
+        distance: vectors::length(v),
+    }
+}
+
+// Whether a lamp adds nothing: n·l is not above zero, or its squared distance is at most 1e-12.
+pub fn unlit(normal: Vec3, way: Way) -> bool
+    ensures { λ r. ⌜ r ≡ unlitBy normal way ⌝ }
+{
+    !(vectors::dot(normal, way.unit) > 0.0) | (way.squared <= THIN_LIMIT)
+}
+
+// The ray to a lamp, from the shortest distance to the lamp's less that.
+pub fn lamp_ray_from(point: Vec3, way: Way, shortest: f32) -> Ray
+    ensures { λ r. ⌜ r ≡ lampRayFrom point way shortest ⌝ }
+{
+    let direction = way.unit;
+    Ray {
+        origin: point,
+        direction,
+        shortest,
+        longest: way.distance - shortest,
+    }
+}
+
+// The light of a lamp at a surface: (colour·(n·l/d²))·visibility.
+pub fn lamplight(colour: Vec3, normal: Vec3, way: Way, visibility: f32) -> Vec3
+    ensures { λ r. ⌜ r ≡ lamplightOf colour normal way visibility ⌝ }
+{
+    vectors::scale(
+        vectors::scale(colour, vectors::dot(normal, way.unit) / way.squared),
+        visibility,
+    )
 }
 
 // ---- a hemisphere direction out of the lent table

@@ -13,6 +13,13 @@ pub struct Biases {
     pub shortest: f32,
 }
 
+// From a point to a lamp: the unit vector there, the squared distance and the distance.
+pub struct Way {
+    pub unit: Vec3,
+    pub squared: f32,
+    pub distance: f32,
+}
+
 // A normal with its two tangents.
 pub struct Frame {
     pub tangent: Vec3,

@@ -346,7 +346,7 @@ pub light-value : HasValue lightLimit false (1 * 2 ^ 64) 1
 unfolding ofBits
 light-value = (refl, refl)
 
-pub coefficient-value : HasValue coefficientLimit false (1 * 2 ^ 64) 1
+pub coefficient-value : HasValue coefficientLimit false (1 * 2 ^ 96) 1
 unfolding ofBits
 coefficient-value = (refl, refl)
 

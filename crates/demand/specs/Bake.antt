@@ -1,17 +1,16 @@
--- The bake: sixteen numbers a voxel; a voxel is active by its mask entry; it costs and gets what the gather gives; 384 rays are the most that it
--- may cost; before it is baked it holds ambient and its light; the mean is the 3×3×3 mean; refusals are the bake's rows. How these make up a call,
+-- The bake: sixteen numbers a voxel; a voxel is active by its mask entry; it costs and gets what the gather gives; 384 rays,
+-- and 64 for each lamp, are the most that it may cost; before it is baked it holds ambient and its light; the mean is the 3×3×3 mean; refusals are the bake's rows. How these make up a call,
 -- a run of calls and the unbroken bake is said once for any bake, by `call`, `run` and `unbroken` of the crate spread. Assumes nothing.
 use Prim.Native.Nat.{ℕ}
 use lib.Ieee.{Float}
-use Rattle.names.specs.Numbers.{voxelCost}
 use Rattle.spread.specs.Spread.{Stage, Bake, Called, call}
 use Rattle.marks.specs.Marks.{isMarked}
 use Rattle.ends.specs.Ends.{ambientAt, meanOver}
 use Rattle.gather.specs.Gather.{GatherInput, gatherOf, gatheredOf, costOf}
-use Rattle.intake.specs.Intake.{BakeInput, voxelNumbers, voxelCount, bakeRefusal}
+use Rattle.intake.specs.Intake.{BakeInput, voxelNumbers, voxelCount, bakeCost, bakeRefusal}
 
 abbrev pub gatherInput : BakeInput → GatherInput
-gatherInput b = gatherOf (b .axes) (b .corners) (b .scene) (b .light) (b .ambient) (b .sky) (b .lights)
+gatherInput b = gatherOf (b .axes) (b .corners) (b .scene) (b .light) (b .ambient) (b .sky) (b .lamps) (b .lights)
 
 abbrev pub bakeOf : BakeInput → Bake Float
 bakeOf b =
@@ -20,7 +19,7 @@ bakeOf b =
       size = voxelNumbers;
       active = isMarked (b .active);
       cost = costOf (gatherInput b);
-      most = voxelCost;
+      most = bakeCost b;
       ambient = ambientAt (b .ambient) (b .lights);
       gathered = gatheredOf (gatherInput b);
       mean = meanOver (b .axes);

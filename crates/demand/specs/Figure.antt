@@ -1,5 +1,6 @@
 -- Document 01's figure: 3×1×1 all active, no triangles: allowance 384 takes three calls of 64 rays; 448 takes two, 128 then 64; 383 is refused 10.
--- What the rays come to follows from the costs alone, so the figure is read off the bare bake of three voxels of 64 rays each.
+-- With one lamp the same 64 higher. What the rays come to follows from the costs alone, so the figures are read off the bare bake of three voxels of
+-- 64 rays each.
 use mathlib.Core.Path.{_≡_, refl, ap, _∙_}
 use mathlib.Core.Bool.{true, false, false≢true}
 use mathlib.Core.List.{List, [], _∷_}
@@ -26,9 +27,9 @@ use Rattle.marks.specs.Marks.{isMarked}
 use Rattle.ends.specs.Ends.{ambientVoxel, ambientAt}
 use Rattle.spread.specs.Demand.{Fair}
 use Rattle.spread.specs.Holds.{no-call-refused, refusals-zero}
-use Rattle.intake.specs.Intake.{badVolume, bakeRefusal}
+use Rattle.intake.specs.Intake.{badVolume, bakeCost, bakeRefusal}
 use Rattle.intake.specs.IntakeLaws.{fits, none-refused, still-passed}
-use Rattle.intake.specs.Three.{three, begun, three-accepted}
+use Rattle.intake.specs.Three.{threeWith, three, oneLamp, threeLit, begun, three-accepted, lit-accepted}
 use Rattle.demand.specs.Bake.{gatherInput, bakeOf}
 use Rattle.demand.specs.Calls.{refused-call}
 use Rattle.demand.specs.Demanded.{bake-fair}
@@ -36,38 +37,42 @@ use Rattle.demand.specs.Lasting.{GathersWithin, bake-lasts}
 
 -- ---- no call is refused
 
-gathers-within : GathersWithin three
+gathers-within : (lamps : List Float) → GathersWithin (threeWith lamps)
 unfolding badCoefficients some within gatheredOf voxelOf gatheringOf fold gatheredAlong incomingBy nearestOf nearestTo settingOf finishedOf sixteenOf addedTo irradianceOf raisedOf raisedV flooredOf luminanceOf shortfallOf blendedEach blendedV largerOf smallerOf scaleV addV mulV lerpV dotV largerV clampOf ofBits ofInt Ieee.add Ieee.sub Ieee.mul Ieee.div Ieee.neg Ieee.le Ieee.lt Ieee.eq Ieee.isNan
-gathers-within zero h = refl
-gathers-within (suc zero) h = refl
-gathers-within (suc (suc zero)) h = refl
-gathers-within (suc (suc (suc i))) h = absurd (omega arith)
+gathers-within lamps zero h = refl
+gathers-within lamps (suc zero) h = refl
+gathers-within lamps (suc (suc zero)) h = refl
+gathers-within lamps (suc (suc (suc i))) h = absurd (omega arith)
 
--- begun, it is accepted at every allowance from 384 on
-begins : (a : ℕ) → 384 ≤ a → bakeRefusal three begun a ≡ 0
-unfolding badVolume
-begins a h =
-    let p = none-refused three begun 384 .0 (three-accepted .0) in
-    none-refused three begun a .1 (still-passed three begun 384 begun a p refl refl (lit≤ tt) h refl)
+module _ (lamps : List Float) (accepted : bakeRefusal (threeWith lamps) begun (bakeCost (threeWith lamps)) ≡ 0) where
+  -- begun, it is accepted at every allowance for one voxel
+  begins : (a : ℕ) → bakeCost (threeWith lamps) ≤ a → bakeRefusal (threeWith lamps) begun a ≡ 0
+  unfolding badVolume
+  begins a h =
+      let p = none-refused (threeWith lamps) begun (bakeCost (threeWith lamps)) .0 accepted in
+      none-refused (threeWith lamps) begun a .1 (still-passed (threeWith lamps) begun (bakeCost (threeWith lamps)) begun a p refl refl (lit≤ tt) h refl)
 
-three-fair : Fair (bakeOf three)
-three-fair = bake-fair three (fits three begun 384 (none-refused three begun 384 .0 (three-accepted .0)) .axes)
+  three-fair : Fair (bakeOf (threeWith lamps))
+  three-fair =
+      bake-fair (threeWith lamps)
+      (fits (threeWith lamps) begun (bakeCost (threeWith lamps)) (none-refused (threeWith lamps) begun (bakeCost (threeWith lamps)) .0 accepted) .axes)
 
-pub three-goes-on : (l : List ℕ) → EachAtLeast 384 l → NoneRefused (run (bakeOf three) l begun .refusals)
-three-goes-on l h = no-call-refused (bakeOf three) three-fair (bake-lasts three (λ s a p. gathers-within)) l begun h begins
+  pub three-goes-on : (l : List ℕ) → EachAtLeast (bakeCost (threeWith lamps)) l → NoneRefused (run (bakeOf (threeWith lamps)) l begun .refusals)
+  three-goes-on l h =
+      no-call-refused (bakeOf (threeWith lamps)) three-fair (bake-lasts (threeWith lamps) (λ s a p. gathers-within lamps)) l begun h begins
 
 -- ---- the rays, by the costs alone
 
-abbrev threeBare : Bake Unit
-threeBare = bare 3 384 (λ i. true) (λ i. 64)
+abbrev threeBare : ℕ → Bake Unit
+threeBare most = bare 3 most (λ i. true) (λ i. 64)
 
-agrees : Agree (bakeOf three) threeBare
-agrees =
+agrees : (lamps : List Float) → Agree (bakeOf (threeWith lamps)) (threeBare (bakeCost (threeWith lamps)))
+agrees lamps =
     record {
       count = refl;
       most = refl;
       active = all-active;
-      cost = λ i h. cost-of-nothing (gatherInput three) i refl;
+      cost = λ i h. cost-of-nothing (gatherInput (threeWith lamps)) i refl;
     }
   where
     all-active : (i : ℕ) → i < 3 → isMarked (three .active) i ≡ true
@@ -77,13 +82,13 @@ agrees =
     all-active (suc (suc (suc i))) h = absurd (omega arith)
 
 -- the answers of the bare bake
-bare-384 : (run threeBare (384 ∷ 384 ∷ 384 ∷ []) (stage 0 [] []) .rays ≡ 64 ∷ 64 ∷ 64 ∷ [])
-    × (run threeBare (384 ∷ 384 ∷ 384 ∷ []) (stage 0 [] []) .stage .progress ≡ 3)
+bare-384 : (run (threeBare 384) (384 ∷ 384 ∷ 384 ∷ []) (stage 0 [] []) .rays ≡ 64 ∷ 64 ∷ 64 ∷ [])
+    × (run (threeBare 384) (384 ∷ 384 ∷ 384 ∷ []) (stage 0 [] []) .stage .progress ≡ 3)
 unfolding run call walk any
 bare-384 = (refl, refl)
 
-bare-448 : (run threeBare (448 ∷ 448 ∷ []) (stage 0 [] []) .rays ≡ 128 ∷ 64 ∷ [])
-    × (run threeBare (448 ∷ 448 ∷ []) (stage 0 [] []) .stage .progress ≡ 3)
+bare-448 : (run (threeBare 384) (448 ∷ 448 ∷ []) (stage 0 [] []) .rays ≡ 128 ∷ 64 ∷ [])
+    × (run (threeBare 384) (448 ∷ 448 ∷ []) (stage 0 [] []) .stage .progress ≡ 3)
 unfolding run call walk any
 bare-448 = (refl, refl)
 
@@ -94,11 +99,11 @@ pub figure-384 : (run (bakeOf three) (384 ∷ 384 ∷ 384 ∷ []) begun .refusal
     × (run (bakeOf three) (384 ∷ 384 ∷ 384 ∷ []) begun .stage .progress ≡ 3)
 unfolding run call walk any
 figure-384 =
-    let n = three-goes-on (384 ∷ 384 ∷ 384 ∷ []) (omega arith) in
-    let r = run-same (bakeOf three) threeBare agrees (384 ∷ 384 ∷ 384 ∷ []) begun (stage 0 [] []) refl (lit≤ tt) n bare-none in
-    (refusals-zero (bakeOf three) three-fair (384 ∷ 384 ∷ 384 ∷ []) begun n, r .1 ∙ bare-384 .0, r .0 ∙ bare-384 .1)
+    let n = three-goes-on [] (three-accepted .0) (384 ∷ 384 ∷ 384 ∷ []) (omega arith) in
+    let r = run-same (bakeOf three) (threeBare 384) (agrees []) (384 ∷ 384 ∷ 384 ∷ []) begun (stage 0 [] []) refl (lit≤ tt) n bare-none in
+    (refusals-zero (bakeOf three) (three-fair [] (three-accepted .0)) (384 ∷ 384 ∷ 384 ∷ []) begun n, r .1 ∙ bare-384 .0, r .0 ∙ bare-384 .1)
   where
-    bare-none : NoneRefused (run threeBare (384 ∷ 384 ∷ 384 ∷ []) (stage 0 [] []) .refusals)
+    bare-none : NoneRefused (run (threeBare 384) (384 ∷ 384 ∷ 384 ∷ []) (stage 0 [] []) .refusals)
     bare-none = (refl, (refl, (refl, tt)))
 
 pub figure-448 : (run (bakeOf three) (448 ∷ 448 ∷ []) begun .refusals ≡ 0 ∷ 0 ∷ [])
@@ -106,11 +111,11 @@ pub figure-448 : (run (bakeOf three) (448 ∷ 448 ∷ []) begun .refusals ≡ 0 
     × (run (bakeOf three) (448 ∷ 448 ∷ []) begun .stage .progress ≡ 3)
 unfolding run call walk any
 figure-448 =
-    let n = three-goes-on (448 ∷ 448 ∷ []) (omega arith) in
-    let r = run-same (bakeOf three) threeBare agrees (448 ∷ 448 ∷ []) begun (stage 0 [] []) refl (lit≤ tt) n bare-none in
-    (refusals-zero (bakeOf three) three-fair (448 ∷ 448 ∷ []) begun n, r .1 ∙ bare-448 .0, r .0 ∙ bare-448 .1)
+    let n = three-goes-on [] (three-accepted .0) (448 ∷ 448 ∷ []) (omega arith) in
+    let r = run-same (bakeOf three) (threeBare 384) (agrees []) (448 ∷ 448 ∷ []) begun (stage 0 [] []) refl (lit≤ tt) n bare-none in
+    (refusals-zero (bakeOf three) (three-fair [] (three-accepted .0)) (448 ∷ 448 ∷ []) begun n, r .1 ∙ bare-448 .0, r .0 ∙ bare-448 .1)
   where
-    bare-none : NoneRefused (run threeBare (448 ∷ 448 ∷ []) (stage 0 [] []) .refusals)
+    bare-none : NoneRefused (run (threeBare 384) (448 ∷ 448 ∷ []) (stage 0 [] []) .refusals)
     bare-none = (refl, (refl, tt))
 
 pub figure-383 : (run (bakeOf three) (383 ∷ []) begun .refusals ≡ 10 ∷ []) × (run (bakeOf three) (383 ∷ []) begun .rays ≡ 0 ∷ [])
@@ -123,14 +128,44 @@ figure-383 =
       ap (λ (x : Called Float). x .stage) c,
     )
 
+-- with one lamp a voxel may cost 448: three calls of 64 rays; 512 takes two, 128 then 64; 447 is refused 10
+bare-lit : (run (threeBare 448) (448 ∷ 448 ∷ 448 ∷ []) (stage 0 [] []) .rays ≡ 64 ∷ 64 ∷ 64 ∷ [])
+    × (run (threeBare 448) (448 ∷ 448 ∷ 448 ∷ []) (stage 0 [] []) .stage .progress ≡ 3)
+    × (run (threeBare 448) (512 ∷ 512 ∷ []) (stage 0 [] []) .rays ≡ 128 ∷ 64 ∷ [])
+    × (run (threeBare 448) (512 ∷ 512 ∷ []) (stage 0 [] []) .stage .progress ≡ 3)
+unfolding run call walk any
+bare-lit = (refl, refl, refl, refl)
+
+pub figure-lit : (run (bakeOf threeLit) (448 ∷ 448 ∷ 448 ∷ []) begun .refusals ≡ 0 ∷ 0 ∷ 0 ∷ [])
+    × (run (bakeOf threeLit) (448 ∷ 448 ∷ 448 ∷ []) begun .rays ≡ 64 ∷ 64 ∷ 64 ∷ [])
+    × (run (bakeOf threeLit) (448 ∷ 448 ∷ 448 ∷ []) begun .stage .progress ≡ 3)
+unfolding run call walk any
+figure-lit =
+    let n = three-goes-on oneLamp (lit-accepted .0) (448 ∷ 448 ∷ 448 ∷ []) (omega arith) in
+    let r = run-same (bakeOf threeLit) (threeBare 448) (agrees oneLamp) (448 ∷ 448 ∷ 448 ∷ []) begun (stage 0 [] []) refl (lit≤ tt) n (refl, (refl, (refl, tt))) in
+    (refusals-zero (bakeOf threeLit) (three-fair oneLamp (lit-accepted .0)) (448 ∷ 448 ∷ 448 ∷ []) begun n, r .1 ∙ bare-lit .0, r .0 ∙ bare-lit .1)
+
+pub figure-lit-512 : (run (bakeOf threeLit) (512 ∷ 512 ∷ []) begun .rays ≡ 128 ∷ 64 ∷ []) × (run (bakeOf threeLit) (512 ∷ 512 ∷ []) begun .stage .progress ≡ 3)
+unfolding run call walk any
+figure-lit-512 =
+    let n = three-goes-on oneLamp (lit-accepted .0) (512 ∷ 512 ∷ []) (omega arith) in
+    let r = run-same (bakeOf threeLit) (threeBare 448) (agrees oneLamp) (512 ∷ 512 ∷ []) begun (stage 0 [] []) refl (lit≤ tt) n (refl, (refl, tt)) in
+    (r .1 ∙ bare-lit .2, r .0 ∙ bare-lit .3)
+
+pub figure-447 : run (bakeOf threeLit) (447 ∷ []) begun .refusals ≡ 10 ∷ []
+unfolding run
+figure-447 =
+    let c = refused-call threeLit begun 447 (λ z. omega (arith, lit-accepted .1)) in
+    ap (λ (x : Called Float). x .refusal ∷ []) c ∙ ap (λ (n : ℕ). n ∷ []) (lit-accepted .1)
+
 -- the first call of the three takes voxel 0 and no more
 pub figure-first : (run (bakeOf three) (384 ∷ []) begun .refusals ≡ 0 ∷ []) × (run (bakeOf three) (384 ∷ []) begun .rays ≡ 64 ∷ [])
     × (run (bakeOf three) (384 ∷ []) begun .stage .progress ≡ 1)
 unfolding run call walk any
 figure-first =
-    let n = three-goes-on (384 ∷ []) (omega arith) in
-    let r = run-same (bakeOf three) threeBare agrees (384 ∷ []) begun (stage 0 [] []) refl (lit≤ tt) n (refl, tt) in
-    (refusals-zero (bakeOf three) three-fair (384 ∷ []) begun n, r .1, r .0)
+    let n = three-goes-on [] (three-accepted .0) (384 ∷ []) (omega arith) in
+    let r = run-same (bakeOf three) (threeBare 384) (agrees []) (384 ∷ []) begun (stage 0 [] []) refl (lit≤ tt) n (refl, tt) in
+    (refusals-zero (bakeOf three) (three-fair [] (three-accepted .0)) (384 ∷ []) begun n, r .1, r .0)
 
 -- what is gathered for voxel 0 is not what it holds before: its first number is not ambient's 1
 pub gathered-differs : gatheredOf (gatherInput three) 0 ≡ ambientAt (three .ambient) (three .lights) 0 → ⊥

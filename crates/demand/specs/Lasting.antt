@@ -1,5 +1,5 @@
--- "no call refused" is no empty hope: after an accepted call the next, with the same input and an allowance of at least 384, is not refused. What the
--- fill and the gather write lies within ±2^64, the lists keep their lengths, and a finished bake's volume is not tested.
+-- "no call refused" is no empty hope: after an accepted call the next, with the same input and an allowance for one voxel, is not refused. What the
+-- fill and the gather write lies within ±2^96, the lists keep their lengths, and a finished bake's volume is not tested.
 use mathlib.Core.Path.{_≡_, refl, sym, _∙_}
 use mathlib.Core.Bool.{Bool, true, false, cond, and-false}
 use mathlib.Core.Logic.{_⊎_, ⊎-elim}
@@ -15,7 +15,7 @@ use borrow.Author.Tests.{eq-eqb, ne-eqb, lt-ltb, le-ltb}
 use Rattle.names.specs.Bits.{zero32, one32}
 use Rattle.names.specs.Numbers.{colourLimit, lightLimit, coefficientLimit}
 use Rattle.lists.specs.Fold.{length-tab}
-use Rattle.bounds.specs.BoundsLaws.{at-most-up, at-most-of-test, test-of-at-most, colour-value, coefficient-value}
+use Rattle.bounds.specs.BoundsLaws.{at-most-up, at-most-of-test, test-of-at-most, colour-value, light-value, coefficient-value}
 use Rattle.limits.specs.Some.{some}
 use Rattle.limits.specs.Limits.{within, outside, badColour, badAmbient, badLight, badSky, badMask, badLights, badCoefficients}
 use Rattle.limits.specs.LimitsLaws.{either, any-of-three, within-between, vector-row, lights-row}
@@ -71,8 +71,15 @@ wider : (x : Float) → within colourLimit x ≡ true → within coefficientLimi
 wider x h =
     let p = within-between colourLimit x .0 h in
     within-between coefficientLimit x .1
-    (test-of-at-most x coefficientLimit 1 64 coefficient-value
-    (at-most-up x 1 16 1 64 (lit≤ tt) (at-most-of-test x colourLimit 1 16 colour-value (p .0) (p .1))))
+    (test-of-at-most x coefficientLimit 1 96 coefficient-value
+    (at-most-up x 1 16 1 96 (lit≤ tt) (at-most-of-test x colourLimit 1 16 colour-value (p .0) (p .1))))
+
+brighter : (x : Float) → within lightLimit x ≡ true → within coefficientLimit x ≡ true
+brighter x h =
+    let p = within-between lightLimit x .0 h in
+    within-between coefficientLimit x .1
+    (test-of-at-most x coefficientLimit 1 96 coefficient-value
+    (at-most-up x 1 64 1 96 (lit≤ tt) (at-most-of-test x lightLimit 1 64 light-value (p .0) (p .1))))
 
 one-within : within coefficientLimit one32 ≡ true
 unfolding within ofBits Ieee.neg Ieee.le Ieee.lt Ieee.eq
@@ -95,7 +102,7 @@ ambient-within a light h l =
       wider _ (c₀ .0),
       wider _ (c₀ .1),
       wider _ (c₀ .2),
-      l,
+      brighter light l,
       wider _ (c₁ .0),
       wider _ (c₁ .1),
       wider _ (c₁ .2),
@@ -116,7 +123,7 @@ record Good (b : BakeInput) (v : List Float) : Type 0 where
   long : length v ≡ voxelCount b * voxelNumbers
   within : badCoefficients v ≡ false
 
--- what the gather writes of each voxel lies within ±2^64
+-- what the gather writes of each voxel lies within ±2^96
 abbrev pub GathersWithin : BakeInput → Type 0
 GathersWithin b = (i : ℕ) → i < voxelCount b → badCoefficients (gatheredOf (gatherInput b) i) ≡ false
 
@@ -232,7 +239,8 @@ module _ (b : BakeInput) (gathers : GathersWithin b) where
         (ended-left _ _ (omega (arith, walk-to (bakeOf b) w)) (walk-good w (omega arith) (start-good l))))
         (eq-or-lt-of-le (fits b s a p .progress))
 
--- the next call is not refused, whatever its allowance from 384 on, where what the gather writes lies within ±2^64 whenever some call is accepted
+-- the next call is not refused, whatever its allowance from one voxel's on, where what the gather writes lies within ±2^96 whenever some call is
+-- accepted
 pub bake-lasts : (b : BakeInput) → ((s : Stage Float) (a : ℕ) → BakePassed b s a → GathersWithin b) → Lasts (bakeOf b)
 bake-lasts b gathers s a next e h =
     let p = none-refused b s a .0 e in

@@ -168,6 +168,7 @@ pub extern "C" fn geaidnosa_bake(
     light: Light,
     ambient: Ambient,
     sky: &[f32],
+    lamps: &[f32],
     active: &[u8],
     lights: &[f32],
     volume: &mut [f32],
@@ -179,7 +180,7 @@ pub extern "C" fn geaidnosa_bake(
 ) -> BakeAnswer
     ensures { λ r. ⌜ Baked
         (inputOf axes corners (sceneOf (now (points .entry)) (now (uses .entry)) (now (kinds .entry)) (now (numbers .entry)))
-        light ambient (now (sky .entry)) (now (active .entry)) (now (lights .entry))
+        light ambient (now (sky .entry)) (now (lamps .entry)) (now (active .entry)) (now (lights .entry))
         (length (now (distances .entry))) (length (now (places .entry))))
         (stage progress (now (volume .entry)) (now (scratch .entry))) allowance
         r (now (volume .exit)) (now (scratch .exit)) (now (distances .entry)) (now (distances .exit)) (now (places .entry)) (now (places .exit)) ⌝ }
@@ -194,6 +195,7 @@ pub extern "C" fn geaidnosa_bake(
         light,
         ambient,
         sky,
+        lamps,
         active,
         lights,
         volume,

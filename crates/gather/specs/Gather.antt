@@ -1,5 +1,5 @@
 -- Gather (document 01, module 6). A voxel looks along its set's 64 directions, from its centre moved by the primary bias. What it meets
--- sends light back, where it meets nothing the sky does, and the radiance is projected onto four coefficients. One fold gives the sums, the
+-- sends back the light of sun, sky and lamps, where it meets nothing the sky does, and the radiance is projected onto four coefficients. One fold gives the sums, the
 -- misses and the rays: a ray is counted where it is traced. gi.rs decides every order. Definitions only.
 use mathlib.Core.Path.{_≡_}
 use mathlib.Core.List.{List, [], _∷_}
@@ -8,7 +8,7 @@ use lib.ListN.{length, getD, set}
 use lib.Ieee as Ieee
 use lib.Ieee.{Float, nan, binary32}
 use Rattle.names.specs.Bits.{lit, zero32}
-use Rattle.names.specs.Numbers.{primaryRays}
+use Rattle.names.specs.Numbers.{primaryRays, lampLimit, skyNumbers}
 use Rattle.names.specs.Scene.{Scene, Sound}
 use Rattle.lists.specs.Fold.{fold}
 use Rattle.vectors.specs.Vectors.{normalV}
@@ -21,6 +21,7 @@ use Rattle.grid.specs.declared.Corners.{Corners}
 use Rattle.grid.specs.Grid.{AxesWithin, voxels, xOf, yOf, zOf, floatOf, edgesOf, centreOf, diagonalOf, smallestEdgeOf}
 use Rattle.limits.specs.declared.Light.{Light}
 use Rattle.limits.specs.declared.Ambient.{Ambient}
+use Rattle.limits.specs.Limits.{lampCount}
 use Rattle.triangle.specs.Places.{vecAt}
 use Rattle.scan.specs.Nearest.{nearestOf}
 use Rattle.scan.specs.declared.Nearest.{Nearest}
@@ -43,19 +44,22 @@ pub record GatherInput : Type 0 where
   pub scene : Scene
   pub light : Light
   pub ambient : Ambient
-  -- 1,728 numbers: a triple for each direction of the table
+  -- a triple for each direction of the table
   pub sky : List Float
+  -- six numbers a lamp: position, colour
+  pub lamps : List Float
   -- one a voxel
   pub lights : List Float
 
-abbrev pub gatherOf : Axes → Corners → Scene → Light → Ambient → List Float → List Float → GatherInput
-gatherOf a c s l m k n = record { axes = a; corners = c; scene = s; light = l; ambient = m; sky = k; lights = n }
+abbrev pub gatherOf : Axes → Corners → Scene → Light → Ambient → List Float → List Float → List Float → GatherInput
+gatherOf a c s l m k p n = record { axes = a; corners = c; scene = s; light = l; ambient = m; sky = k; lamps = p; lights = n }
 
 -- what the rows of the public call have shown before voxel i is gathered into a part of o numbers, with hit scratch of d and p
 pub record Gatherable (g : GatherInput) (i d p o : ℕ) : Type 0 where
   pub axes : AxesWithin (g .axes)
   pub scene : Sound (g .scene)
-  pub sky : length (g .sky) ≡ 1728
+  pub sky : length (g .sky) ≡ skyNumbers
+  pub lamps : lampCount (g .lamps) ≤ lampLimit
   pub lights : length (g .lights) ≡ voxels (g .axes)
   pub voxel : i < voxels (g .axes)
   pub distances : length (g .scene .uses) ≤ d
@@ -87,35 +91,35 @@ unfoldable pub primaryRay : Setting → Vec3 → Vec3 → Ray
 primaryRay setting centre direction = rayFrom centre direction (setting .biases .primary) (setting .biases .shortest)
 
 -- what the surface at a place sends back along a ray that met it at a distance
-abbrev pub sentBack : Scene → Setting → Ray → ℕ → Float → Traced
-sentBack scene setting ray place distance = bouncedBy scene setting (surfaceOf scene ray place distance (setting .biases .hit))
+abbrev pub sentBack : Scene → List Float → Setting → Ray → ℕ → Float → Traced
+sentBack scene lamps setting ray place distance = bouncedBy scene lamps setting (surfaceOf scene ray place distance (setting .biases .hit))
 
 -- what comes back along a ray: from the sky where nothing is met, else from the surface
-unfoldable pub incomingBy : Scene → Setting → Ray → Vec3 → Nearest → Incoming
-incomingBy scene setting ray sky Nothing = incoming sky 1 1
-incomingBy scene setting ray sky (At place distance u v) =
-    incoming (sentBack scene setting ray place distance .light) 0 (sentBack scene setting ray place distance .rays + 1)
+unfoldable pub incomingBy : Scene → List Float → Setting → Ray → Vec3 → Nearest → Incoming
+incomingBy scene lamps setting ray sky Nothing = incoming sky 1 1
+incomingBy scene lamps setting ray sky (At place distance u v) =
+    incoming (sentBack scene lamps setting ray place distance .light) 0 (sentBack scene lamps setting ray place distance .rays + 1)
 
-abbrev pub incomingOf : Scene → Setting → Ray → Vec3 → Incoming
-incomingOf scene setting ray sky = incomingBy scene setting ray sky (nearestOf scene ray)
+abbrev pub incomingOf : Scene → List Float → Setting → Ray → Vec3 → Incoming
+incomingOf scene lamps setting ray sky = incomingBy scene lamps setting ray sky (nearestOf scene ray)
 
 -- ---- a voxel
 
 -- with what comes along direction k of the table; its sky is triple k
-unfoldable pub gatheredAlong : Scene → Setting → Vec3 → List Float → ℕ → Gathering → Gathering
-gatheredAlong scene setting centre sky k s =
-    let n = incomingOf scene setting (primaryRay setting centre (directionAt k)) (vecAt sky (k * 3)) in
+unfoldable pub gatheredAlong : Scene → List Float → Setting → Vec3 → List Float → ℕ → Gathering → Gathering
+gatheredAlong scene lamps setting centre sky k s =
+    let n = incomingOf scene lamps setting (primaryRay setting centre (directionAt k)) (vecAt sky (k * 3)) in
     gathering (addedTo (s .sums) (directionAt k) (n .radiance)) (s .misses + n .misses) (s .rays + n .rays)
 
 -- along the 64 directions that begin at `first`
-abbrev pub alongFrom : Scene → Setting → Vec3 → List Float → ℕ → ℕ → Gathering → Gathering
-alongFrom scene setting centre sky first i s = gatheredAlong scene setting centre sky (first + i) s
+abbrev pub alongFrom : Scene → List Float → Setting → Vec3 → List Float → ℕ → ℕ → Gathering → Gathering
+alongFrom scene lamps setting centre sky first i s = gatheredAlong scene lamps setting centre sky (first + i) s
 
 abbrev pub nothingGathered : Gathering
 nothingGathered = gathering (coefficients zeroV zeroV zeroV zeroV) 0 0
 
-unfoldable pub gatheringOf : Scene → Setting → Vec3 → List Float → ℕ → Gathering
-gatheringOf scene setting centre sky first = fold (alongFrom scene setting centre sky first) primaryRays 0 nothingGathered
+unfoldable pub gatheringOf : Scene → List Float → Setting → Vec3 → List Float → ℕ → Gathering
+gatheringOf scene lamps setting centre sky first = fold (alongFrom scene lamps setting centre sky first) primaryRays 0 nothingGathered
 
 -- the set and the centre of voxel i
 abbrev pub setAt : Axes → ℕ → ℕ
@@ -127,7 +131,7 @@ centreAt c a i = centreOf c a (xOf a i) (yOf a i) (zOf a i)
 -- the fold of voxel i
 unfoldable pub voxelOf : GatherInput → ℕ → Gathering
 voxelOf g i =
-    gatheringOf (g .scene) (settingOf (edgesOf (g .corners) (g .axes)) (g .light) (g .ambient)) (centreAt (g .corners) (g .axes) i) (g .sky) (setAt (g .axes) i * primaryRays)
+    gatheringOf (g .scene) (g .lamps) (settingOf (edgesOf (g .corners) (g .axes)) (g .light) (g .ambient)) (centreAt (g .corners) (g .axes) i) (g .sky) (setAt (g .axes) i * primaryRays)
 
 -- the rays that it takes
 unfoldable pub costOf : GatherInput → ℕ → ℕ

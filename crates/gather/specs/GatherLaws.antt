@@ -1,8 +1,9 @@
--- What a voxel's gathering means: sixteen numbers, and from 64 to 384 rays: one for each direction, and up to five more where it meets a
--- surface. With no triangle there are 64 rays, all of which miss.
+-- What a voxel's gathering means: sixteen numbers, and with L lamps from 64 to 384+64L rays: one for each direction, and up to 5+L more
+-- where it meets a surface. With no triangle there are 64 rays, all of which miss.
 use mathlib.Core.Path.{_≡_, refl, sym, _∙_}
 use mathlib.Core.List.{List, []}
 use Prim.Native.Nat.{ℕ, zero, suc, _+_, _*_, _<_, _≤_}
+use native.Mathlib.Nat.{suc-mul}
 use native.Mathlib.Omega.{arith}
 use lib.ListN.{length}
 use lib.Ieee.{Float}
@@ -11,6 +12,7 @@ use Rattle.names.specs.Scene.{Scene}
 use Rattle.lists.specs.Fold.{fold}
 use Rattle.vectors.specs.declared.Vec3.{Vec3}
 use Rattle.vectors.specs.declared.Ray.{Ray}
+use Rattle.limits.specs.Limits.{lampCount}
 use Rattle.triangle.specs.Places.{vecAt}
 use mathlib.Core.Bool.{Bool, true, false, cond}
 use Rattle.triangle.specs.declared.Meet.{Meet}
@@ -33,46 +35,47 @@ pub length-gathered : (g : GatherInput) (i : ℕ) → length (gatheredOf g i) �
 unfolding gatheredOf sixteenOf
 length-gathered g i = refl
 
--- ---- the rays of one direction: the primary one, and at most five more; and at most one miss
+-- ---- the rays of one direction: the primary one, and at most five more and one for each lamp; and at most one miss
 
-pub record Costs (n misses : ℕ) : Type 0 where
+pub record Costs (lamps n misses : ℕ) : Type 0 where
   pub least : 1 ≤ n
-  pub most : n ≤ 6
+  pub most : n ≤ 6 + lamps
   pub missed : misses ≤ 1
 
-pub incoming-costs : (scene : Scene) (setting : Setting) (ray : Ray) (sky : Vec3) (found : Nearest)
-    → Costs (incomingBy scene setting ray sky found .rays) (incomingBy scene setting ray sky found .misses)
+pub incoming-costs : (scene : Scene) (lamps : List Float) (setting : Setting) (ray : Ray) (sky : Vec3) (found : Nearest)
+    → Costs (lampCount lamps) (incomingBy scene lamps setting ray sky found .rays) (incomingBy scene lamps setting ray sky found .misses)
 unfolding incomingBy
-incoming-costs scene setting ray sky Nothing = record { least = omega arith; most = omega arith; missed = omega arith }
-incoming-costs scene setting ray sky (At place t u v) =
-    let h = extra-most scene setting (surfaceOf scene ray place t (setting .biases .hit)) in
+incoming-costs scene lamps setting ray sky Nothing = record { least = omega arith; most = omega arith; missed = omega arith }
+incoming-costs scene lamps setting ray sky (At place t u v) =
+    let h = extra-most scene lamps setting (surfaceOf scene ray place t (setting .biases .hit)) in
     record { least = omega arith; most = omega arith; missed = omega arith }
 
-pub along-adds : (scene : Scene) (setting : Setting) (centre : Vec3) (sky : List Float) (k : ℕ) (s : Gathering)
-    → (gatheredAlong scene setting centre sky k s .rays ≤ s .rays + 6) × (gatheredAlong scene setting centre sky k s .misses ≤ s .misses + 1)
+pub along-adds : (scene : Scene) (lamps : List Float) (setting : Setting) (centre : Vec3) (sky : List Float) (k : ℕ) (s : Gathering)
+    → (gatheredAlong scene lamps setting centre sky k s .rays ≤ s .rays + (6 + lampCount lamps))
+    × (gatheredAlong scene lamps setting centre sky k s .misses ≤ s .misses + 1)
 unfolding gatheredAlong
-along-adds scene setting centre sky k s =
-    let h = incoming-costs scene setting (primaryRay setting centre (directionAt k)) (vecAt sky (k * 3)) (nearestOf scene (primaryRay setting centre (directionAt k))) in
+along-adds scene lamps setting centre sky k s =
+    let h = incoming-costs scene lamps setting (primaryRay setting centre (directionAt k)) (vecAt sky (k * 3)) (nearestOf scene (primaryRay setting centre (directionAt k))) in
     (omega (arith, h .most), omega (arith, h .missed))
 
 -- ---- the rays of a voxel
 
-module _ (scene : Scene) (setting : Setting) (centre : Vec3) (sky : List Float) (first : ℕ) where
+module _ (scene : Scene) (lamps : List Float) (setting : Setting) (centre : Vec3) (sky : List Float) (first : ℕ) where
   -- after k more directions
   pub fold-costs : (k i : ℕ) (s : Gathering)
-      → (s .rays + k ≤ fold (alongFrom scene setting centre sky first) k i s .rays)
-      × (fold (alongFrom scene setting centre sky first) k i s .rays ≤ s .rays + k * 6)
-      × (fold (alongFrom scene setting centre sky first) k i s .misses ≤ s .misses + k)
+      → (s .rays + k ≤ fold (alongFrom scene lamps setting centre sky first) k i s .rays)
+      × (fold (alongFrom scene lamps setting centre sky first) k i s .rays ≤ s .rays + k * (6 + lampCount lamps))
+      × (fold (alongFrom scene lamps setting centre sky first) k i s .misses ≤ s .misses + k)
   unfolding fold gatheredAlong
   fold-costs zero i s = (omega arith, omega arith, omega arith)
   fold-costs (suc k) i s =
-      let h = incoming-costs scene setting (primaryRay setting centre (directionAt (first + i))) (vecAt sky ((first + i) * 3)) (nearestOf scene (primaryRay setting centre (directionAt (first + i)))) in
-      let r = fold-costs k (i + 1) (alongFrom scene setting centre sky first i s) in
-      (omega (arith, h .least, r .0), omega (arith, h .most, r .1), omega (arith, h .missed, r .2))
+      let h = incoming-costs scene lamps setting (primaryRay setting centre (directionAt (first + i))) (vecAt sky ((first + i) * 3)) (nearestOf scene (primaryRay setting centre (directionAt (first + i)))) in
+      let r = fold-costs k (i + 1) (alongFrom scene lamps setting centre sky first i s) in
+      (omega (arith, h .least, r .0), omega (arith, h .most, r .1, suc-mul k (6 + lampCount lamps)), omega (arith, h .missed, r .2))
 
-  pub gathering-costs : (primaryRays ≤ gatheringOf scene setting centre sky first .rays)
-      × (gatheringOf scene setting centre sky first .rays ≤ voxelCost)
-      × (gatheringOf scene setting centre sky first .misses ≤ primaryRays)
+  pub gathering-costs : (primaryRays ≤ gatheringOf scene lamps setting centre sky first .rays)
+      × (gatheringOf scene lamps setting centre sky first .rays ≤ voxelCost (lampCount lamps))
+      × (gatheringOf scene lamps setting centre sky first .misses ≤ primaryRays)
   unfolding gatheringOf
   gathering-costs =
       let r = fold-costs primaryRays 0 nothingGathered in
@@ -80,15 +83,15 @@ module _ (scene : Scene) (setting : Setting) (centre : Vec3) (sky : List Float) 
 
 pub cost-least : (g : GatherInput) (i : ℕ) → primaryRays ≤ costOf g i
 unfolding costOf voxelOf
-cost-least g i = gathering-costs _ _ _ _ _ .0
+cost-least g i = gathering-costs _ _ _ _ _ _ .0
 
-pub cost-most : (g : GatherInput) (i : ℕ) → costOf g i ≤ voxelCost
+pub cost-most : (g : GatherInput) (i : ℕ) → costOf g i ≤ voxelCost (lampCount (g .lamps))
 unfolding costOf voxelOf
-cost-most g i = gathering-costs _ _ _ _ _ .1
+cost-most g i = gathering-costs _ _ _ _ _ _ .1
 
 pub misses-most : (g : GatherInput) (i : ℕ) → voxelOf g i .misses ≤ primaryRays
 unfolding voxelOf
-misses-most g i = gathering-costs _ _ _ _ _ .2
+misses-most g i = gathering-costs _ _ _ _ _ _ .2
 
 -- ---- where a surface is met, it is one of the scene's
 
@@ -128,13 +131,13 @@ pub nothing-met : (scene : Scene) (ray : Ray) → scene .uses ≡ [] → nearest
 unfolding nearestOf nearestTo
 nothing-met scene ray e = rw e
 
-module _ (scene : Scene) (setting : Setting) (centre : Vec3) (sky : List Float) (first : ℕ) (none : scene .uses ≡ []) where
-  pub fold-missed : (k i : ℕ) (s : Gathering) → fold (alongFrom scene setting centre sky first) k i s .rays ≡ s .rays + k
+module _ (scene : Scene) (lamps : List Float) (setting : Setting) (centre : Vec3) (sky : List Float) (first : ℕ) (none : scene .uses ≡ []) where
+  pub fold-missed : (k i : ℕ) (s : Gathering) → fold (alongFrom scene lamps setting centre sky first) k i s .rays ≡ s .rays + k
   unfolding fold gatheredAlong incomingBy
   fold-missed zero i s = omega arith
   fold-missed (suc k) i s =
-      fold-missed k (i + 1) (alongFrom scene setting centre sky first i s) ∙ rw (nothing-met scene (primaryRay setting centre (directionAt (first + i))) none) (omega arith)
+      fold-missed k (i + 1) (alongFrom scene lamps setting centre sky first i s) ∙ rw (nothing-met scene (primaryRay setting centre (directionAt (first + i))) none) (omega arith)
 
 pub cost-of-nothing : (g : GatherInput) (i : ℕ) → g .scene .uses ≡ [] → costOf g i ≡ primaryRays
 unfolding costOf voxelOf gatheringOf
-cost-of-nothing g i e = fold-missed (g .scene) _ _ _ _ e primaryRays 0 nothingGathered
+cost-of-nothing g i e = fold-missed (g .scene) _ _ _ _ _ e primaryRays 0 nothingGathered

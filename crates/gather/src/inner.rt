@@ -2,7 +2,8 @@
 ghost use mathlib.Core.Path.{_≡_};
 ghost use Prim.Native.Nat.{_+_, _*_, _≤_, _<_};
 ghost use lib.ListN.{length};
-ghost use Rattle.names.specs.Numbers.{primaryRays};
+ghost use Rattle.names.specs.Numbers.{primaryRays, lampLimit, skyNumbers};
+ghost use Rattle.limits.specs.Limits.{lampCount};
 ghost use Rattle.names.specs.Scene.{Sound, sceneOf};
 ghost use Rattle.directions.specs.Table.{directions};
 ghost use Rattle.grid.specs.Grid.{AxesWithin, voxels, xOf, yOf, zOf, centreFrom};
@@ -33,6 +34,7 @@ pub fn gather_voxel(
     light: Light,
     ambient: Ambient,
     sky: &[f32],
+    lamps: &[f32],
     table: &[f32; 1728],
     lights: &[f32],
     distances: &mut [f32],
@@ -40,9 +42,9 @@ pub fn gather_voxel(
     i: usize,
     out: &mut [f32],
 ) -> u64
-    requires { ⌜ Gatherable (gatherOf axes corners (sceneOf (now points) (now uses) (now kinds) (now numbers)) light ambient (now sky) (now lights)) i (length (now distances)) (length (now places)) (length (now out)) ⌝ }
+    requires { ⌜ Gatherable (gatherOf axes corners (sceneOf (now points) (now uses) (now kinds) (now numbers)) light ambient (now sky) (now lamps) (now lights)) i (length (now distances)) (length (now places)) (length (now out)) ⌝ }
     requires { ⌜ now table ≡ directions ⌝ }
-    ensures { λ r. ⌜ Gathered (gatherOf axes corners (sceneOf (now (points .entry)) (now (uses .entry)) (now (kinds .entry)) (now (numbers .entry))) light ambient (now (sky .entry)) (now (lights .entry))) i r (now (out .exit)) ⌝ }
+    ensures { λ r. ⌜ Gathered (gatherOf axes corners (sceneOf (now (points .entry)) (now (uses .entry)) (now (kinds .entry)) (now (numbers .entry))) light ambient (now (sky .entry)) (now (lamps .entry)) (now (lights .entry))) i r (now (out .exit)) ⌝ }
 {
     let edges = grid::inner::edges(corners, axes);
     let setting = setting_of(edges, light, ambient);
@@ -53,6 +55,7 @@ pub fn gather_voxel(
         uses,
         kinds,
         numbers,
+        lamps,
         setting,
         centre,
         sky,
@@ -121,6 +124,7 @@ fn gather_all(
     uses: &[u32],
     kinds: &[u8],
     numbers: &[f32],
+    lamps: &[f32],
     setting: Setting,
     centre: Vec3,
     sky: &[f32],
@@ -130,9 +134,10 @@ fn gather_all(
     places: &mut [usize],
 ) -> Gathering
     requires { ⌜ Sound (sceneOf (now points) (now uses) (now kinds) (now numbers)) ⌝ }
+    requires { ⌜ lampCount (now lamps) ≤ lampLimit ⌝ }
     requires { ⌜ (length (now uses) ≤ length (now distances)) × (length (now uses) ≤ length (now places)) ⌝ }
-    requires { ⌜ (length (now sky) ≡ 1728) × (now table ≡ directions) × (first + 64 ≤ 576) ⌝ }
-    ensures { λ r. ⌜ r ≡ gatheringOf (sceneOf (now (points .entry)) (now (uses .entry)) (now (kinds .entry)) (now (numbers .entry))) setting centre (now (sky .entry)) first ⌝ }
+    requires { ⌜ (length (now sky) ≡ skyNumbers) × (now table ≡ directions) × (first + 64 ≤ 576) ⌝ }
+    ensures { λ r. ⌜ r ≡ gatheringOf (sceneOf (now (points .entry)) (now (uses .entry)) (now (kinds .entry)) (now (numbers .entry))) (now (lamps .entry)) setting centre (now (sky .entry)) first ⌝ }
 {
     let mut gathering = nothing();
     let mut i = 0;
@@ -142,6 +147,7 @@ fn gather_all(
             uses,
             kinds,
             numbers,
+            lamps,
             setting,
             centre,
             sky,
@@ -182,6 +188,7 @@ fn gather_along(
     uses: &[u32],
     kinds: &[u8],
     numbers: &[f32],
+    lamps: &[f32],
     setting: Setting,
     centre: Vec3,
     sky: &[f32],
@@ -192,10 +199,11 @@ fn gather_along(
     places: &mut [usize],
 ) -> Gathering
     requires { ⌜ Sound (sceneOf (now points) (now uses) (now kinds) (now numbers)) ⌝ }
+    requires { ⌜ lampCount (now lamps) ≤ lampLimit ⌝ }
     requires { ⌜ (length (now uses) ≤ length (now distances)) × (length (now uses) ≤ length (now places)) ⌝ }
-    requires { ⌜ (length (now sky) ≡ 1728) × (now table ≡ directions) × (k < 576) ⌝ }
+    requires { ⌜ (length (now sky) ≡ skyNumbers) × (now table ≡ directions) × (k < 576) ⌝ }
     requires { ⌜ (gathering .rays < 65536) × (gathering .misses < 65536) ⌝ }
-    ensures { λ r. ⌜ r ≡ gatheredAlong (sceneOf (now (points .entry)) (now (uses .entry)) (now (kinds .entry)) (now (numbers .entry))) setting centre (now (sky .entry)) k gathering ⌝ }
+    ensures { λ r. ⌜ r ≡ gatheredAlong (sceneOf (now (points .entry)) (now (uses .entry)) (now (kinds .entry)) (now (numbers .entry))) (now (lamps .entry)) setting centre (now (sky .entry)) k gathering ⌝ }
 {
     let direction = direction_at(table, k);
     let above = surface::inner::three_at(sky, k * 3);
@@ -205,6 +213,7 @@ fn gather_along(
         uses,
         kinds,
         numbers,
+        lamps,
         setting,
         ray,
         above,
@@ -253,6 +262,7 @@ fn look(
     uses: &[u32],
     kinds: &[u8],
     numbers: &[f32],
+    lamps: &[f32],
     setting: Setting,
     ray: Ray,
     sky: Vec3,
@@ -260,8 +270,9 @@ fn look(
     places: &mut [usize],
 ) -> Incoming
     requires { ⌜ Sound (sceneOf (now points) (now uses) (now kinds) (now numbers)) ⌝ }
+    requires { ⌜ lampCount (now lamps) ≤ lampLimit ⌝ }
     requires { ⌜ (length (now uses) ≤ length (now distances)) × (length (now uses) ≤ length (now places)) ⌝ }
-    ensures { λ r. ⌜ r ≡ incomingOf (sceneOf (now (points .entry)) (now (uses .entry)) (now (kinds .entry)) (now (numbers .entry))) setting ray sky ⌝ }
+    ensures { λ r. ⌜ r ≡ incomingOf (sceneOf (now (points .entry)) (now (uses .entry)) (now (kinds .entry)) (now (numbers .entry))) (now (lamps .entry)) setting ray sky ⌝ }
 {
     let found = scan::inner::nearest(points, uses, kinds, numbers, ray);
     match found {
@@ -276,6 +287,7 @@ fn look(
                 uses,
                 kinds,
                 numbers,
+                lamps,
                 setting,
                 ray,
                 place,
@@ -299,6 +311,7 @@ fn from_surface(
     uses: &[u32],
     kinds: &[u8],
     numbers: &[f32],
+    lamps: &[f32],
     setting: Setting,
     ray: Ray,
     place: usize,
@@ -307,9 +320,10 @@ fn from_surface(
     places: &mut [usize],
 ) -> Traced
     requires { ⌜ Sound (sceneOf (now points) (now uses) (now kinds) (now numbers)) ⌝ }
+    requires { ⌜ lampCount (now lamps) ≤ lampLimit ⌝ }
     requires { ⌜ (length (now uses) ≤ length (now distances)) × (length (now uses) ≤ length (now places)) ⌝ }
     requires { ⌜ place < length (now uses) ⌝ }
-    ensures { λ r. ⌜ r ≡ sentBack (sceneOf (now (points .entry)) (now (uses .entry)) (now (kinds .entry)) (now (numbers .entry))) setting ray place distance ⌝ }
+    ensures { λ r. ⌜ r ≡ sentBack (sceneOf (now (points .entry)) (now (uses .entry)) (now (kinds .entry)) (now (numbers .entry))) (now (lamps .entry)) setting ray place distance ⌝ }
 {
     let surface = surface::inner::surface_at(
         points,
@@ -326,6 +340,7 @@ fn from_surface(
         uses,
         kinds,
         numbers,
+        lamps,
         setting,
         surface,
         distances,

@@ -1,5 +1,5 @@
--- What gather writes stays within ±2^64, where the rows of the public call have passed: so a resumed call is never refused for it. A ray
--- brings at most 12 · 2^18, so that 64 of them sum to at most 1536 · 2^18 in each coefficient; irradiance at most doubles that, and the floor
+-- What gather writes stays within ±2^96, where the rows of the public call have passed: so a resumed call is never refused for it. A ray
+-- brings at most 10 · 2^79, so that 64 of them sum to at most 1280 · 2^79 in each coefficient; irradiance at most doubles that, and the floor
 -- at most doubles it again.
 use mathlib.Core.Path.{_≡_, refl, sym}
 use mathlib.Core.Bool.{Bool, true, false, _&&_, _||_, false≢true}
@@ -13,7 +13,7 @@ use lib.Ieee as Ieee
 use lib.Ieee.{Float, nan, inf, fin, down, ofBits}
 use lib.Ieee.Fits.{down-pos}
 use Rattle.names.specs.Bits.{lit, zero32, one32}
-use Rattle.names.specs.Numbers.{primaryRays, pointLimit, colourLimit, lightLimit, coefficientLimit}
+use Rattle.names.specs.Numbers.{primaryRays, skyNumbers, pointLimit, colourLimit, lightLimit, coefficientLimit}
 use Rattle.names.specs.Scene.{Scene}
 use Rattle.lists.specs.Fold.{fold}
 use Rattle.floats.specs.OrderLaws.{le-transitive}
@@ -29,8 +29,8 @@ use Rattle.directions.specs.Sets.{set-below}
 use Rattle.directions.specs.Rule.{unitsOf, isFinite}
 use Rattle.directions.specs.RuleLaws.{Small, number-small}
 use Rattle.grid.specs.Grid.{xOf, yOf, zOf, floatOf, edgesOf}
-use Rattle.limits.specs.Limits.{within, upTo, wrongScene, tooMany, badPoints, badMaterials, badDirection, badColour, badLight, badAmbient, badSky, badLights}
-use Rattle.limits.specs.LimitsLaws.{within-between, vector-row, either, any-of-three, points-row, materials-row, transmission-within, colour-within, sound, direction-row, sky-row, lights-row}
+use Rattle.limits.specs.Limits.{within, upTo, wrongScene, tooMany, badPoints, badMaterials, badDirection, badColour, badLight, badAmbient, badSky, badLights, lampAt, badLamps}
+use Rattle.limits.specs.LimitsLaws.{within-between, vector-row, either, any-of-three, points-row, materials-row, transmission-within, colour-within, sound, direction-row, sky-row, lights-row, lamp-row, lamps-row}
 use Rattle.limits.specs.declared.Light.{Light}
 use Rattle.limits.specs.declared.Ambient.{Ambient}
 use Rattle.triangle.specs.Places.{vecAt}
@@ -44,7 +44,7 @@ use Rattle.gather.specs.Gather.{GatherInput, ambientOf, settingOf, directionAt,
 use Rattle.gather.specs.GatherLaws.{misses-most, length-gathered}
 use Rattle.gather_bounds.specs.Each.{each-up, zero-each, AllAtMost, sixty-four}
 use Rattle.gather_bounds.specs.LightBounds.{added-all, irradiance-all, raised-all, floored-all}
-use Rattle.gather_bounds.specs.SceneBounds.{Modest, ModestSetting, FoundAt, nearest-found, surface-small, bounced-small}
+use Rattle.gather_bounds.specs.SceneBounds.{Modest, ModestSetting, ModestLamps, FoundAt, nearest-found, surface-small, bounced-small}
 
 -- ---- a direction's components are at most 2
 
@@ -66,38 +66,38 @@ direction-small : (k : ℕ) → k < 576 → EachAtMost 2 0 (directionAt k)
 direction-small k h =
     record { x = rw add-zero at (component-small k 0 h (lit< tt)); y = component-small k 1 h (lit< tt); z = component-small k 2 h (lit< tt) }
 
--- ---- what comes back along a ray: at most 12 · 2^18
+-- ---- what comes back along a ray: at most 10 · 2^79
 
-incoming-small : (s : Scene) (m : Modest s) (g : Setting) → ModestSetting g → (ray : Ray) (sky : Vec3) → EachAtMost 1 16 sky
-    → (n : ℕ) → n ≤ length (s .uses) → (found : Nearest) → FoundAt s m ray n found → EachAtMost 12 18 (incomingBy s g ray sky found .radiance)
+incoming-small : (s : Scene) (m : Modest s) (l : List Float) → ModestLamps l → (g : Setting) → ModestSetting g → (ray : Ray) (sky : Vec3) → EachAtMost 1 16 sky
+    → (n : ℕ) → n ≤ length (s .uses) → (found : Nearest) → FoundAt s m ray n found → EachAtMost 10 79 (incomingBy s l g ray sky found .radiance)
 unfolding incomingBy
-incoming-small s m g h ray sky k n l Nothing f = each-up sky 1 16 12 18 (lit≤ tt) k
-incoming-small s m g h ray sky k n l (At place t u v) f =
-    bounced-small s m g h _ (surface-small s m ray place t u v (g .biases .hit) (omega (arith, f .0)) (f .1))
+incoming-small s m l b g h ray sky k n q Nothing f = each-up sky 1 16 10 79 (lit≤ tt) k
+incoming-small s m l b g h ray sky k n q (At place t u v) f =
+    bounced-small s m g h _ (surface-small s m ray place t u v (g .biases .hit) (omega (arith, f .0)) (f .1)) l b
 
 -- ---- the sums
 
-module _ (s : Scene) (m : Modest s) (g : Setting) (h : ModestSetting g) (centre : Vec3) (sky : List Float) (first : ℕ) (fits : first + 64 ≤ 576) (skies : (k : ℕ) → k < 1728 → AtMost 1 16 (getD sky k nan)) where
+module _ (s : Scene) (m : Modest s) (l : List Float) (b : ModestLamps l) (g : Setting) (h : ModestSetting g) (centre : Vec3) (sky : List Float) (first : ℕ) (fits : first + 64 ≤ 576) (skies : (k : ℕ) → k < skyNumbers → AtMost 1 16 (getD sky k nan)) where
   sky-small : (k : ℕ) → k < 576 → EachAtMost 1 16 (vecAt sky (k * 3))
   sky-small k p = record { x = skies (k * 3) (omega arith); y = skies (k * 3 + 1) (omega arith); z = skies (k * 3 + 2) (omega arith) }
 
-  along-small : (k n : ℕ) (t : Gathering) → k < 576 → n ≤ 1536 → AllAtMost n 18 (t .sums) → AllAtMost (n + 24) 18 (gatheredAlong s g centre sky k t .sums)
+  along-small : (k n : ℕ) (t : Gathering) → k < 576 → n ≤ 1280 → AllAtMost n 79 (t .sums) → AllAtMost (n + 20) 79 (gatheredAlong s l g centre sky k t .sums)
   unfolding gatheredAlong nearestOf
   along-small k n t p q a =
       let ray = primaryRay g centre (directionAt k) in
       added-all (t .sums) (directionAt k) _ n q a (direction-small k p)
-      (incoming-small s m g h ray (vecAt sky (k * 3)) (sky-small k p) (length (s .uses)) (omega arith) (nearestTo s ray (length (s .uses))) (nearest-found s m ray (length (s .uses))))
+      (incoming-small s m l b g h ray (vecAt sky (k * 3)) (sky-small k p) (length (s .uses)) (omega arith) (nearestTo s ray (length (s .uses))) (nearest-found s m ray (length (s .uses))))
 
-  fold-small : (k i : ℕ) (t : Gathering) → i + k ≡ 64 → AllAtMost (24 * i) 18 (t .sums) → AllAtMost 1536 18 (fold (alongFrom s g centre sky first) k i t .sums)
+  fold-small : (k i : ℕ) (t : Gathering) → i + k ≡ 64 → AllAtMost (20 * i) 79 (t .sums) → AllAtMost 1280 79 (fold (alongFrom s l g centre sky first) k i t .sums)
   unfolding fold
-  fold-small zero i t e a = let q : 24 * i ≡ 1536 = omega arith in rw q at a
+  fold-small zero i t e a = let q : 20 * i ≡ 1280 = omega arith in rw q at a
   fold-small (suc k) i t e a =
-      let q : 24 * i + 24 ≡ 24 * (i + 1) = omega arith in
-      fold-small k (i + 1) (alongFrom s g centre sky first i t) (omega arith) (rw q at (along-small (first + i) (24 * i) t (omega arith) (omega arith) a))
+      let q : 20 * i + 20 ≡ 20 * (i + 1) = omega arith in
+      fold-small k (i + 1) (alongFrom s l g centre sky first i t) (omega arith) (rw q at (along-small (first + i) (20 * i) t (omega arith) (omega arith) a))
 
-  pub sums-small : AllAtMost 1536 18 (gatheringOf s g centre sky first .sums)
+  pub sums-small : AllAtMost 1280 79 (gatheringOf s l g centre sky first .sums)
   unfolding gatheringOf
-  sums-small = fold-small primaryRays 0 nothingGathered refl (record { c0 = zero-each 0 18; c1 = zero-each 0 18; c2 = zero-each 0 18; c3 = zero-each 0 18 })
+  sums-small = fold-small primaryRays 0 nothingGathered refl (record { c0 = zero-each 0 79; c1 = zero-each 0 79; c2 = zero-each 0 79; c3 = zero-each 0 79 })
 
 -- ---- the rows
 
@@ -110,7 +110,8 @@ pub record Rows (g : GatherInput) : Type 0 where
   pub light : badLight (g .light) ≡ false
   pub ambient : badAmbient (g .ambient) ≡ false
   pub sky : badSky (g .sky) ≡ false
-  pub skies : length (g .sky) ≡ 1728
+  pub skies : length (g .sky) ≡ skyNumbers
+  pub lamps : badLamps (g .lamps) ≡ false
   pub lights : badLights (g .lights) ≡ false
 
 and-left : (a b : Bool) → (a && b) ≡ true → a ≡ true
@@ -175,33 +176,38 @@ setting-small edges l a h k =
     let p = either (badDirection (l .direction)) (badColour (l .colour)) .0 h in
     record { toward = toward-small (l .direction) (p .0); colour = each-colour (l .colour) (p .1); ambient = ambient-small a k }
 
+lamps-small : (l : List Float) → badLamps l ≡ false → ModestLamps l
+lamps-small l h =
+    let p = lamps-row l .0 h in
+    record { few = p .0; each = λ j k. record { colour = each-colour (lampAt l j .colour) (lamp-row (lampAt l j) .0 (p .1 j k) .1) } }
+
 -- ---- the sixteen numbers
 
 abbrev Every : List Float → Type 0
 Every [] = Unit
-Every (x ∷ l) = AtMost 1 64 x × Every l
+Every (x ∷ l) = AtMost 1 96 x × Every l
 
-every-at : (l : List Float) → Every l → (c : ℕ) → c < length l → AtMost 1 64 (getD l c nan)
+every-at : (l : List Float) → Every l → (c : ℕ) → c < length l → AtMost 1 96 (getD l c nan)
 every-at [] e c h = absurd (omega arith)
 every-at (x ∷ l) e zero h = e .0
 every-at (x ∷ l) e (suc c) h = every-at l (e .1) c (omega arith)
 
-seen-small : (n : ℕ) → n ≤ primaryRays → AtMost 1 64 (skySeen n)
+seen-small : (n : ℕ) → n ≤ primaryRays → AtMost 1 96 (skySeen n)
 seen-small n h =
-    at-most-up _ 1 0 1 64 (lit≤ tt) (div-at-most (floatOf n) (lit 0x42800000) 1 64 0 0 (lit< tt) (lit< tt) (lit< tt) (at-most-up (floatOf n) n 0 64 0 (mul-le-mul-right {m = n} {n = 64} 1 h) (int-at-most n (omega arith))) sixty-four)
+    at-most-up _ 1 0 1 96 (lit≤ tt) (div-at-most (floatOf n) (lit 0x42800000) 1 64 0 0 (lit< tt) (lit< tt) (lit< tt) (at-most-up (floatOf n) n 0 64 0 (mul-le-mul-right {m = n} {n = 64} 1 h) (int-at-most n (omega arith))) sixty-four)
 
-wide : (v : Vec3) → EachAtMost 6145 18 v → EachAtMost 1 64 v
-wide v h = each-up v 6145 18 1 64 (lit≤ tt) h
+wide : (v : Vec3) → EachAtMost 5121 79 v → EachAtMost 1 96 v
+wide v h = each-up v 5121 79 1 96 (lit≤ tt) h
 
-sixteen-small : (c : Coefficients) (light seen : Float) → AllAtMost 6145 18 c → AtMost 1 64 light → AtMost 1 64 seen → Every (sixteenOf c light seen)
+sixteen-small : (c : Coefficients) (light seen : Float) → AllAtMost 5121 79 c → AtMost 1 64 light → AtMost 1 96 seen → Every (sixteenOf c light seen)
 unfolding sixteenOf
 sixteen-small c light seen h l s =
     let a = wide (c .c0) (h .c0) in
     let b = wide (c .c1) (h .c1) in
     let d = wide (c .c2) (h .c2) in
     let e = wide (c .c3) (h .c3) in
-    let z = zero-at-most 1 64 in
-    (a .x, (a .y, (a .z, (l, (b .x, (b .y, (b .z, (s, (d .x, (d .y, (d .z, (z, (e .x, (e .y, (e .z, (z, tt))))))))))))))))
+    let z = zero-at-most 1 96 in
+    (a .x, (a .y, (a .z, (at-most-up light 1 64 1 96 (lit≤ tt) l, (b .x, (b .y, (b .z, (s, (d .x, (d .y, (d .z, (z, (e .x, (e .y, (e .z, (z, tt))))))))))))))))
 
 -- the law: each of the sixteen numbers passes the test of row 13
 pub gathered-within : (g : GatherInput) (i : ℕ) → Rows g → i < length (g .lights) → (c : ℕ) → c < 16 → within coefficientLimit (getD (gatheredOf g i) c nan) ≡ true
@@ -211,9 +217,9 @@ gathered-within g i r h c k =
     let m = modest g r in
     let t = setting-small (edgesOf (g .corners) a) (g .light) (g .ambient) (r .light) (r .ambient) in
     let skies = sky-row (g .sky) .0 (r .sky) in
-    let sums = sums-small (g .scene) m _ t _ (g .sky) (setAt a i * primaryRays) (omega (arith, set-below (xOf a i) (yOf a i) (zOf a i))) (λ j p. colour-at-most _ (skies j (omega (arith, r .skies)))) in
-    let done = floored-all _ (ambientOf (g .ambient)) (raised-all _ 3072 18 (irradiance-all _ sums)) (ambient-small (g .ambient) (r .ambient)) in
+    let sums = sums-small (g .scene) m (g .lamps) (lamps-small (g .lamps) (r .lamps)) _ t _ (g .sky) (setAt a i * primaryRays) (omega (arith, set-below (xOf a i) (yOf a i) (zOf a i))) (λ j p. colour-at-most _ (skies j (omega (arith, r .skies)))) in
+    let done = floored-all _ (ambientOf (g .ambient)) (raised-all _ 2560 79 (irradiance-all _ sums)) (ambient-small (g .ambient) (r .ambient)) in
     let every = sixteen-small _ (getD (g .lights) i nan) _ done (light-at-most _ (lights-row (g .lights) .0 (r .lights) i h)) (seen-small _ (misses-most g i)) in
     let x = every-at (gatheredOf g i) every c (rw (length-gathered g i) k) in
-    let p = test-of-at-most _ coefficientLimit 1 64 coefficient-value x in
+    let p = test-of-at-most _ coefficientLimit 1 96 coefficient-value x in
     within-between coefficientLimit _ .1 p

@@ -1,24 +1,33 @@
--- How large the light of a surface and its projection are, from colours up to 2^16 and normals whose components are at most 2.
+-- How large the light of a surface and its projection are, from colours up to 2^16 and normals whose components are at most 2. A lamp that reaches
+-- a surface stands at a finite distance whose square is above 1e-12, so that n·l/d² is at most 2^63.
 use mathlib.Core.Path.{_≡_, refl, sym, _∙_}
 use mathlib.Core.Bool.{Bool, true, false, cond, false≢true}
 use Prim.Native.Nat.{ℕ, zero, suc, _+_, _-_, _*_, _/_, _%_, _^_, _≤_, compare}
 use native.Mathlib.Nat.{zero-mul, mul-le-mul-right, lt-of-le-of-lt}
 use native.Mathlib.Omega.{arith}
 use lib.Dec.{lit<, lit≤, eqb, ltb}
-use borrow.Author.Tests.{ne-eqb}
+use borrow.Author.Tests.{ne-eqb, le-ltb, not-false}
 use lib.IntN.{ℤ}
 use lib.Ieee as Ieee
 use lib.Ieee.{Float, nan, inf, fin, isNan, ofBits, odd, units, round, nearest, size, up, down, binary32}
 use lib.Ieee.Scale.{finite}
+use lib.Ieee.Exact.{HasValue}
 use Rattle.names.specs.Bits.{lit, zero32, one32}
+use Rattle.names.specs.Numbers.{thinLimit}
+use Rattle.floats.specs.Root.{rootOf}
+use Rattle.floats.specs.FiniteLaws.{finite-number}
+use Rattle.floats.specs.OrderLaws.{not-lt-le}
 use Rattle.vectors.specs.declared.Vec3.{Vec3}
-use Rattle.vectors.specs.Vectors.{negV, addV, scaleV, dotV, lerpV}
+use Rattle.vectors.specs.Vectors.{negV, addV, subV, scaleV, divV, dotV, lengthV, normalV, lerpV}
 use Rattle.bounds.specs.Bounds.{AtMost, EachAtMost}
-use Rattle.bounds.specs.BoundsLaws.{at-most-up, at-most-finite, add-at-most, sub-at-most, mul-at-most, larger-at-most, clamp-at-most, zero-at-most}
+use Rattle.bounds.specs.BoundsLaws.{at-most-up, at-most-finite, at-least-of-test, add-at-most, sub-at-most, mul-at-most, div-at-most, larger-at-most, clamp-at-most, zero-at-most}
+use Rattle.bounds.specs.NormalLaws.{thin-normal-within}
 use Rattle.bounds.specs.VectorLaws.{neg-each, add-each, mul-each, scale-each, larger-each, dot-at-most}
+use Rattle.limits.specs.LimitsLaws.{either}
 use Rattle.harmonics.specs.declared.Coefficients.{Coefficients}
 use Rattle.harmonics.specs.Harmonics.{zeroV, linearBasis, primaryWeight, addWeighted, projected, addedTo, irradianceOf, evaluatedAt, raisedV, raisedOf, floor32, luminanceOf, blendedV, blendedEach, shortfallOf, flooredOf}
 use Rattle.bounce.specs.Light.{facingOf, slantOf, sunlightOf, skylightOf, bouncedOf, reflectedOf}
+use Rattle.bounce.specs.Lamps.{wayTo, unlitBy, lamplightOf}
 use Rattle.gather_bounds.specs.Each.{each-up, div-each, zero-each, taken-each, AllAtMost, all-up, taken-all, constant-basis-small, linear-basis-small, primary-weight-small, constant-irradiance-small, linear-irradiance-small, floor-small, red-small, green-small, blue-small, quarter-small, one-small, pi-least}
 
 -- ---- light on a surface
@@ -56,44 +65,152 @@ sunlight-each c n l v h g k t =
     let d = larger-at-most _ zero32 3 2 (dot-at-most n l 1 1 1 1 (lit< tt) (lit< tt) g k) (zero-at-most 3 2) in
     scale-each c _ 1 16 3 2 (lit< tt) (lit< tt) h (mul-at-most _ v 3 2 1 0 (lit< tt) (lit< tt) d t)
 
--- what is sent out: 12 · 2^18
-pub reflected-each : (a e s k : Vec3) → EachAtMost 1 0 a → EachAtMost 1 16 e → EachAtMost 3 18 s → EachAtMost 16 17 k
-    → EachAtMost 12 18 (reflectedOf a e s k)
+-- ---- the light of a lamp: 1 · 2^79
+
+-- NaN, or a zero
+abbrev Nothing : Float → Type 0
+Nothing nan = Unit
+Nothing (inf s) = ⊥
+Nothing (fin s m e) = AtMost 0 0 (fin s m e)
+
+nothing-zero : (x : Float) (k : ℕ) → AtMost 0 k x → Nothing x
+unfolding AtMost
+nothing-zero nan k h = tt
+nothing-zero (inf s) k h = absurd h
+nothing-zero (fin s m e) k h = at-most-up (fin s m e) 0 k 0 0 (omega arith) h
+
+-- a number times nothing, and the sum of two, are nothing
+nothing-mul : (x y : Float) → AtMost 1 1 x → Nothing y → Nothing (Ieee.mul binary32 x y)
+unfolding AtMost Ieee.mul
+nothing-mul nan y h g = absurd h
+nothing-mul (inf s) y h g = absurd h
+nothing-mul (fin s m e) nan h g = tt
+nothing-mul (fin s m e) (inf t) h g = absurd g
+nothing-mul (fin s m e) (fin t n d) h g = nothing-zero (Ieee.mul binary32 (fin s m e) (fin t n d)) 1 (mul-at-most (fin s m e) (fin t n d) 1 1 0 0 (lit< tt) (lit< tt) h g)
+
+nothing-add : (x y : Float) → Nothing x → Nothing y → Nothing (Ieee.add binary32 x y)
+unfolding Ieee.add
+nothing-add nan y h g = tt
+nothing-add (inf s) y h g = absurd h
+nothing-add (fin s m e) nan h g = tt
+nothing-add (fin s m e) (inf t) h g = absurd g
+nothing-add (fin s m e) (fin t n d) h g = nothing-zero (Ieee.add binary32 (fin s m e) (fin t n d)) 0 (add-at-most (fin s m e) (fin t n d) 0 0 0 (lit< tt) (lit< tt) h g)
+
+nothing-not-above : (x : Float) → Nothing x → Ieee.lt zero32 x ≡ false
+unfolding AtMost Ieee.lt ofBits
+nothing-not-above nan h = refl
+nothing-not-above (inf s) h = absurd h
+nothing-not-above (fin true m e) h = refl
+nothing-not-above (fin false m e) h = le-ltb (0 * down e) (m * up e * 1) (omega (arith, h))
+
+-- over what is no number or infinite there is nothing
+nothing-over : (x r : Float) → finite r ≡ false → Nothing (Ieee.div binary32 x r)
+unfolding Ieee.div AtMost
+nothing-over nan r h = tt
+nothing-over (inf s) nan h = tt
+nothing-over (inf s) (inf t) h = tt
+nothing-over (inf s) (fin t n d) h = absurd (false≢true (sym h))
+nothing-over (fin s m e) nan h = tt
+nothing-over (fin s m e) (inf t) h = lit≤ tt
+nothing-over (fin s m e) (fin t n d) h = absurd (false≢true (sym h))
+
+root-of-none : (d : Float) → finite d ≡ false → finite (rootOf d) ≡ false
+unfolding rootOf
+root-of-none nan h = refl
+root-of-none (inf true) h = refl
+root-of-none (inf false) h = refl
+root-of-none (fin s m e) h = absurd (false≢true (sym h))
+
+-- a lamp above a surface stands at a finite distance: from any other, l has no component above 0, and n·l is none
+pub reach-finite : (n v : Vec3) → EachAtMost 1 1 n → Ieee.lt zero32 (dotV n (normalV v)) ≡ true → finite (dotV v v) ≡ true
+unfolding normalV lengthV divV dotV
+reach-finite n v h l = go (finite (dotV v v)) refl
+  where
+    r : Float
+    r = rootOf (dotV v v)
+
+    none : finite (dotV v v) ≡ false → Nothing (dotV n (divV v r))
+    none e =
+        let f = root-of-none (dotV v v) e in
+        nothing-add _ _ (nothing-add _ _ (nothing-mul (n .x) _ (h .x) (nothing-over (v .x) r f)) (nothing-mul (n .y) _ (h .y) (nothing-over (v .y) r f))) (nothing-mul (n .z) _ (h .z) (nothing-over (v .z) r f))
+
+    go : (b : Bool) → finite (dotV v v) ≡ b → finite (dotV v v) ≡ true
+    go true e = e
+    go false e = absurd (false≢true (sym (nothing-not-above (dotV n (divV v r)) (none e)) ∙ l))
+
+-- not at most, and a number: above
+pub above : (x y : Float) → isNan x ≡ false → isNan y ≡ false → Ieee.le y x ≡ false → Ieee.lt x y ≡ true
+above x y p o h = go (Ieee.lt x y) refl
+  where
+    go : (b : Bool) → Ieee.lt x y ≡ b → b ≡ true
+    go true e = refl
+    go false e = absurd (false≢true (sym h ∙ not-lt-le y x o p e))
+
+pub thin-number : isNan thinLimit ≡ false
+unfolding isNan ofBits
+thin-number = refl
+
+thin-value : HasValue thinLimit false 9223372 (2 ^ 63)
+unfolding ofBits
+thin-value = (refl, refl)
+
+lt-le : (x y : Float) → Ieee.lt x y ≡ true → Ieee.le x y ≡ true
+unfolding Ieee.le
+lt-le x y h = rw h
+
+-- so a lamp that reaches a surface brings at most 1 · 2^79 of each colour
+pub lamplight-each : (c n p q : Vec3) (v : Float) → EachAtMost 1 16 c → EachAtMost 1 1 n → AtMost 1 0 v → unlitBy n (wayTo p q) ≡ false
+    → EachAtMost 1 79 (lamplightOf c n (wayTo p q) v)
+unfolding lamplightOf unlitBy wayTo
+lamplight-each c n p q v h g t e =
+    let w = subV q p in
+    let o = either _ _ .0 e in
+    let l = not-false _ (o .0) in
+    let f = reach-finite n w g l in
+    let s = above thinLimit (dotV w w) thin-number (finite-number _ f) (o .1) in
+    let u = thin-normal-within w s f in
+    let a = at-least-of-test (dotV w w) thinLimit 9223372 63 thin-value f (lt-le _ _ s) in
+    let k = at-most-up _ 3 2 9223372 0 (lit≤ tt) (dot-at-most n (normalV w) 1 1 1 1 (lit< tt) (lit< tt) g u) in
+    let d = div-at-most _ _ 1 9223372 0 63 (lit< tt) (lit< tt) (lit< tt) k a in
+    scale-each _ v 1 79 1 0 (lit< tt) (lit< tt) (scale-each c _ 1 16 1 63 (lit< tt) (lit< tt) h d) t
+
+-- what is sent out, where at most 9 · 2^79 has fallen: 10 · 2^79
+pub reflected-each : (a e f : Vec3) → EachAtMost 1 0 a → EachAtMost 1 16 e → EachAtMost 9 79 f → EachAtMost 10 79 (reflectedOf a e f)
 unfolding reflectedOf bouncedOf
-reflected-each a e s k ha he hs hk =
-    let f = raised-each _ 11 18 (add-each s k 3 8 18 (lit< tt) (lit< tt) hs (each-up k 16 17 8 18 (lit≤ tt) hk)) in
-    let b = mul-each a _ 1 0 11 18 (lit< tt) (lit< tt) ha (div-each _ (lit 0x40490fdb) 11 1 18 0 (lit< tt) (lit< tt) (lit< tt) f pi-least) in
-    add-each _ e 11 1 18 (lit< tt) (lit< tt) (taken-each (Ieee.lt zero32 (dotV (raisedV (addV s k)) (raisedV (addV s k)))) _ zeroV 11 18 b (zero-each 11 18)) (each-up e 1 16 1 18 (lit≤ tt) he)
+reflected-each a e f ha he hf =
+    let r = raised-each f 9 79 hf in
+    let b = mul-each a _ 1 0 9 79 (lit< tt) (lit< tt) ha (div-each _ (lit 0x40490fdb) 9 1 79 0 (lit< tt) (lit< tt) (lit< tt) r pi-least) in
+    add-each _ e 9 1 79 (lit< tt) (lit< tt) (taken-each (Ieee.lt zero32 (dotV (raisedV f) (raisedV f))) _ zeroV 9 79 b (zero-each 9 79)) (each-up e 1 16 1 79 (lit≤ tt) he)
 
--- ---- projection: a direction adds at most 24 · 2^18 to each sum
+-- ---- projection: a direction adds at most 20 · 2^79 to each sum
 
-weighted-each : (sum r : Vec3) (b : Float) (n : ℕ) → n ≤ 1536 → EachAtMost n 18 sum → EachAtMost 12 18 r → AtMost 2 0 b
-    → EachAtMost (n + 24) 18 (addWeighted sum r b)
+weighted-each : (sum r : Vec3) (b : Float) (n : ℕ) → n ≤ 1280 → EachAtMost n 79 sum → EachAtMost 10 79 r → AtMost 2 0 b
+    → EachAtMost (n + 20) 79 (addWeighted sum r b)
 unfolding addWeighted
 weighted-each sum r b n N h g k =
     let w = mul-at-most b primaryWeight 2 0 1 0 (lit< tt) (lit< tt) k primary-weight-small in
-    add-each sum _ n 24 18 (omega arith) (lt-of-le-of-lt (mul-le-mul-right {m = n + 24} {n = 1560} (2 ^ 18) (omega arith)) (lit< tt)) h (scale-each r _ 12 18 2 0 (lit< tt) (lit< tt) g w)
+    add-each sum _ n 20 79 (omega arith) (lt-of-le-of-lt (mul-le-mul-right {m = n + 20} {n = 1300} (2 ^ 79) (omega arith)) (lit< tt)) h (scale-each r _ 10 79 2 0 (lit< tt) (lit< tt) g w)
 
 linear-each : (x : Float) → AtMost 2 0 x → AtMost 2 0 (Ieee.mul binary32 linearBasis x)
 linear-each x h = mul-at-most linearBasis x 1 0 2 0 (lit< tt) (lit< tt) linear-basis-small h
 
-pub projected-all : (s : Coefficients) (d r : Vec3) (n : ℕ) → n ≤ 1536 → AllAtMost n 18 s → EachAtMost 2 0 d → EachAtMost 12 18 r
-    → AllAtMost (n + 24) 18 (projected s d r)
+pub projected-all : (s : Coefficients) (d r : Vec3) (n : ℕ) → n ≤ 1280 → AllAtMost n 79 s → EachAtMost 2 0 d → EachAtMost 10 79 r
+    → AllAtMost (n + 20) 79 (projected s d r)
 unfolding projected
 projected-all s d r n N h g k =
     record { c0 = weighted-each (s .c0) r _ n N (h .c0) k (at-most-up _ 1 0 2 0 (lit≤ tt) constant-basis-small); c1 = weighted-each (s .c1) r _ n N (h .c1) k (linear-each (d .y) (g .y)); c2 = weighted-each (s .c2) r _ n N (h .c2) k (linear-each (d .z) (g .z)); c3 = weighted-each (s .c3) r _ n N (h .c3) k (linear-each (d .x) (g .x)) }
 
-pub added-all : (s : Coefficients) (d r : Vec3) (n : ℕ) → n ≤ 1536 → AllAtMost n 18 s → EachAtMost 2 0 d → EachAtMost 12 18 r
-    → AllAtMost (n + 24) 18 (addedTo s d r)
+pub added-all : (s : Coefficients) (d r : Vec3) (n : ℕ) → n ≤ 1280 → AllAtMost n 79 s → EachAtMost 2 0 d → EachAtMost 10 79 r
+    → AllAtMost (n + 20) 79 (addedTo s d r)
 unfolding addedTo
-added-all s d r n N h g k = taken-all (Ieee.le (dotV r r) zero32) s _ (n + 24) 18 (all-up s n 18 (n + 24) 18 (mul-le-mul-right {m = n} {n = n + 24} (2 ^ 18) (omega arith)) h) (projected-all s d r n N h g k)
+added-all s d r n N h g k = taken-all (Ieee.le (dotV r r) zero32) s _ (n + 20) 79 (all-up s n 79 (n + 20) 79 (mul-le-mul-right {m = n} {n = n + 20} (2 ^ 79) (omega arith)) h) (projected-all s d r n N h g k)
 
 -- ---- irradiance and the floor
 
-pub irradiance-all : (c : Coefficients) → AllAtMost 1536 18 c → AllAtMost 3072 18 (irradianceOf c)
+pub irradiance-all : (c : Coefficients) → AllAtMost 1280 79 c → AllAtMost 2560 79 (irradianceOf c)
 unfolding irradianceOf
 irradiance-all c h =
-    record { c0 = each-up _ 1536 18 3072 18 (lit≤ tt) (scale-each (c .c0) _ 1536 18 1 0 (lit< tt) (lit< tt) (h .c0) constant-irradiance-small); c1 = scale-each (c .c1) _ 1536 18 2 0 (lit< tt) (lit< tt) (h .c1) linear-irradiance-small; c2 = scale-each (c .c2) _ 1536 18 2 0 (lit< tt) (lit< tt) (h .c2) linear-irradiance-small; c3 = scale-each (c .c3) _ 1536 18 2 0 (lit< tt) (lit< tt) (h .c3) linear-irradiance-small }
+    record { c0 = each-up _ 1280 79 2560 79 (lit≤ tt) (scale-each (c .c0) _ 1280 79 1 0 (lit< tt) (lit< tt) (h .c0) constant-irradiance-small); c1 = scale-each (c .c1) _ 1280 79 2 0 (lit< tt) (lit< tt) (h .c1) linear-irradiance-small; c2 = scale-each (c .c2) _ 1280 79 2 0 (lit< tt) (lit< tt) (h .c2) linear-irradiance-small; c3 = scale-each (c .c3) _ 1280 79 2 0 (lit< tt) (lit< tt) (h .c3) linear-irradiance-small }
 
 pub raised-all : (c : Coefficients) (n k : ℕ) → AllAtMost n k c → AllAtMost n k (raisedOf c)
 unfolding raisedOf
@@ -106,10 +223,10 @@ floor-luminance c h =
     let e = scale-each c floor32 1 16 1 0 (lit< tt) (lit< tt) h floor-small in
     add-at-most _ _ 2 1 16 (lit< tt) (lit< tt) (add-at-most _ _ 1 1 16 (lit< tt) (lit< tt) (mul-at-most _ _ 1 0 1 16 (lit< tt) (lit< tt) red-small (e .x)) (mul-at-most _ _ 1 0 1 16 (lit< tt) (lit< tt) green-small (e .y))) (mul-at-most _ _ 1 0 1 16 (lit< tt) (lit< tt) blue-small (e .z))
 
-present-luminance : (c : Vec3) → EachAtMost 3072 18 c → AtMost 9216 18 (luminanceOf c)
+present-luminance : (c : Vec3) → EachAtMost 2560 79 c → AtMost 7680 79 (luminanceOf c)
 unfolding luminanceOf
 present-luminance c e =
-    add-at-most _ _ 6144 3072 18 (lit< tt) (lit< tt) (add-at-most _ _ 3072 3072 18 (lit< tt) (lit< tt) (mul-at-most _ _ 1 0 3072 18 (lit< tt) (lit< tt) red-small (e .x)) (mul-at-most _ _ 1 0 3072 18 (lit< tt) (lit< tt) green-small (e .y))) (mul-at-most _ _ 1 0 3072 18 (lit< tt) (lit< tt) blue-small (e .z))
+    add-at-most _ _ 5120 2560 79 (lit< tt) (lit< tt) (add-at-most _ _ 2560 2560 79 (lit< tt) (lit< tt) (mul-at-most _ _ 1 0 2560 79 (lit< tt) (lit< tt) red-small (e .x)) (mul-at-most _ _ 1 0 2560 79 (lit< tt) (lit< tt) green-small (e .y))) (mul-at-most _ _ 1 0 2560 79 (lit< tt) (lit< tt) blue-small (e .z))
 
 -- what is rounded is a number
 odd-number : (d : ℕ) (s : Bool) (q k l : ℕ) → isNan (odd d s q k l) ≡ false
@@ -155,27 +272,27 @@ quotient-number (fin s m e) nan f g h = absurd (false≢true g)
 quotient-number (fin s m e) (inf t) f g h = absurd (false≢true g)
 quotient-number (fin s m e) (fin t n d) f g h = rw (nonzero t n d h) (round-number (Ieee.unlike s t) (m * up e * down d) (n * up d * down e))
 
--- ---- the floor: 6145 · 2^18
+-- ---- the floor: 5121 · 2^79
 
 shortfall-small : (least present : Float) → finite least ≡ true → finite (Ieee.sub binary32 least present) ≡ true → Ieee.le least zero32 ≡ false
     → AtMost 1 0 (shortfallOf least present)
 unfolding shortfallOf
 shortfall-small least present f g h = clamp-at-most _ (quotient-number _ least g f h)
 
-blended-each : (c a : Vec3) (t : Float) → EachAtMost 3072 18 c → EachAtMost 1 16 a → AtMost 1 0 t → EachAtMost 6145 18 (blendedV c a t)
+blended-each : (c a : Vec3) (t : Float) → EachAtMost 2560 79 c → EachAtMost 1 16 a → AtMost 1 0 t → EachAtMost 5121 79 (blendedV c a t)
 unfolding blendedV lerpV
 blended-each c a t h g k =
     let r = sub-at-most one32 t 1 1 0 (lit< tt) (lit< tt) one-small k in
-    let p = scale-each c _ 3072 18 2 0 (lit< tt) (lit< tt) h r in
+    let p = scale-each c _ 2560 79 2 0 (lit< tt) (lit< tt) h r in
     let q = scale-each _ t 1 16 1 0 (lit< tt) (lit< tt) (scale-each a floor32 1 16 1 0 (lit< tt) (lit< tt) g floor-small) k in
-    add-each _ _ 6144 1 18 (lit< tt) (lit< tt) p (each-up _ 1 16 1 18 (lit≤ tt) q)
+    add-each _ _ 5120 1 79 (lit< tt) (lit< tt) p (each-up _ 1 16 1 79 (lit≤ tt) q)
 
-blended-all : (c a : Coefficients) (t : Float) → AllAtMost 3072 18 c → AllAtMost 1 16 a → AtMost 1 0 t → AllAtMost 6145 18 (blendedEach c a t)
+blended-all : (c a : Coefficients) (t : Float) → AllAtMost 2560 79 c → AllAtMost 1 16 a → AtMost 1 0 t → AllAtMost 5121 79 (blendedEach c a t)
 unfolding blendedEach
 blended-all c a t h g k =
     record { c0 = blended-each (c .c0) (a .c0) t (h .c0) (g .c0) k; c1 = blended-each (c .c1) (a .c1) t (h .c1) (g .c1) k; c2 = blended-each (c .c2) (a .c2) t (h .c2) (g .c2) k; c3 = blended-each (c .c3) (a .c3) t (h .c3) (g .c3) k }
 
-pub floored-all : (c a : Coefficients) → AllAtMost 3072 18 c → AllAtMost 1 16 a → AllAtMost 6145 18 (flooredOf c a)
+pub floored-all : (c a : Coefficients) → AllAtMost 2560 79 c → AllAtMost 1 16 a → AllAtMost 5121 79 (flooredOf c a)
 unfolding flooredOf
 floored-all c a h g = go (Ieee.le least zero32) refl
   where
@@ -185,14 +302,14 @@ floored-all c a h g = go (Ieee.le least zero32) refl
     present : Float
     present = luminanceOf (c .c0)
 
-    kept : AllAtMost 6145 18 c
-    kept = all-up c 3072 18 6145 18 (lit≤ tt) h
+    kept : AllAtMost 5121 79 c
+    kept = all-up c 2560 79 5121 79 (lit≤ tt) h
 
-    go : (b : Bool) → Ieee.le least zero32 ≡ b → AllAtMost 6145 18 (cond b c (cond (Ieee.le least present) c (blendedEach c a (shortfallOf least present))))
+    go : (b : Bool) → Ieee.le least zero32 ≡ b → AllAtMost 5121 79 (cond b c (cond (Ieee.le least present) c (blendedEach c a (shortfallOf least present))))
     go true e = kept
     go false e =
         let l = floor-luminance (a .c0) (g .c0) in
         let p = present-luminance (c .c0) (h .c0) in
-        let d = sub-at-most least present 1 9216 18 (lit< tt) (lit< tt) (at-most-up least 3 16 1 18 (lit≤ tt) l) p in
-        taken-all (Ieee.le least present) c _ 6145 18 kept
-        (blended-all c a _ h g (shortfall-small least present (at-most-finite least 3 16 l) (at-most-finite _ 9217 18 d) e))
+        let d = sub-at-most least present 1 7680 79 (lit< tt) (lit< tt) (at-most-up least 3 16 1 79 (lit≤ tt) l) p in
+        taken-all (Ieee.le least present) c _ 5121 79 kept
+        (blended-all c a _ h g (shortfall-small least present (at-most-finite least 3 16 l) (at-most-finite _ 7681 79 d) e))

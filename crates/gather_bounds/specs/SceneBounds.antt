@@ -2,24 +2,27 @@
 use mathlib.Core.Path.{_≡_, refl, sym, _∙_}
 use mathlib.Core.Bool.{Bool, true, false, cond, false≢true}
 use mathlib.Core.List.{List, [], _∷_}
-use Prim.Native.Nat.{ℕ, zero, suc, _+_, _*_, _<_}
-use native.Mathlib.Nat.{add-zero}
+use Prim.Native.Nat.{ℕ, zero, suc, _+_, _*_, _^_, _<_, _≤_}
+use native.Mathlib.Nat.{add-zero, mul-le-mul-right, lt-of-le-of-lt}
 use native.Mathlib.Omega.{arith}
-use lib.Dec.{lit<, eqb}
+use lib.Dec.{lit<, lit≤, eqb}
 use lib.ListN.{length, getD}
 use lib.Ieee as Ieee
 use lib.Ieee.{Float, nan, isNan, binary32, ofBits}
 use Rattle.names.specs.Bits.{zero32, one32}
-use Rattle.names.specs.Numbers.{thinLimit}
+use Rattle.names.specs.Numbers.{lampLimit, thinLimit}
 use Rattle.names.specs.Scene.{Scene, Sound}
 use Rattle.lists.specs.Fold.{fold}
 use Rattle.floats.specs.FiniteLaws.{finite-number}
-use Rattle.floats.specs.OrderLaws.{not-lt-le}
+use Rattle.vectors.specs.declared.Vec3.{Vec3}
 use Rattle.vectors.specs.declared.Ray.{Ray}
+use Rattle.vectors.specs.Vectors.{addV}
 use Rattle.bounds.specs.Bounds.{AtMost, EachAtMost}
 use Rattle.bounds.specs.BoundsLaws.{at-most-finite, add-at-most, mul-at-most, zero-at-most}
-use Rattle.bounds.specs.VectorLaws.{sub-each, cross-each, dot-at-most, clamp-each}
+use Rattle.bounds.specs.VectorLaws.{add-each, sub-each, cross-each, dot-at-most, clamp-each}
 use Rattle.bounds.specs.NormalLaws.{thin-normal-within}
+use Rattle.limits.specs.declared.Lamp.{Lamp}
+use Rattle.limits.specs.Limits.{lampCount, lampAt}
 use Rattle.triangle.specs.Places.{vecAt, triangleAt}
 use Rattle.triangle.specs.Meet.{absentOf}
 use Rattle.triangle.specs.Laws.{hit-met}
@@ -31,13 +34,15 @@ use Rattle.scan.specs.declared.Nearest.the-variants.{Nothing, At}
 use Rattle.scan.specs.Hits.{hitsOf, placesOf}
 use Rattle.scan.specs.HitLaws.{places-below}
 use Rattle.scan.specs.Transmittance.{transmittanceOf, passOf, kindAt, transmissionAt, faintLimit}
+use Rattle.bounce.specs.declared.Way.{Way}
 use Rattle.bounce.specs.Light.{faceNormal, blackOf, slantOf}
+use Rattle.bounce.specs.Lamps.{wayTo, unlitBy, lamplightOf}
 use Rattle.surface.specs.declared.Setting.{Setting}
 use Rattle.surface.specs.declared.Surface.{Surface}
 use Rattle.surface.specs.declared.Traced.{Traced}
-use Rattle.surface.specs.Surface.{surfaceOf, seenBy, seenOf, sunOf, skyOf, bouncedBy, skyRay, shadowRay}
-use Rattle.gather_bounds.specs.Each.{zero-each, AllAtMost, one-small}
-use Rattle.gather_bounds.specs.LightBounds.{raised-each, facing-each, skylight-each, sunlight-each, reflected-each}
+use Rattle.surface.specs.Surface.{surfaceOf, seenBy, seenOf, sunOf, skyOf, daylightOf, litBy, litAfter, fallenOn, bouncedBy, skyRay, shadowRay, lampRay}
+use Rattle.gather_bounds.specs.Each.{each-up, zero-each, AllAtMost, one-small}
+use Rattle.gather_bounds.specs.LightBounds.{raised-each, facing-each, skylight-each, sunlight-each, above, thin-number, lamplight-each, reflected-each}
 
 -- the numbers of a scene lie within the limits
 pub record Modest (s : Scene) : Type 0 where
@@ -52,6 +57,14 @@ pub record ModestSetting (s : Setting) : Type 0 where
   pub colour : EachAtMost 1 16 (s .colour)
   pub ambient : AllAtMost 1 16 (s .ambient)
 
+-- and what its lamps do
+pub record ModestLamp (l : Lamp) : Type 0 where
+  pub colour : EachAtMost 1 16 (l .colour)
+
+pub record ModestLamps (l : List Float) : Type 0 where
+  pub few : lampCount l ≤ lampLimit
+  pub each : (j : ℕ) → j < lampCount l → ModestLamp (lampAt l j)
+
 -- ---- transmittance is at most 1
 
 abbrev EachBelow : ℕ → List ℕ → Type 0
@@ -61,18 +74,6 @@ EachBelow n (i ∷ is) = (i < n) × EachBelow n is
 below : (n : ℕ) (is : List ℕ) → ((j : ℕ) → j < length is → getD is j 0 < n) → EachBelow n is
 below n [] f = tt
 below n (i ∷ is) f = (f 0 (omega arith), below n is (λ j h. f (suc j) (omega arith)))
-
--- not at most, and a number: above
-above : (x y : Float) → isNan x ≡ false → isNan y ≡ false → Ieee.le y x ≡ false → Ieee.lt x y ≡ true
-above x y p o h = go (Ieee.lt x y) refl
-  where
-    go : (b : Bool) → Ieee.lt x y ≡ b → b ≡ true
-    go true e = refl
-    go false e = absurd (false≢true (sym h ∙ not-lt-le y x o p e))
-
-thin-number : isNan thinLimit ≡ false
-unfolding isNan ofBits
-thin-number = refl
 
 number : (x : Float) → AtMost 1 16 x → isNan x ≡ false
 number x h = finite-number x (at-most-finite x 1 16 h)
@@ -171,7 +172,7 @@ module _ (s : Scene) (m : Modest s) where
       let b = base-small k g in
       record { normal = facing-each _ (ray .direction) 1 1 (normal-small place h n); albedo = clamp-each _ (number _ (b .x)) (number _ (b .y)) (number _ (b .z)); emissive = raised-each _ 1 16 (colour-small k 3 g (lit< tt)) }
 
-  -- ---- its light: at most 12 · 2^18
+  -- ---- its light: at most 10 · 2^79
 
   module _ (g : Setting) (h : ModestSetting g) (f : Surface) (k : ModestSurface f) where
     seen-small : AtMost 4 0 (seenOf s g f .sum)
@@ -191,10 +192,50 @@ module _ (s : Scene) (m : Modest s) where
         go true x y p q = p
         go false x y p q = q
 
-    pub bounced-small : EachAtMost 12 18 (bouncedBy s g f .light)
-    unfolding bouncedBy
-    bounced-small = go (blackOf (f .albedo) (f .emissive)) _ _ (zero-each 12 18) (reflected-each (f .albedo) (f .emissive) _ _ (k .albedo) (k .emissive) sun-small sky-small)
+    -- sun plus sky
+    day-small : EachAtMost 1 79 (daylightOf s g f .light)
+    unfolding daylightOf
+    day-small = each-up _ 11 18 1 79 (lit≤ tt) (add-each _ _ 3 8 18 (lit< tt) (lit< tt) sun-small (each-up _ 16 17 8 18 (lit≤ tt) sky-small))
+
+    -- each lamp adds at most 1 · 2^79
+    lit-small : (l : List Float) (j n : ℕ) (t : Traced) → n < 9 → ModestLamp (lampAt l j) → EachAtMost n 79 (t .light)
+        → EachAtMost (n + 1) 79 (litAfter s l g f j t .light)
+    unfolding litBy
+    lit-small l j n t h m a = go (unlitBy (f .normal) (wayTo (f .point) (lampAt l j .position))) refl
       where
-        go : (b : Bool) (x y : Traced) → EachAtMost 12 18 (x .light) → EachAtMost 12 18 (y .light) → EachAtMost 12 18 (cond b x y .light)
+        way : Way
+        way = wayTo (f .point) (lampAt l j .position)
+
+        light : Vec3
+        light = lamplightOf (lampAt l j .colour) (f .normal) way (transmittanceOf s (lampRay g f way))
+
+        go : (b : Bool) → unlitBy (f .normal) way ≡ b
+            → EachAtMost (n + 1) 79 (cond b t (record { light = addV (t .light) light; rays = t .rays + 1 }) .light)
+        go true e = each-up _ n 79 (n + 1) 79 (mul-le-mul-right {m = n} {n = n + 1} (2 ^ 79) (omega arith)) a
+        go false e =
+            add-each (t .light) light n 1 79 (omega arith) (lt-of-le-of-lt (mul-le-mul-right {m = n + 1} {n = 9} (2 ^ 79) (omega arith)) (lit< tt)) a
+            (lamplight-each (lampAt l j .colour) (f .normal) (f .point) (lampAt l j .position) _ (m .colour) (k .normal) (transmittance-small (lampRay g f way)) e)
+
+    fallen-from : (l : List Float) (c j : ℕ) (t : Traced) → j + c ≤ lampLimit → ((i : ℕ) → i < j + c → ModestLamp (lampAt l i)) → EachAtMost (1 + j) 79 (t .light)
+        → EachAtMost (1 + (j + c)) 79 (fold (litAfter s l g f) c j t .light)
+    unfolding fold
+    fallen-from l zero j t h m a = rw add-zero a
+    fallen-from l (suc c) j t h m a =
+        let e : j + suc c ≡ j + 1 + c = omega arith in
+        let q : 1 + j + 1 ≡ 1 + (j + 1) = omega arith in
+        rw e (fallen-from l c (j + 1) (litAfter s l g f j t) (omega arith) (λ i r. m i (omega arith)) (rw q at (lit-small l j (1 + j) t (omega arith) (m j (omega arith)) a)))
+
+    fallen-small : (l : List Float) → ModestLamps l → EachAtMost 9 79 (fallenOn s l g f .light)
+    unfolding fallenOn
+    fallen-small l m =
+        let z : 0 + lampCount l ≡ lampCount l = omega arith in
+        each-up _ (1 + lampCount l) 79 9 79 (mul-le-mul-right {m = 1 + lampCount l} {n = 9} (2 ^ 79) (omega (arith, m .few)))
+        (rw z at (fallen-from l (lampCount l) 0 (daylightOf s g f) (omega (arith, m .few)) (λ i r. m .each i (omega arith)) day-small))
+
+    pub bounced-small : (l : List Float) → ModestLamps l → EachAtMost 10 79 (bouncedBy s l g f .light)
+    unfolding bouncedBy
+    bounced-small l m = go (blackOf (f .albedo) (f .emissive)) _ _ (zero-each 10 79) (reflected-each (f .albedo) (f .emissive) _ (k .albedo) (k .emissive) (fallen-small l m))
+      where
+        go : (b : Bool) (x y : Traced) → EachAtMost 10 79 (x .light) → EachAtMost 10 79 (y .light) → EachAtMost 10 79 (cond b x y .light)
         go true x y p q = p
         go false x y p q = q

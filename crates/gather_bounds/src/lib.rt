@@ -1,1 +1,1 @@
-// Laws only: specs/ shows that what gather writes stays within ±2^64.
+// Laws only: specs/ shows that what gather writes stays within ±2^96.

@@ -1,4 +1,4 @@
--- What a bake is handed, and when it is refused: rows 1 to 7, 9, 10 and 13 in that order. The active mask and the lights are tested always, the
+-- What a bake is handed, and when it is refused: rows 1 to 7, 19, 9, 10 and 13 in that order. The active mask and the lights are tested always, the
 -- volume's coefficients exactly when progress lies strictly between 0 and the voxel count, the contents of scratch never. Assumes nothing.
 use mathlib.Core.Bool.{Bool, _&&_, _||_}
 use mathlib.Core.List.{List, [], _∷_}
@@ -6,6 +6,7 @@ use Prim.Native.Nat.{ℕ, _*_}
 use lib.Dec.{ltb}
 use lib.ListN.{length}
 use lib.Ieee.{Float}
+use Rattle.names.specs.Numbers.{skyNumbers, voxelCost}
 use Rattle.names.specs.Refusals.{Row, row, firstOf}
 use Rattle.names.specs.Scene.{Scene}
 use Rattle.spread.specs.Spread.{Stage}
@@ -14,7 +15,7 @@ use Rattle.grid.specs.declared.Corners.{Corners}
 use Rattle.grid.specs.Grid.{voxels}
 use Rattle.limits.specs.declared.Light.{Light}
 use Rattle.limits.specs.declared.Ambient.{Ambient}
-use Rattle.limits.specs.Limits.{badAxes, badGrid, wrongLength, tooShort, wrongScene, tooMany, badPoints, badMaterials, badLight, badAmbient, badSky, pastCount, belowCost, badMask, badLights, badCoefficients}
+use Rattle.limits.specs.Limits.{badAxes, badGrid, wrongLength, tooShort, wrongScene, tooMany, badPoints, badMaterials, badLight, badAmbient, badSky, lampCount, wrongLamps, badLamps, pastCount, belowCost, badMask, badLights, badCoefficients}
 
 -- what stays the same from call to call
 pub record BakeInput : Type 0 where
@@ -25,6 +26,8 @@ pub record BakeInput : Type 0 where
   pub ambient : Ambient
   -- a colour for each place of the table of directions
   pub sky : List Float
+  -- six numbers a lamp: position, colour
+  pub lamps : List Float
   -- one entry a voxel, and one light
   pub active : List ℕ
   pub lights : List Float
@@ -32,8 +35,8 @@ pub record BakeInput : Type 0 where
   pub distances : ℕ
   pub places : ℕ
 
-abbrev pub inputOf : Axes → Corners → Scene → Light → Ambient → List Float → List ℕ → List Float → ℕ → ℕ → BakeInput
-inputOf axes corners scene light ambient sky active lights distances places =
+abbrev pub inputOf : Axes → Corners → Scene → Light → Ambient → List Float → List Float → List ℕ → List Float → ℕ → ℕ → BakeInput
+inputOf axes corners scene light ambient sky lamps active lights distances places =
     record {
       axes = axes;
       corners = corners;
@@ -41,27 +44,25 @@ inputOf axes corners scene light ambient sky active lights distances places =
       light = light;
       ambient = ambient;
       sky = sky;
+      lamps = lamps;
       active = active;
       lights = lights;
       distances = distances;
       places = places;
     }
 
--- nine sets of 64 directions, three numbers each
-abbrev pub skyNumbers : ℕ
-skyNumbers = 1728
-
 -- the numbers of a voxel in volume and scratch: four coefficients, each a colour and a fourth place
 abbrev pub voxelNumbers : ℕ
 voxelNumbers = 16
 
 -- 3: a lent list of the wrong length, by the lengths: of n voxels and t triangles
-unfoldable pub wrongLengths : ℕ → ℕ → ℕ → ℕ → ℕ → ℕ → ℕ → ℕ → ℕ → Bool
-wrongLengths n t skyLong activeLong lightsLong volumeLong scratchLong distancesLong placesLong =
+unfoldable pub wrongLengths : ℕ → ℕ → ℕ → ℕ → ℕ → ℕ → ℕ → ℕ → ℕ → ℕ → Bool
+wrongLengths n t skyLong lampsLong activeLong lightsLong volumeLong scratchLong distancesLong placesLong =
     (wrongLength skyLong skyNumbers || wrongLength activeLong n || wrongLength lightsLong n)
     || (wrongLength volumeLong (n * voxelNumbers) || wrongLength scratchLong (n * voxelNumbers))
     || tooShort distancesLong t
     || tooShort placesLong t
+    || wrongLamps lampsLong
 
 -- 7: bad light, ambient or sky number
 unfoldable pub badLighting : Light → Ambient → List Float → Bool
@@ -71,7 +72,7 @@ badLighting light ambient sky = badLight light || badAmbient ambient || badSky s
 abbrev pub underWay : ℕ → ℕ → Bool
 underWay progress n = ltb 0 progress && ltb progress n
 
--- 13: mask entry not 0 or 1; light or coefficient not finite or beyond ±2^64
+-- 13: mask entry not 0 or 1; light not finite or beyond ±2^64, coefficient not finite or beyond ±2^96
 unfoldable pub badVolume : List Float → ℕ → ℕ → Bool
 badVolume volume progress n = underWay progress n && badCoefficients volume
 
@@ -85,10 +86,14 @@ module _ (b : BakeInput) where
   abbrev pub triangleCount : ℕ
   triangleCount = length (b .scene .uses)
 
+  -- "With L lamps a voxel may cost 384+64L rays"
+  abbrev pub bakeCost : ℕ
+  bakeCost = voxelCost (lampCount (b .lamps))
+
   unfoldable pub wrongBakeLists : Stage Float → Bool
   wrongBakeLists s =
       wrongScene (b .scene .points) (b .scene .uses) (b .scene .kinds) (b .scene .numbers)
-      || wrongLengths voxelCount triangleCount (length (b .sky)) (length (b .active)) (length (b .lights)) (length (s .volume)) (length (s .scratch))
+      || wrongLengths voxelCount triangleCount (length (b .sky)) (length (b .lamps)) (length (b .active)) (length (b .lights)) (length (s .volume)) (length (s .scratch))
       (b .distances) (b .places)
 
   -- a call with this allowance, at this stage
@@ -101,8 +106,9 @@ module _ (b : BakeInput) where
       ∷ row 5 (badPoints (b .scene .points))
       ∷ row 6 (badMaterials (b .scene .uses) (b .scene .kinds) (b .scene .numbers))
       ∷ row 7 (badLighting (b .light) (b .ambient) (b .sky))
+      ∷ row 19 (badLamps (b .lamps))
       ∷ row 9 (pastCount (s .progress) voxelCount)
-      ∷ row 10 (belowCost allowance)
+      ∷ row 10 (belowCost (lampCount (b .lamps)) allowance)
       ∷ row 13 (badContents (b .active) (b .lights) (s .volume) (s .progress) voxelCount)
       ∷ []
 

@@ -8,14 +8,14 @@ use native.Mathlib.Omega.{arith}
 use lib.ListN.{length}
 use lib.Ieee.{Float}
 use borrow.Author.Tests.{ltb-false, le-ltb, eqb-true, not-false}
-use Rattle.names.specs.Numbers.{voxelCost}
+use Rattle.names.specs.Numbers.{skyNumbers, lampLimit}
 use Rattle.names.specs.Refusals.{Row, row, firstOf, FirstIs, NoneHolds, none, later, Numbered, first-given, first-found, none-given, none-found}
 use Rattle.names.specs.Scene.{Sound}
 use Rattle.spread.specs.Spread.{Stage}
 use Rattle.grid.specs.Grid.{AxesWithin}
-use Rattle.limits.specs.Limits.{badAxes, badGrid, wrongLength, tooMany, badPoints, badMaterials, pastCount, belowCost, badMask, badLights}
-use Rattle.limits.specs.LimitsLaws.{either, any-of-three, axes-row, sound}
-use Rattle.intake.specs.Intake.{BakeInput, skyNumbers, voxelNumbers, voxelCount, triangleCount, wrongLengths, wrongBakeLists, badLighting, badVolume, badContents, bakeRows, bakeRefusal}
+use Rattle.limits.specs.Limits.{badAxes, badGrid, wrongLength, tooMany, badPoints, badMaterials, pastCount, belowCost, lampCount, badLamps, badMask, badLights}
+use Rattle.limits.specs.LimitsLaws.{either, any-of-three, axes-row, sound, lamps-row}
+use Rattle.intake.specs.Intake.{BakeInput, voxelNumbers, bakeCost, voxelCount, triangleCount, wrongLengths, wrongBakeLists, badLighting, badVolume, badContents, bakeRows, bakeRefusal}
 
 -- no row holds of a call at the stage s with the allowance a
 pub record BakePassed (b : BakeInput) (s : Stage Float) (a : ℕ) : Type 0 where
@@ -26,8 +26,9 @@ pub record BakePassed (b : BakeInput) (s : Stage Float) (a : ℕ) : Type 0 where
   pub points : badPoints (b .scene .points) ≡ false
   pub materials : badMaterials (b .scene .uses) (b .scene .kinds) (b .scene .numbers) ≡ false
   pub lighting : badLighting (b .light) (b .ambient) (b .sky) ≡ false
+  pub lamps : badLamps (b .lamps) ≡ false
   pub progress : pastCount (s .progress) (voxelCount b) ≡ false
-  pub allowance : belowCost a ≡ false
+  pub allowance : belowCost (lampCount (b .lamps)) a ≡ false
   pub contents : badContents (b .active) (b .lights) (s .volume) (s .progress) (voxelCount b) ≡ false
 
 -- what the code may count on then
@@ -35,6 +36,7 @@ pub record Fits (b : BakeInput) (s : Stage Float) (a : ℕ) : Type 0 where
   pub axes : AxesWithin (b .axes)
   pub scene : Sound (b .scene)
   pub sky : length (b .sky) ≡ skyNumbers
+  pub lamps : lampCount (b .lamps) ≤ lampLimit
   pub active : length (b .active) ≡ voxelCount b
   pub lights : length (b .lights) ≡ voxelCount b
   pub volume : length (s .volume) ≡ voxelCount b * voxelNumbers
@@ -42,7 +44,7 @@ pub record Fits (b : BakeInput) (s : Stage Float) (a : ℕ) : Type 0 where
   pub distances : triangleCount b ≤ b .distances
   pub places : triangleCount b ≤ b .places
   pub progress : s .progress ≤ voxelCount b
-  pub allowance : voxelCost ≤ a
+  pub allowance : bakeCost b ≤ a
 
 module _ (b : BakeInput) (s : Stage Float) (a : ℕ) where
   -- ---- a number k is answered exactly when row k holds and none before it does
@@ -66,8 +68,8 @@ module _ (b : BakeInput) (s : Stage Float) (a : ℕ) where
     where
       back : BakePassed b s a → firstOf (bakeRows b s a) ≡ 0
       back p =
-          rw (p .axes, p .grid, p .lists, p .few, p .points, p .materials, p .lighting, p .progress, p .allowance, p .contents)
-          (none-given (later (later (later (later (later (later (later (later (later (later none)))))))))))
+          rw (p .axes, p .grid, p .lists, p .few, p .points, p .materials, p .lighting, p .lamps, p .progress, p .allowance, p .contents)
+          (none-given (later (later (later (later (later (later (later (later (later (later (later none))))))))))))
 
       out : NoneHolds (bakeRows b s a) → BakePassed b s a
       out h =
@@ -78,7 +80,8 @@ module _ (b : BakeInput) (s : Stage Float) (a : ℕ) where
           let r₅ = passes (r₄ .1) in
           let r₆ = passes (r₅ .1) in
           let r₇ = passes (r₆ .1) in
-          let r₉ = passes (r₇ .1) in
+          let r₁₉ = passes (r₇ .1) in
+          let r₉ = passes (r₁₉ .1) in
           let r₁₀ = passes (r₉ .1) in
           let r₁₃ = passes (r₁₀ .1) in
           record {
@@ -89,6 +92,7 @@ module _ (b : BakeInput) (s : Stage Float) (a : ℕ) where
             points = r₅ .0;
             materials = r₆ .0;
             lighting = r₇ .0;
+            lamps = r₁₉ .0;
             progress = r₉ .0;
             allowance = r₁₀ .0;
             contents = r₁₃ .0;
@@ -103,7 +107,8 @@ module _ (b : BakeInput) (s : Stage Float) (a : ℕ) where
   unfolding wrongBakeLists wrongLengths
   fits p =
       let l = either _ _ .0 (p .lists) in
-      let places = either _ _ .0 (l .1) in
+      let whole = either _ _ .0 (l .1) in
+      let places = either _ _ .0 (whole .0) in
       let distances = either _ _ .0 (places .0) in
       let lengths = either _ _ .0 (distances .0) in
       let one = any-of-three _ _ _ .0 (lengths .0) in
@@ -112,6 +117,7 @@ module _ (b : BakeInput) (s : Stage Float) (a : ℕ) where
         axes = axes-row (b .axes) .0 (p .axes);
         scene = sound (b .scene .points) (b .scene .uses) (b .scene .kinds) (b .scene .numbers) (l .0) (p .few) (p .materials);
         sky = exactly _ _ (one .0);
+        lamps = lamps-row (b .lamps) .0 (p .lamps) .0;
         active = exactly _ _ (one .1);
         lights = exactly _ _ (one .2);
         volume = exactly _ _ (sixteen .0);
@@ -127,7 +133,7 @@ module _ (b : BakeInput) (s : Stage Float) (a : ℕ) where
   -- at a stage whose lists are as long, whose progress lies within the count and whose volume holds good coefficients
   pub still-passed : (t : Stage Float) (c : ℕ) → BakePassed b s a → length (t .volume) ≡ length (s .volume) → length (t .scratch) ≡ length (s .scratch)
       → t .progress ≤ voxelCount b
-      → voxelCost ≤ c
+      → bakeCost b ≤ c
       → badVolume (t .volume) (t .progress) (voxelCount b) ≡ false
       → BakePassed b t c
   unfolding wrongBakeLists badContents
@@ -141,6 +147,7 @@ module _ (b : BakeInput) (s : Stage Float) (a : ℕ) where
         points = p .points;
         materials = p .materials;
         lighting = p .lighting;
+        lamps = p .lamps;
         progress = le-ltb _ _ q;
         allowance = le-ltb _ _ h;
         contents = any-of-three (badMask (b .active)) (badLights (b .lights)) _ .1 (k .0, k .1, g);

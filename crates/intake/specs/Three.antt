@@ -1,21 +1,23 @@
--- A good input: a grid of 3×1×1 voxels, all active, no triangles, a black sky. It is accepted at an allowance of 384 rays, and refused 10 at 383.
+-- A good input: a grid of 3×1×1 voxels, all active, no triangles, a black sky. It is accepted at an allowance of 384 rays, and refused 10 at 383;
+-- with one lamp accepted at 448, and refused 10 at 447.
 use mathlib.Core.Path.{_≡_, refl}
-use mathlib.Core.List.{[], _∷_}
+use mathlib.Core.List.{List, [], _∷_}
 use lib.ListN.{replicate}
 use lib.Ieee as Ieee
 use lib.Ieee.{Float, ofBits, ofInt}
 use Rattle.names.specs.Bits.{lit, zero32, one32}
 use Rattle.names.specs.Refusals.{firstOf}
 use Rattle.names.specs.Scene.{sceneOf}
+use Rattle.lists.specs.Any.{any}
 use Rattle.spread.specs.Spread.{Stage, stage}
 use Rattle.vectors.specs.Vectors.{vec, dotV}
 use Rattle.grid.specs.Grid.{edgesOf}
 use Rattle.limits.specs.Some.{some}
-use Rattle.limits.specs.Limits.{within, upTo, outsideV, badAxes, badCorners, badEdges, wrongShare, wrongScene, tooMany, badPoints, badKinds, badFrom, badUses, badMaterials, badDirection, badLight, badAmbient, badSky, badMask, badLights, badCoefficients}
+use Rattle.limits.specs.Limits.{within, upTo, outsideV, badAxes, badCorners, badEdges, wrongShare, wrongScene, tooMany, badPoints, badKinds, badFrom, badUses, badMaterials, badDirection, badLight, badAmbient, badSky, lampAt, badLamp, badLamps, badMask, badLights, badCoefficients}
 use Rattle.intake.specs.Intake.{BakeInput, inputOf, wrongLengths, wrongBakeLists, badLighting, badVolume, badContents, bakeRows, bakeRefusal}
 
-abbrev pub three : BakeInput
-three =
+abbrev pub threeWith : List Float → BakeInput
+threeWith lamps =
     inputOf (record { width = 3; height = 1; depth = 1 })
     (record { min = vec zero32 zero32 zero32; max = vec (lit 0x40400000) one32 one32 })
     (sceneOf [] [] [] [])
@@ -27,15 +29,31 @@ three =
       c3 = vec zero32 zero32 zero32;
     })
     (replicate 1728 zero32)
+    lamps
     (1 ∷ 1 ∷ 1 ∷ [])
     (one32 ∷ one32 ∷ one32 ∷ [])
     0
     0
+
+abbrev pub three : BakeInput
+three = threeWith []
+
+-- a white lamp at (1, 1, 1)
+abbrev pub oneLamp : List Float
+oneLamp = replicate 6 one32
+
+abbrev pub threeLit : BakeInput
+threeLit = threeWith oneLamp
 
 -- before the first call; what the lists hold is not read
 abbrev pub begun : Stage Float
 begun = stage 0 (replicate 48 zero32) (replicate 48 zero32)
 
 pub three-accepted : (bakeRefusal three begun 384 ≡ 0) × (bakeRefusal three begun 383 ≡ 10)
-unfolding bakeRefusal bakeRows firstOf some within upTo outsideV badAxes badCorners badEdges wrongShare wrongScene tooMany badPoints badKinds badFrom badUses badMaterials badDirection badLight badAmbient badSky badMask badLights badCoefficients wrongLengths wrongBakeLists badLighting badVolume badContents edgesOf dotV ofBits ofInt Ieee.add Ieee.sub Ieee.mul Ieee.div Ieee.neg Ieee.le Ieee.lt Ieee.eq
+unfolding bakeRefusal bakeRows firstOf some within upTo outsideV badAxes badCorners badEdges wrongShare wrongScene tooMany badPoints badKinds badFrom badUses badMaterials badDirection badLight badAmbient badSky badMask badLights badCoefficients wrongLengths wrongBakeLists badLighting badLamp badLamps lampAt any badVolume badContents edgesOf dotV ofBits ofInt Ieee.add Ieee.sub Ieee.mul Ieee.div Ieee.neg Ieee.le Ieee.lt Ieee.eq
 three-accepted = (refl, refl)
+
+-- with a lamp 448 are asked for; and 19 comes before 9 and 10
+pub lit-accepted : (bakeRefusal threeLit begun 448 ≡ 0) × (bakeRefusal threeLit begun 447 ≡ 10) × (bakeRefusal (threeWith (replicate 54 one32)) begun 0 ≡ 19)
+unfolding bakeRefusal bakeRows firstOf some within upTo outsideV badAxes badCorners badEdges wrongShare wrongScene tooMany badPoints badKinds badFrom badUses badMaterials badDirection badLight badAmbient badSky badMask badLights badCoefficients wrongLengths wrongBakeLists badLighting badLamp badLamps lampAt any badVolume badContents edgesOf dotV ofBits ofInt Ieee.add Ieee.sub Ieee.mul Ieee.div Ieee.neg Ieee.le Ieee.lt Ieee.eq
+lit-accepted = (refl, refl, refl)

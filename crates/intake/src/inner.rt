@@ -2,8 +2,9 @@
 ghost use mathlib.Core.Path.{_≡_};
 ghost use Prim.Native.Nat.{_≤_};
 ghost use lib.ListN.{length};
-ghost use Rattle.names.specs.Numbers.{voxelLimit};
+ghost use Rattle.names.specs.Numbers.{voxelLimit, lampLimit, voxelCost};
 ghost use Rattle.names.specs.Scene.{sceneOf};
+ghost use Rattle.limits.specs.Limits.{lampCount};
 ghost use Rattle.spread.specs.Spread.{stage};
 ghost use Rattle.intake.specs.Intake.{inputOf, wrongLengths, badLighting, badVolume, badContents, bakeRefusal};
 use grid::Axes;
@@ -11,8 +12,10 @@ use grid::Corners;
 use limits::Ambient;
 use limits::Light;
 
-// "10: allowance below 384"; "an active one is taken exactly while at least 384 rays remain"
-pub const VOXEL_COST: u64 = 384;
+// "With L lamps a voxel may cost 384+64L rays"
+const BARE_COST: u64 = 384;
+
+const LAMP_COST: u64 = 64;
 // Nine sets of 64 directions, three numbers each.
 const SKY_NUMBERS: usize = 1728;
 
@@ -27,6 +30,7 @@ pub fn judge(
     light: Light,
     ambient: Ambient,
     sky: &[f32],
+    lamps: &[f32],
     active: &[u8],
     lights: &[f32],
     volume: &[f32],
@@ -38,7 +42,7 @@ pub fn judge(
 ) -> u32
     ensures { λ r. ⌜ r ≡ bakeRefusal
         (inputOf axes corners (sceneOf (now (points .entry)) (now (uses .entry)) (now (kinds .entry)) (now (numbers .entry)))
-        light ambient (now (sky .entry)) (now (active .entry)) (now (lights .entry)) distances places)
+        light ambient (now (sky .entry)) (now (lamps .entry)) (now (active .entry)) (now (lights .entry)) distances places)
         (stage progress (now (volume .entry)) (now (scratch .entry))) allowance ⌝ }
 {
     if limits::inner::bad_axes(axes) {
@@ -53,6 +57,7 @@ pub fn judge(
         n,
         uses.len(),
         sky,
+        lamps,
         active,
         lights,
         volume,
@@ -75,10 +80,13 @@ pub fn judge(
     if bad_lighting(light, ambient, sky) {
         return 7;
     }
+    if limits::inner::bad_lamps(lamps) {
+        return 19;
+    }
     if n < progress {
         return 9;
     }
-    if allowance < VOXEL_COST {
+    if allowance < voxel_cost(lamps) {
         return 10;
     }
     if bad_contents(active, lights, volume, progress, n) {
@@ -93,6 +101,7 @@ fn wrong_lengths(
     n: usize,
     t: usize,
     sky: &[f32],
+    lamps: &[f32],
     active: &[u8],
     lights: &[f32],
     volume: &[f32],
@@ -101,13 +110,13 @@ fn wrong_lengths(
     places: usize,
 ) -> bool
     requires { ⌜ n ≤ voxelLimit ⌝ }
-    ensures { λ r. ⌜ r ≡ wrongLengths n t (length (now (sky .entry))) (length (now (active .entry))) (length (now (lights .entry)))
+    ensures { λ r. ⌜ r ≡ wrongLengths n t (length (now (sky .entry))) (length (now (lamps .entry))) (length (now (active .entry))) (length (now (lights .entry)))
         (length (now (volume .entry))) (length (now (scratch .entry))) distances places ⌝ }
 {
     let all = n * 16;
     let one = (sky.len() != SKY_NUMBERS) | (active.len() != n) | (lights.len() != n);
     let sixteen = (volume.len() != all) | (scratch.len() != all);
-    one | sixteen | (distances < t) | (places < t)
+    one | sixteen | (distances < t) | (places < t) | (lamps.len() % 6 != 0)
 }
 
 // ---- 7
@@ -119,6 +128,22 @@ fn bad_lighting(light: Light, ambient: Ambient, sky: &[f32]) -> bool
     let b = limits::inner::bad_ambient(ambient);
     let c = limits::inner::bad_sky(sky);
     a | b | c
+}
+
+// ---- 10
+
+// The most that a voxel may cost.
+pub fn voxel_cost(lamps: &[f32]) -> u64
+    requires { ⌜ lampCount (now lamps) ≤ lampLimit ⌝ }
+    ensures { λ r. ⌜ r ≡ voxelCost (lampCount (now (lamps .entry))) ⌝ }
+{
+    BARE_COST + LAMP_COST * wide(limits::inner::lamp_count(lamps))
+}
+
+fn wide(x: usize) -> u64
+    ensures { λ r. ⌜ r ≡ x ⌝ }
+{
+    x as u64
 }
 
 // ---- 13

@@ -3,23 +3,25 @@
 -- list of such rows in its own order; a row that speaks of voxels or edges stands after row 1. Assumes nothing.
 use mathlib.Core.Bool.{Bool, true, false, cond, not, _&&_, _||_}
 use mathlib.Core.List.{List, [], _∷_}
-use Prim.Native.Nat.{ℕ, _+_, _/_, _%_}
+use Prim.Native.Nat.{ℕ, _+_, _*_, _/_, _%_}
 use lib.Dec.{ltb, leb, eqb}
-use lib.ListN.{length}
+use lib.ListN.{length, getD}
 use lib.Ieee as Ieee
-use lib.Ieee.{Float, isNan}
+use lib.Ieee.{Float, nan, isNan}
 use Rattle.names.specs.Bits.{zero32, one32}
-use Rattle.names.specs.Numbers.{axisLimit, triangleLimit, materialLimit, voxelCost, pointLimit, edgeLimit, colourLimit, directionLimit, thinLimit, lightLimit, coefficientLimit}
+use Rattle.names.specs.Numbers.{axisLimit, triangleLimit, materialLimit, lampLimit, voxelCost, pointLimit, edgeLimit, colourLimit, directionLimit, thinLimit, lightLimit, coefficientLimit}
+use Rattle.lists.specs.Any.{any}
 use Rattle.vectors.specs.declared.Vec3.{Vec3}
 use Rattle.vectors.specs.declared.Ray.{Ray}
 use Rattle.vectors.specs.declared.Triangle.{Triangle}
-use Rattle.vectors.specs.Vectors.{dotV}
+use Rattle.vectors.specs.Vectors.{vec, dotV}
 use Rattle.grid.specs.declared.Axes.{Axes}
 use Rattle.grid.specs.declared.Corners.{Corners}
 use Rattle.grid.specs.Grid.{edgesOf}
 use Rattle.limits.specs.Some.{some}
 use Rattle.limits.specs.declared.Light.{Light}
 use Rattle.limits.specs.declared.Ambient.{Ambient}
+use Rattle.limits.specs.declared.Lamp.{Lamp}
 
 -- ---- one number, and three
 
@@ -155,10 +157,10 @@ badRay r =
 abbrev pub pastCount : ℕ → ℕ → Bool
 pastCount progress n = ltb n progress
 
--- ---- 10: allowance below 384
+-- ---- 10: allowance below 384+64L, with L lamps
 
-abbrev pub belowCost : ℕ → Bool
-belowCost allowance = ltb allowance voxelCost
+abbrev pub belowCost : ℕ → ℕ → Bool
+belowCost lamps allowance = ltb allowance (voxelCost lamps)
 
 -- ---- 11: bad position, or voxel index past the grid
 
@@ -168,7 +170,7 @@ badPosition p = outsideV pointLimit p
 abbrev pub pastGrid : ℕ → ℕ → Bool
 pastGrid index n = leb n index
 
--- ---- 13: mask entry not 0 or 1; light or coefficient not finite or beyond ±2^64
+-- ---- 13: mask entry not 0 or 1; light not finite or beyond ±2^64; coefficient not finite or beyond ±2^96
 
 unfoldable pub badMask : List ℕ → Bool
 badMask l = some (ltb 1) l
@@ -178,3 +180,30 @@ badLights l = some (outside lightLimit) l
 
 unfoldable pub badCoefficients : List Float → Bool
 badCoefficients l = some (outside coefficientLimit) l
+
+-- ---- 19, after 7: more than eight lamps, a position not finite or beyond ±4,096, or a colour outside document 01's rule
+
+-- six numbers a lamp: its position, then its colour
+abbrev pub lampCount : List Float → ℕ
+lampCount lamps = length lamps / 6
+
+-- 3: numbers left over
+abbrev pub wrongLamps : ℕ → Bool
+wrongLamps len = wrongLength (len % 6) 0
+
+-- lamp j; past the list's end stands NaN, and who reads shows j in range
+unfoldable pub lampAt : List Float → ℕ → Lamp
+lampAt l j =
+    record {
+      position = vec (getD l (j * 6) nan) (getD l (j * 6 + 1) nan) (getD l (j * 6 + 2) nan);
+      colour = vec (getD l (j * 6 + 3) nan) (getD l (j * 6 + 4) nan) (getD l (j * 6 + 5) nan);
+    }
+
+unfoldable pub badLamp : Lamp → Bool
+badLamp lamp = outsideV pointLimit (lamp .position) || badColour (lamp .colour)
+
+abbrev pub badLampAt : List Float → ℕ → Bool
+badLampAt lamps j = badLamp (lampAt lamps j)
+
+unfoldable pub badLamps : List Float → Bool
+badLamps lamps = ltb lampLimit (lampCount lamps) || any (badLampAt lamps) (lampCount lamps) 0

@@ -15,7 +15,7 @@ use lib.Ieee as Ieee
 use lib.Ieee.Scale.{finite}
 use lib.Ieee.{Float, nan, inf, fin, isNan}
 use Rattle.names.specs.Bits.{one32}
-use Rattle.names.specs.Numbers.{axisLimit, triangleLimit, materialLimit, pointLimit, edgeLimit, colourLimit, directionLimit, thinLimit, lightLimit, coefficientLimit}
+use Rattle.names.specs.Numbers.{axisLimit, triangleLimit, materialLimit, lampLimit, pointLimit, edgeLimit, colourLimit, directionLimit, thinLimit, lightLimit, coefficientLimit}
 use Rattle.names.specs.Scene.{sceneOf, Sound}
 use Rattle.vectors.specs.declared.Vec3.{Vec3}
 use Rattle.vectors.specs.declared.Ray.{Ray}
@@ -23,8 +23,10 @@ use Rattle.vectors.specs.Vectors.{dotV}
 use Rattle.grid.specs.declared.Axes.{Axes}
 use Rattle.grid.specs.declared.Corners.{Corners}
 use Rattle.grid.specs.Grid.{edgesOf, AxesWithin}
+use Rattle.lists.specs.Any.{any, any-in, any-out}
+use Rattle.limits.specs.declared.Lamp.{Lamp}
 use Rattle.limits.specs.Some.{some, none-out, none-in}
-use Rattle.limits.specs.Limits.{within, outside, upTo, outsideV, badAxis, badAxes, badCorners, badEdges, badGrid, wrongShare, wrongScene, tooMany, badPoints, lastKind, badKinds, badNumber, badFrom, badNumbers, badUses, badMaterials, badDirection, badSky, badRay, badMask, badLights, badCoefficients}
+use Rattle.limits.specs.Limits.{within, outside, upTo, outsideV, badAxis, badAxes, badCorners, badEdges, badGrid, wrongShare, wrongScene, tooMany, badPoints, lastKind, badKinds, badNumber, badFrom, badNumbers, badUses, badMaterials, badDirection, badSky, badRay, badMask, badLights, badCoefficients, lampCount, lampAt, badLamp, badLampAt, badLamps}
 
 -- ---- tests joined
 
@@ -306,3 +308,27 @@ lights-row l = all-within lightLimit l
 pub coefficients-row : (l : List Float) → (badCoefficients l ≡ false) ↔ ((i : ℕ) → i < length l → within coefficientLimit (getD l i nan) ≡ true)
 unfolding badCoefficients
 coefficients-row l = all-within coefficientLimit l
+
+-- ---- 19
+
+pub lamp-row : (lamp : Lamp) → (badLamp lamp ≡ false) ↔ ((outsideV pointLimit (lamp .position) ≡ false) × (outsideV colourLimit (lamp .colour) ≡ false))
+unfolding badLamp
+lamp-row lamp = either _ _
+
+-- at most eight, and each is good
+pub lamps-row : (l : List Float)
+    → (badLamps l ≡ false) ↔ ((lampCount l ≤ lampLimit) × ((j : ℕ) → j < lampCount l → badLamp (lampAt l j) ≡ false))
+unfolding badLamps
+lamps-row l = (
+  λ e. let p = or-out _ _ e in (ltb-false lampLimit (lampCount l) (p .0), λ j h. good (p .1) j h (badLamp (lampAt l j)) refl),
+  λ h. or-in _ _ (le-ltb lampLimit (lampCount l) (h .0), none (any (badLampAt l) (lampCount l) 0) refl (h .1)),
+)
+  where
+    good : any (badLampAt l) (lampCount l) 0 ≡ false → (j : ℕ) → j < lampCount l → (b : Bool) → badLamp (lampAt l j) ≡ b → b ≡ false
+    good e j h false p = refl
+    good e j h true p = absurd (false≢true (sym e ∙ any-in (badLampAt l) (lampCount l) 0 j (omega arith) (omega arith) p))
+
+    none : (b : Bool) → any (badLampAt l) (lampCount l) 0 ≡ b → ((j : ℕ) → j < lampCount l → badLamp (lampAt l j) ≡ false) → b ≡ false
+    none false p f = refl
+    none true p f =
+        let s = any-out (badLampAt l) (lampCount l) 0 p in absurd (false≢true (sym (f (s .0) (omega (arith, s .2))) ∙ s .3))

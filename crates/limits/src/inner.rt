@@ -6,9 +6,10 @@ ghost use lib.ListN.{length};
 ghost use Rattle.grid.specs.Grid.{AxesWithin};
 ghost use Rattle.names.specs.Numbers.{lightLimit};
 ghost use Rattle.limits.specs.Some.{some};
-ghost use Rattle.limits.specs.Limits.{within, outside, upTo, outsideV, badAxes, badCorners, badEdges, badGrid, wrongShare, wrongScene, tooMany, badPoints, badTriangle, badKinds, badNumber, badNumbers, badUses, badMaterials, badDirection, badColour, badLight, badAmbient, badSky, badRay, badPosition, badMask, badLights, badCoefficients};
+ghost use Rattle.limits.specs.Limits.{within, outside, upTo, outsideV, badAxes, badCorners, badEdges, badGrid, wrongShare, wrongScene, tooMany, badPoints, badTriangle, badKinds, badNumber, badNumbers, badUses, badMaterials, badDirection, badColour, badLight, badAmbient, badSky, badRay, badPosition, badMask, badLights, badCoefficients, lampCount, lampAt, badLamp, badLamps};
 ghost use lib.Dec.{ltb, leb};
 use super::Ambient;
+use super::Lamp;
 use super::Light;
 use grid::Axes;
 use grid::Corners;
@@ -34,8 +35,10 @@ const DIRECTION_LIMIT: f32 = 2.0;
 const THIN_LIMIT: f32 = 1.0e-12;
 // "light or coefficient not finite or beyond ±2^64"
 const LIGHT_LIMIT: f32 = 18446744073709551616.0;
-
-const COEFFICIENT_LIMIT: f32 = 18446744073709551616.0;
+// "13 lets a coefficient reach ±2^96"
+const COEFFICIENT_LIMIT: f32 = 79228162514264337593543950336.0;
+// "Up to eight point lamps per hall"
+const LAMP_LIMIT: usize = 8;
 // "kind other than 0 opaque or 1 translucent"
 const LAST_KIND: u8 = 1;
 
@@ -234,6 +237,58 @@ pub fn bad_coefficients(volume: &[f32]) -> bool
     ensures { λ r. ⌜ r ≡ badCoefficients (now (volume .entry)) ⌝ }
 {
     any_out_of(volume, COEFFICIENT_LIMIT)
+}
+
+// ---- 19
+
+// How many lamps a list holds.
+pub fn lamp_count(lamps: &[f32]) -> usize
+    ensures { λ r. ⌜ r ≡ lampCount (now (lamps .entry)) ⌝ }
+{
+    lamps.len() / 6
+}
+
+// Lamp j of a list.
+pub fn lamp_at(lamps: &[f32], j: usize) -> Lamp
+    requires { ⌜ j < lampCount (now lamps) ⌝ }
+    ensures { λ r. ⌜ r ≡ lampAt (now (lamps .entry)) j ⌝ }
+{
+    let k = j * 6;
+    let position = Vec3 {
+        x: lamps[k],
+        y: lamps[k + 1],
+        z: lamps[k + 2],
+    };
+    let colour = Vec3 {
+        x: lamps[k + 3],
+        y: lamps[k + 4],
+        z: lamps[k + 5],
+    };
+    Lamp { position, colour }
+}
+
+fn bad_lamp(lamp: Lamp) -> bool
+    ensures { λ r. ⌜ r ≡ badLamp lamp ⌝ }
+{
+    vector_out_of(POINT_LIMIT, lamp.position) | bad_colour(lamp.colour)
+}
+
+// More than eight lamps, or a bad one.
+pub fn bad_lamps(lamps: &[f32]) -> bool
+    ensures { λ r. ⌜ r ≡ badLamps (now (lamps .entry)) ⌝ }
+{
+    let n = lamp_count(lamps);
+    if LAMP_LIMIT < n {
+        return true;
+    }
+    let mut j = 0;
+    while j < n {
+        if bad_lamp(lamp_at(lamps, j)) {
+            return true;
+        }
+        j += 1;
+    }
+    false
 }
 
 // ---- scans, without a way out: then several entries are tested at once

@@ -1,4 +1,4 @@
-// The numbers accepted: what a light and an ambient are, and one test for each row of the table of refusals.
+// The numbers accepted: what a light, an ambient and a lamp are, and one test for each row of the table of refusals.
 use vectors::Vec3;
 
 pub mod inner;
@@ -17,4 +17,10 @@ pub struct Ambient {
     pub c1: Vec3,
     pub c2: Vec3,
     pub c3: Vec3,
+}
+
+// A lamp: a point that shines, and its colour. A list of lamps has six numbers for each: position, then colour.
+pub struct Lamp {
+    pub position: Vec3,
+    pub colour: Vec3,
 }

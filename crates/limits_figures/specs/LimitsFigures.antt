@@ -3,15 +3,17 @@ use mathlib.Core.Path.{_≡_, refl}
 use mathlib.Core.Bool.{true, false}
 use mathlib.Core.List.{List, [], _∷_, map}
 use Prim.Native.Nat.{ℕ}
+use lib.ListN.{replicate}
 use lib.Ieee.{Float, ofBits, neg, add, sub, mul, div, lt, le, eq, ofInt, isNan}
 use Rattle.names.specs.Bits.{lit, zero32, one32}
-use Rattle.names.specs.Numbers.{pointLimit, lightLimit}
+use Rattle.names.specs.Numbers.{pointLimit, lightLimit, coefficientLimit}
+use Rattle.lists.specs.Any.{any}
 use Rattle.vectors.specs.declared.Ray.{Ray}
 use Rattle.vectors.specs.Vectors.{vec, dotV}
 use Rattle.grid.specs.declared.Corners.{Corners}
 use Rattle.grid.specs.Grid.{edgesOf}
 use Rattle.limits.specs.Some.{some}
-use Rattle.limits.specs.Limits.{within, upTo, outsideV, badAxes, badCorners, badEdges, badGrid, wrongShare, tooMany, badPoints, badKinds, badFrom, badUses, badMaterials, badDirection, badRay, pastCount, badPosition, pastGrid, badMask}
+use Rattle.limits.specs.Limits.{within, upTo, outsideV, badAxes, badCorners, badEdges, badGrid, wrongShare, tooMany, badPoints, badKinds, badFrom, badUses, badMaterials, badDirection, badRay, pastCount, badPosition, pastGrid, badMask, belowCost, wrongLamps, lampAt, badLamp, badLamps}
 
 -- ±4,096 pass and the next floats do not; −0 passes; NaN and the infinities do not
 pub points : map (λ (bits : ℕ). within pointLimit (lit bits)) (0x45800000 ∷ 0xc5800000 ∷ 0x80000000 ∷ 0x45800001 ∷ 0xc5800001 ∷ 0x7fc00000 ∷ 0x7f800000 ∷ 0xff800000 ∷ [])
@@ -23,6 +25,11 @@ points = refl
 pub lights : map (λ (bits : ℕ). within lightLimit (lit bits)) (0x5f800000 ∷ 0xdf800000 ∷ 0x5f800001 ∷ 0xdf800001 ∷ []) ≡ true ∷ true ∷ false ∷ false ∷ []
 unfolding within ofBits neg lt le eq
 lights = refl
+
+-- ±2^96, and the next floats
+pub coefficients-at : map (λ (bits : ℕ). within coefficientLimit (lit bits)) (0x6f800000 ∷ 0xef800000 ∷ 0x6f800001 ∷ 0xef800001 ∷ []) ≡ true ∷ true ∷ false ∷ false ∷ []
+unfolding within ofBits neg lt le eq
+coefficients-at = refl
 
 -- from 0 to 1: −0 passes, the least number below 0 and the next above 1 do not
 pub transmissions : map (λ (bits : ℕ). upTo one32 (lit bits)) (0 ∷ 0x80000000 ∷ 0x3f800000 ∷ 0x80000001 ∷ 0x3f800001 ∷ 0x7fc00000 ∷ []) ≡ true ∷ true ∷ true ∷ false ∷ false ∷ false ∷ []
@@ -114,3 +121,31 @@ index-figures = refl
 pub masks : map (λ (n : ℕ). badMask (0 ∷ 1 ∷ n ∷ [])) (0 ∷ 1 ∷ 2 ∷ 255 ∷ []) ≡ false ∷ false ∷ true ∷ true ∷ []
 unfolding badMask some
 masks = refl
+
+-- 10: with no lamp 384 and 383, with one 448 and 447, with eight 896 and 895
+pub allowance-figures : belowCost 0 384 ∷ belowCost 0 383 ∷ belowCost 1 448 ∷ belowCost 1 447 ∷ belowCost 8 896 ∷ belowCost 8 895 ∷ []
+    ≡ false ∷ true ∷ false ∷ true ∷ false ∷ true ∷ []
+allowance-figures = refl
+
+-- 19: no lamp, eight lamps and nine
+pub lamp-counts : map (λ (n : ℕ). badLamps (replicate n zero32)) (0 ∷ 48 ∷ 54 ∷ []) ≡ false ∷ false ∷ true ∷ []
+unfolding badLamps badLamp lampAt any outsideV within ofBits neg lt le eq
+lamp-counts = refl
+
+-- 19: a position of ±4,096, the next floats and NaN; a colour of ±65,536, the next floats and an infinity; −0 passes
+abbrev lampOf : ℕ → ℕ → List Float
+lampOf position colour = zero32 ∷ lit position ∷ zero32 ∷ zero32 ∷ zero32 ∷ lit colour ∷ []
+
+pub lamp-places : map (λ (bits : ℕ). badLamps (lampOf bits 0)) (0x45800000 ∷ 0xc5800000 ∷ 0x80000000 ∷ 0x45800001 ∷ 0xc5800001 ∷ 0x7fc00000 ∷ [])
+    ≡ false ∷ false ∷ false ∷ true ∷ true ∷ true ∷ []
+unfolding badLamps badLamp lampAt any outsideV within ofBits neg lt le eq
+lamp-places = refl
+
+pub lamp-colours : map (λ (bits : ℕ). badLamps (lampOf 0 bits)) (0x47800000 ∷ 0xc7800000 ∷ 0x80000000 ∷ 0x47800001 ∷ 0xc7800001 ∷ 0x7f800000 ∷ [])
+    ≡ false ∷ false ∷ false ∷ true ∷ true ∷ true ∷ []
+unfolding badLamps badLamp lampAt any outsideV within ofBits neg lt le eq
+lamp-colours = refl
+
+-- 3: numbers left over
+pub lamp-lengths : map wrongLamps (0 ∷ 6 ∷ 48 ∷ 5 ∷ 7 ∷ []) ≡ false ∷ false ∷ false ∷ true ∷ true ∷ []
+lamp-lengths = refl

@@ -56,7 +56,7 @@ lightAtOf a c light p =
 abbrev pub sixteen : List Float → ℕ → List Float
 sixteen volume i = take 16 (drop (i * 16) volume)
 
--- one of the sixteen numbers of a cell read is not finite or beyond ±2^64
+-- one of the sixteen numbers of a cell read is not finite or beyond ±2^96
 unfoldable pub badVolumeCells : List Float → Cells → Bool
 badVolumeCells volume c = some (λ (i : ℕ). badCoefficients (sixteen volume i)) (cellsRead c)
 

@@ -1,5 +1,5 @@
 -- The numbers that the customer chose, each with his sentence. Assumes nothing.
-use Prim.Native.Nat.{ℕ}
+use Prim.Native.Nat.{ℕ, _+_, _*_}
 use lib.Ieee.{Float}
 use Rattle.names.specs.Bits.{lit}
 
@@ -18,15 +18,23 @@ triangleLimit = 4096
 abbrev pub materialLimit : ℕ
 materialLimit = 256
 
--- "an active one is taken exactly while at least 384 rays remain": the most that a voxel costs
-abbrev pub voxelCost : ℕ
-voxelCost = 384
+-- "Up to eight point lamps per hall"
+abbrev pub lampLimit : ℕ
+lampLimit = 8
+
+-- "an active one is taken exactly while at least 384 rays remain"; "With L lamps a voxel may cost 384+64L rays"
+abbrev pub voxelCost : ℕ → ℕ
+voxelCost lamps = 384 + 64 * lamps
 
 -- nine sets of 64 directions: the least that an active voxel costs
 abbrev pub primaryRays : ℕ
 primaryRays = 64
 
--- "Corners and triangle points finite, magnitude at most 4,096", lookup positions and light components too
+-- nine sets of 64 directions, three numbers each: the table, and the sky
+abbrev pub skyNumbers : ℕ
+skyNumbers = 1728
+
+-- "Corners and triangle points finite, magnitude at most 4,096", lookup positions, light components and lamps too
 abbrev pub pointLimit : Float
 pointLimit = lit 0x45800000
 
@@ -42,13 +50,14 @@ colourLimit = lit 0x47800000
 abbrev pub directionLimit : Float
 directionLimit = lit 0x40000000
 
--- a cross, or a light's direction, whose squared length is at most 1e-12 is none
+-- a cross, a light's direction, or the way to a lamp, whose squared length is at most 1e-12 is none
 abbrev pub thinLimit : Float
 thinLimit = lit 0x2b8cbccc
 
--- "light or coefficient not finite or beyond ±2^64": one name each, since a later request raises one of them
+-- "light or coefficient not finite or beyond ±2^64"
 abbrev pub lightLimit : Float
 lightLimit = lit 0x5f800000
 
+-- "13 lets a coefficient reach ±2^96, light as before"
 abbrev pub coefficientLimit : Float
-coefficientLimit = lit 0x5f800000
+coefficientLimit = lit 0x6f800000

@@ -5,7 +5,7 @@ use limits::Ambient;
 use limits::Light;
 use replay::Tally;
 
-// Where the lists begin: points, uses, kinds, numbers, sky, active, light, volume, scratch, distances, places.
+// Where the lists begin: points, uses, kinds, numbers, sky, lamps, active, light, volume, scratch, distances, places.
 const FROM: usize = 31;
 
 fn light(s: &[u8]) -> Light {
@@ -48,7 +48,7 @@ fn lists_held(
     replay::held_if(
         b,
         asked,
-        replay::same_hits(s, replay::nth(s, FROM, 9), distances, places),
+        replay::same_hits(s, replay::nth(s, FROM, 10), distances, places),
     )
 }
 
@@ -61,6 +61,7 @@ fn one(
     kinds: &[u8],
     numbers: &[f32],
     sky: &[f32],
+    lamps: &[f32],
     active: &[u8],
     lights: &[f32],
     volume: &mut [f32],
@@ -84,6 +85,7 @@ fn one(
         sunlight,
         sh,
         sky,
+        lamps,
         active,
         lights,
         volume,
@@ -107,6 +109,7 @@ fn fresh(
     kinds: &[u8],
     numbers: &[f32],
     sky: &[f32],
+    lamps: &[f32],
     active: &[u8],
     lights: &[f32],
     volume: &mut [f32],
@@ -114,7 +117,7 @@ fn fresh(
     distances: &mut [f32],
     places: &mut [usize],
 ) -> Tally {
-    let lent = replay::nth(s, FROM, 9);
+    let lent = replay::nth(s, FROM, 10);
     replay::hits(s, lent, distances, places);
     one(
         s,
@@ -125,6 +128,7 @@ fn fresh(
         kinds,
         numbers,
         sky,
+        lamps,
         active,
         lights,
         volume,
@@ -143,6 +147,7 @@ fn calls(
     kinds: &[u8],
     numbers: &[f32],
     sky: &[f32],
+    lamps: &[f32],
     active: &[u8],
     lights: &[f32],
     volume: &mut [f32],
@@ -150,7 +155,7 @@ fn calls(
     distances: &mut [f32],
     places: &mut [usize],
 ) -> Tally {
-    let from = replay::nth(s, FROM, 11);
+    let from = replay::nth(s, FROM, 12);
     let n = replay::small(s, from);
     let mut tally = t;
     let mut at = replay::further(from, 1);
@@ -165,6 +170,7 @@ fn calls(
             kinds,
             numbers,
             sky,
+            lamps,
             active,
             lights,
             volume,
@@ -179,8 +185,8 @@ fn calls(
 }
 
 fn stock(s: &[u8], volume: &mut [f32], scratch: &mut [f32]) {
-    replay::floats(s, replay::nth(s, FROM, 7), volume);
-    replay::floats(s, replay::nth(s, FROM, 8), scratch);
+    replay::floats(s, replay::nth(s, FROM, 8), volume);
+    replay::floats(s, replay::nth(s, FROM, 9), scratch);
 }
 
 fn stocked(
@@ -191,6 +197,7 @@ fn stocked(
     kinds: &[u8],
     numbers: &[f32],
     sky: &[f32],
+    lamps: &[f32],
     active: &[u8],
     lights: &[f32],
     volume: &mut [f32],
@@ -207,6 +214,7 @@ fn stocked(
         kinds,
         numbers,
         sky,
+        lamps,
         active,
         lights,
         volume,
@@ -216,10 +224,11 @@ fn stocked(
     )
 }
 
-fn fill(s: &[u8], sky: &mut [f32], active: &mut [u8], lights: &mut [f32]) {
+fn fill(s: &[u8], sky: &mut [f32], lamps: &mut [f32], active: &mut [u8], lights: &mut [f32]) {
     replay::floats(s, replay::nth(s, FROM, 4), sky);
-    replay::bytes(s, replay::nth(s, FROM, 5), active);
-    replay::floats(s, replay::nth(s, FROM, 6), lights);
+    replay::floats(s, replay::nth(s, FROM, 5), lamps);
+    replay::bytes(s, replay::nth(s, FROM, 6), active);
+    replay::floats(s, replay::nth(s, FROM, 7), lights);
 }
 
 fn filled(
@@ -230,6 +239,7 @@ fn filled(
     kinds: &[u8],
     numbers: &[f32],
     sky: &mut [f32],
+    lamps: &mut [f32],
     active: &mut [u8],
     lights: &mut [f32],
     volume: &mut [f32],
@@ -237,7 +247,7 @@ fn filled(
     distances: &mut [f32],
     places: &mut [usize],
 ) -> Tally {
-    fill(s, sky, active, lights);
+    fill(s, sky, lamps, active, lights);
     stocked(
         s,
         t,
@@ -246,6 +256,7 @@ fn filled(
         kinds,
         numbers,
         sky,
+        lamps,
         active,
         lights,
         volume,
@@ -263,6 +274,7 @@ fn baked(
     kinds: &mut [u8],
     numbers: &mut [f32],
     sky: &mut [f32],
+    lamps: &mut [f32],
     active: &mut [u8],
     lights: &mut [f32],
     volume: &mut [f32],
@@ -279,6 +291,7 @@ fn baked(
         kinds,
         numbers,
         sky,
+        lamps,
         active,
         lights,
         volume,
@@ -295,12 +308,18 @@ fn fits(s: &[u8]) -> bool {
         & replay::fits(s, replay::nth(s, FROM, 2), 260)
         & replay::fits(s, replay::nth(s, FROM, 3), 1820)
         & replay::fits(s, replay::nth(s, FROM, 4), 1740)
-        & replay::fits(s, replay::nth(s, FROM, 5), 520)
+        & replay::fits(s, replay::nth(s, FROM, 5), 80)
         & replay::fits(s, replay::nth(s, FROM, 6), 520)
-        & replay::fits(s, replay::nth(s, FROM, 7), 8320)
+        & replay::fits(s, replay::nth(s, FROM, 7), 520)
         & replay::fits(s, replay::nth(s, FROM, 8), 8320)
-        & replay::fits(s, replay::nth(s, FROM, 9), 4100)
-        & replay::fits(s, replay::nth(s, FROM, 10), 8200)
+        & replay::fits(s, replay::nth(s, FROM, 9), 8320)
+        & replay::fits(s, replay::nth(s, FROM, 10), 4100)
+        & replay::fits(s, replay::nth(s, FROM, 11), 8200)
+}
+
+// Thirteen lamps, more than any call accepts.
+fn room_for_lamps() -> [f32; 80] {
+    [0.0f32; 80]
 }
 
 // The arrays are lent in four steps.
@@ -317,10 +336,12 @@ fn fourth(
     volume: &mut [f32],
     scratch: &mut [f32],
 ) -> Tally {
+    let mut lamps = room_for_lamps();
     let mut distances = replay::room_for_distances();
     let mut places = replay::room_for_places();
-    let j = replay::fit(s, replay::nth(s, FROM, 9), 4100);
-    let k = replay::pairs(s, replay::nth(s, FROM, 10), 4100);
+    let i = replay::fit(s, replay::nth(s, FROM, 5), 80);
+    let j = replay::fit(s, replay::nth(s, FROM, 10), 4100);
+    let k = replay::pairs(s, replay::nth(s, FROM, 11), 4100);
     baked(
         s,
         t,
@@ -329,6 +350,7 @@ fn fourth(
         kinds,
         numbers,
         sky,
+        &mut lamps[..i],
         active,
         lights,
         volume,
@@ -351,9 +373,9 @@ fn third(
     let mut lights = replay::room_for_light();
     let mut volume = replay::room_for_volume();
     let mut scratch = replay::room_for_volume();
-    let g = replay::fit(s, replay::nth(s, FROM, 6), 520);
-    let h = replay::fit(s, replay::nth(s, FROM, 7), 8320);
-    let i = replay::fit(s, replay::nth(s, FROM, 8), 8320);
+    let g = replay::fit(s, replay::nth(s, FROM, 7), 520);
+    let h = replay::fit(s, replay::nth(s, FROM, 8), 8320);
+    let i = replay::fit(s, replay::nth(s, FROM, 9), 8320);
     fourth(
         s,
         t,
@@ -375,7 +397,7 @@ fn second(s: &[u8], t: Tally, points: &mut [f32], uses: &mut [u32], kinds: &mut 
     let mut active = replay::room_for_mask();
     let d = replay::fit(s, replay::nth(s, FROM, 3), 1820);
     let e = replay::fit(s, replay::nth(s, FROM, 4), 1740);
-    let f = replay::fit(s, replay::nth(s, FROM, 5), 520);
+    let f = replay::fit(s, replay::nth(s, FROM, 6), 520);
     third(
         s,
         t,

@@ -8,6 +8,7 @@ ghost use Rattle.grid.specs.Grid.{AxesWithin, voxels};
 use grid::Axes;
 use grid::Corners;
 use limits::Ambient;
+use limits::Lamp;
 use limits::Light;
 use replay::Tally;
 use scan::Nearest;
@@ -16,7 +17,7 @@ use surface::Surface;
 use vectors::Ray;
 use vectors::Vec3;
 
-// Where the lists begin: points, uses, kinds, numbers, sky, active, light, volume, scratch, distances, places.
+// Where the lists begin: points, uses, kinds, numbers, sky, lamps, active, light, volume, scratch, distances, places.
 const FROM: usize = 31;
 
 // What is asked along a ray: the nearest hit, or how much light passes.
@@ -122,19 +123,58 @@ fn sun_ray(
     listing
 }
 
-// None where the surface is black.
+// The rays to the lamps that reach the surface, in list order.
+fn lamp_rays(
+    s: &[u8],
+    listing: Listing,
+    voxel: usize,
+    lamps: &[f32],
+    setting: Setting,
+    surface: Surface,
+) -> Listing {
+    let n = limits::inner::lamp_count(lamps);
+    let mut so_far = listing;
+    let mut j: usize = 0;
+    while j < n {
+        let lamp = limits::inner::lamp_at(lamps, j);
+        so_far = lamp_ray(s, so_far, voxel, setting, surface, lamp);
+        j += 1;
+    }
+    so_far
+}
+
+// The ray to a lamp, where the lamp reaches the surface.
+fn lamp_ray(
+    s: &[u8],
+    listing: Listing,
+    voxel: usize,
+    setting: Setting,
+    surface: Surface,
+    lamp: Lamp,
+) -> Listing {
+    let way = bounce::inner::way_to(surface.point, lamp.position);
+    if bounce::inner::unlit(surface.normal, way) {
+        return listing;
+    }
+    let ray = surface::inner::lamp_ray(setting, surface, way);
+    fire(s, listing, voxel, PASSES, ray)
+}
+
+// None where the surface is black; else to the sun, over the hemisphere and to the lamps, in this order.
 fn surface_rays(
     s: &[u8],
     listing: Listing,
     voxel: usize,
+    lamps: &[f32],
     setting: Setting,
     surface: Surface,
 ) -> Listing {
     if bounce::inner::black(surface.albedo, surface.emissive) {
         return listing;
     }
-    let lit = sun_ray(s, listing, voxel, setting, surface);
-    sky_rays(s, lit, voxel, setting, surface)
+    let sun = sun_ray(s, listing, voxel, setting, surface);
+    let sky = sky_rays(s, sun, voxel, setting, surface);
+    lamp_rays(s, sky, voxel, lamps, setting, surface)
 }
 
 // ---- the rays of a voxel
@@ -148,6 +188,7 @@ fn along(
     uses: &[u32],
     kinds: &[u8],
     numbers: &[f32],
+    lamps: &[f32],
     setting: Setting,
     centre: Vec3,
     direction: Vec3,
@@ -170,7 +211,7 @@ fn along(
                 distance,
                 setting.biases.hit,
             );
-            surface_rays(s, first, voxel, setting, surface)
+            surface_rays(s, first, voxel, lamps, setting, surface)
         }
     }
 }
@@ -196,6 +237,7 @@ fn along_all(
     uses: &[u32],
     kinds: &[u8],
     numbers: &[f32],
+    lamps: &[f32],
     setting: Setting,
     centre: Vec3,
     table: &[f32; 1728],
@@ -216,6 +258,7 @@ fn along_all(
             uses,
             kinds,
             numbers,
+            lamps,
             setting,
             centre,
             direction,
@@ -257,6 +300,7 @@ fn voxel_rays(
     uses: &[u32],
     kinds: &[u8],
     numbers: &[f32],
+    lamps: &[f32],
     table: &[f32; 1728],
     i: usize,
 ) -> Listing
@@ -277,6 +321,7 @@ fn voxel_rays(
         uses,
         kinds,
         numbers,
+        lamps,
         setting,
         centre,
         table,
@@ -303,6 +348,7 @@ fn all_rays(
     uses: &[u32],
     kinds: &[u8],
     numbers: &[f32],
+    lamps: &[f32],
     active: &[u8],
 ) -> Listing
     requires { ⌜ Sound (sceneOf (now points) (now uses) (now kinds) (now numbers)) ⌝ }
@@ -314,7 +360,18 @@ fn all_rays(
     let mut i: usize = 0;
     while i < n {
         if marked(active, i) {
-            so_far = voxel_rays(s, so_far, axes, points, uses, kinds, numbers, &table, i);
+            so_far = voxel_rays(
+                s,
+                so_far,
+                axes,
+                points,
+                uses,
+                kinds,
+                numbers,
+                lamps,
+                &table,
+                i,
+            );
         }
         i += 1;
     }
@@ -329,6 +386,7 @@ fn listed(
     uses: &[u32],
     kinds: &[u8],
     numbers: &[f32],
+    lamps: &[f32],
     active: &[u8],
 ) -> Tally {
     let axes = replay_values::axes(s, 1);
@@ -344,13 +402,13 @@ fn listed(
     if limits::inner::bad_materials(uses, kinds, numbers) {
         return replay::held(t, false);
     }
-    let from = replay::nth(s, FROM, 11);
+    let from = replay::nth(s, FROM, 12);
     let start = Listing {
         tally: t,
         at: replay::further(from, 1),
         rays: 0,
     };
-    let done = all_rays(s, start, axes, points, uses, kinds, numbers, active);
+    let done = all_rays(s, start, axes, points, uses, kinds, numbers, lamps, active);
     replay::held(done.tally, done.rays == replay::half(s, from))
 }
 
@@ -363,6 +421,7 @@ fn counted(
     kinds: &[u8],
     numbers: &[f32],
     sky: &[f32],
+    lamps: &[f32],
     active: &[u8],
     lights: &[f32],
     volume: &mut [f32],
@@ -382,6 +441,7 @@ fn counted(
         sunlight,
         sh,
         sky,
+        lamps,
         active,
         lights,
         volume,
@@ -391,7 +451,7 @@ fn counted(
         0,
         u64::MAX,
     );
-    let n = replay::half(s, replay::nth(s, FROM, 11));
+    let n = replay::half(s, replay::nth(s, FROM, 12));
     replay::held(t, (r.refusal == 0) & (r.rays == n))
 }
 
@@ -403,6 +463,7 @@ fn both(
     kinds: &[u8],
     numbers: &[f32],
     sky: &[f32],
+    lamps: &[f32],
     active: &[u8],
     lights: &[f32],
     volume: &mut [f32],
@@ -410,7 +471,7 @@ fn both(
     distances: &mut [f32],
     places: &mut [usize],
 ) -> Tally {
-    let u = listed(s, t, points, uses, kinds, numbers, active);
+    let u = listed(s, t, points, uses, kinds, numbers, lamps, active);
     counted(
         s,
         u,
@@ -419,6 +480,7 @@ fn both(
         kinds,
         numbers,
         sky,
+        lamps,
         active,
         lights,
         volume,
@@ -430,10 +492,11 @@ fn both(
 
 // ---- the run
 
-fn fill(s: &[u8], sky: &mut [f32], active: &mut [u8], lights: &mut [f32]) {
+fn fill(s: &[u8], sky: &mut [f32], lamps: &mut [f32], active: &mut [u8], lights: &mut [f32]) {
     replay::floats(s, replay::nth(s, FROM, 4), sky);
-    replay::bytes(s, replay::nth(s, FROM, 5), active);
-    replay::floats(s, replay::nth(s, FROM, 6), lights);
+    replay::floats(s, replay::nth(s, FROM, 5), lamps);
+    replay::bytes(s, replay::nth(s, FROM, 6), active);
+    replay::floats(s, replay::nth(s, FROM, 7), lights);
 }
 
 fn filled(
@@ -444,6 +507,7 @@ fn filled(
     kinds: &[u8],
     numbers: &[f32],
     sky: &mut [f32],
+    lamps: &mut [f32],
     active: &mut [u8],
     lights: &mut [f32],
     volume: &mut [f32],
@@ -451,7 +515,7 @@ fn filled(
     distances: &mut [f32],
     places: &mut [usize],
 ) -> Tally {
-    fill(s, sky, active, lights);
+    fill(s, sky, lamps, active, lights);
     both(
         s,
         t,
@@ -460,6 +524,7 @@ fn filled(
         kinds,
         numbers,
         sky,
+        lamps,
         active,
         lights,
         volume,
@@ -477,6 +542,7 @@ fn baked(
     kinds: &mut [u8],
     numbers: &mut [f32],
     sky: &mut [f32],
+    lamps: &mut [f32],
     active: &mut [u8],
     lights: &mut [f32],
     volume: &mut [f32],
@@ -493,6 +559,7 @@ fn baked(
         kinds,
         numbers,
         sky,
+        lamps,
         active,
         lights,
         volume,
@@ -509,12 +576,18 @@ fn fits(s: &[u8]) -> bool {
         & replay::fits(s, replay::nth(s, FROM, 2), 260)
         & replay::fits(s, replay::nth(s, FROM, 3), 1820)
         & replay::fits(s, replay::nth(s, FROM, 4), 1740)
-        & replay::fits(s, replay::nth(s, FROM, 5), 520)
+        & replay::fits(s, replay::nth(s, FROM, 5), 80)
         & replay::fits(s, replay::nth(s, FROM, 6), 520)
-        & replay::fits(s, replay::nth(s, FROM, 7), 8320)
+        & replay::fits(s, replay::nth(s, FROM, 7), 520)
         & replay::fits(s, replay::nth(s, FROM, 8), 8320)
-        & replay::fits(s, replay::nth(s, FROM, 9), 4100)
-        & replay::fits(s, replay::nth(s, FROM, 10), 8200)
+        & replay::fits(s, replay::nth(s, FROM, 9), 8320)
+        & replay::fits(s, replay::nth(s, FROM, 10), 4100)
+        & replay::fits(s, replay::nth(s, FROM, 11), 8200)
+}
+
+// Thirteen lamps, more than any call accepts.
+fn room_for_lamps() -> [f32; 80] {
+    [0.0f32; 80]
 }
 
 // The arrays are lent in four steps.
@@ -531,10 +604,12 @@ fn fourth(
     volume: &mut [f32],
     scratch: &mut [f32],
 ) -> Tally {
+    let mut lamps = room_for_lamps();
     let mut distances = replay::room_for_distances();
     let mut places = replay::room_for_places();
-    let j = replay::fit(s, replay::nth(s, FROM, 9), 4100);
-    let k = replay::pairs(s, replay::nth(s, FROM, 10), 4100);
+    let i = replay::fit(s, replay::nth(s, FROM, 5), 80);
+    let j = replay::fit(s, replay::nth(s, FROM, 10), 4100);
+    let k = replay::pairs(s, replay::nth(s, FROM, 11), 4100);
     baked(
         s,
         t,
@@ -543,6 +618,7 @@ fn fourth(
         kinds,
         numbers,
         sky,
+        &mut lamps[..i],
         active,
         lights,
         volume,
@@ -565,9 +641,9 @@ fn third(
     let mut lights = replay::room_for_light();
     let mut volume = replay::room_for_volume();
     let mut scratch = replay::room_for_volume();
-    let g = replay::fit(s, replay::nth(s, FROM, 6), 520);
-    let h = replay::fit(s, replay::nth(s, FROM, 7), 8320);
-    let i = replay::fit(s, replay::nth(s, FROM, 8), 8320);
+    let g = replay::fit(s, replay::nth(s, FROM, 7), 520);
+    let h = replay::fit(s, replay::nth(s, FROM, 8), 8320);
+    let i = replay::fit(s, replay::nth(s, FROM, 9), 8320);
     fourth(
         s,
         t,
@@ -589,7 +665,7 @@ fn second(s: &[u8], t: Tally, points: &mut [f32], uses: &mut [u32], kinds: &mut 
     let mut active = replay::room_for_mask();
     let d = replay::fit(s, replay::nth(s, FROM, 3), 1820);
     let e = replay::fit(s, replay::nth(s, FROM, 4), 1740);
-    let f = replay::fit(s, replay::nth(s, FROM, 5), 520);
+    let f = replay::fit(s, replay::nth(s, FROM, 6), 520);
     third(
         s,
         t,

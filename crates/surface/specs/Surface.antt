@@ -1,7 +1,8 @@
 -- A surface that a ray has met, the rays that it takes, and the light that it sends back. "Extra rays for a hit: 0 if albedo and emissive
--- both have squared length ≤0, else 4, and one more if n·l>0." A ray is counted where it is traced. gi.rs decides every order. Definitions
--- only.
+-- both have squared length ≤0, else 4, and one more if n·l>0", and one more for each lamp that reaches it. A ray is counted where it is
+-- traced. gi.rs decides every order but that of the lamps. Definitions only.
 use mathlib.Core.Bool.{cond}
+use mathlib.Core.List.{List}
 use Prim.Native.Nat.{ℕ, _+_, _*_}
 use lib.ListN.{getD}
 use lib.Ieee as Ieee
@@ -9,16 +10,20 @@ use lib.Ieee.{Float, binary32}
 use Rattle.names.specs.Bits.{lit, zero32}
 use Rattle.names.specs.Scene.{Scene}
 use Rattle.lists.specs.Fold.{fold}
-use Rattle.vectors.specs.Vectors.{clampV}
+use Rattle.vectors.specs.Vectors.{addV, clampV}
 use Rattle.vectors.specs.declared.Vec3.{Vec3}
 use Rattle.vectors.specs.declared.Ray.{Ray}
+use Rattle.limits.specs.declared.Lamp.{Lamp}
+use Rattle.limits.specs.Limits.{lampCount, lampAt}
 use Rattle.triangle.specs.Places.{vecAt, triangleAt}
 use Rattle.scan.specs.Transmittance.{transmittanceOf}
 use Rattle.harmonics.specs.Harmonics.{raisedV, zeroV}
 use Rattle.bounce.specs.declared.Frame.{Frame}
 use Rattle.vectors.specs.Rays.{pointAt, rayFrom}
+use Rattle.bounce.specs.declared.Way.{Way}
 use Rattle.bounce.specs.Hemisphere.{frameOf, skyDirection}
 use Rattle.bounce.specs.Light.{faceNormal, facingOf, blackOf, slantOf, sunlightOf, skylightOf, reflectedOf}
+use Rattle.bounce.specs.Lamps.{wayTo, unlitBy, lampRayFrom, lamplightOf}
 use Rattle.surface.specs.declared.Setting.{Setting}
 use Rattle.surface.specs.declared.Surface.{Surface}
 use Rattle.surface.specs.declared.Seen.{Seen}
@@ -67,6 +72,10 @@ skyRayIn setting surface frame j =
 abbrev pub skyRay : Setting → Surface → ℕ → Ray
 skyRay setting surface j = skyRayIn setting surface (frameOf (surface .normal)) j
 
+-- to a lamp
+unfoldable pub lampRay : Setting → Surface → Way → Ray
+lampRay setting surface way = lampRayFrom (surface .point) way (setting .biases .shortest)
+
 -- ---- the light on it
 
 -- the transmittance along a ray, added to the sum
@@ -93,10 +102,31 @@ sunOf scene setting surface =
     let slant = slantOf (surface .normal) (setting .toward) in
     cond (Ieee.lt zero32 slant) (traced (sunlightOf (setting .colour) slant (transmittanceOf scene (shadowRay setting surface))) 1) (traced zeroV 0)
 
--- what it sends back, and the rays that this takes
-unfoldable pub bouncedBy : Scene → Setting → Surface → Traced
-bouncedBy scene setting surface =
+-- sun plus sky
+unfoldable pub daylightOf : Scene → Setting → Surface → Traced
+daylightOf scene setting surface =
     let sun = sunOf scene setting surface in
     let sky = skyOf scene setting surface in
+    traced (addV (sun .light) (sky .light)) (sun .rays + sky .rays)
+
+-- with a lamp's light added to what has fallen so far, where the lamp reaches the surface
+unfoldable pub litBy : Scene → Setting → Surface → Lamp → Traced → Traced
+litBy scene setting surface lamp fallen =
+    let way = wayTo (surface .point) (lamp .position) in
+    let light = lamplightOf (lamp .colour) (surface .normal) way (transmittanceOf scene (lampRay setting surface way)) in
+    cond (unlitBy (surface .normal) way) fallen (traced (addV (fallen .light) light) (fallen .rays + 1))
+
+abbrev pub litAfter : Scene → List Float → Setting → Surface → ℕ → Traced → Traced
+litAfter scene lamps setting surface j fallen = litBy scene setting surface (lampAt lamps j) fallen
+
+-- "One by one, in list order, they are added to sun plus sky."
+unfoldable pub fallenOn : Scene → List Float → Setting → Surface → Traced
+fallenOn scene lamps setting surface =
+    fold (litAfter scene lamps setting surface) (lampCount lamps) 0 (daylightOf scene setting surface)
+
+-- what it sends back, and the rays that this takes: "A black surface still fires none."
+unfoldable pub bouncedBy : Scene → List Float → Setting → Surface → Traced
+bouncedBy scene lamps setting surface =
+    let fallen = fallenOn scene lamps setting surface in
     cond (blackOf (surface .albedo) (surface .emissive)) (traced zeroV 0)
-    (traced (reflectedOf (surface .albedo) (surface .emissive) (sun .light) (sky .light)) (sun .rays + sky .rays))
+    (traced (reflectedOf (surface .albedo) (surface .emissive) (fallen .light)) (fallen .rays))

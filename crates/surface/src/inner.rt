@@ -3,15 +3,19 @@
 ghost use mathlib.Core.Path.{_≡_};
 ghost use Prim.Native.Nat.{_+_, _≤_, _<_};
 ghost use lib.ListN.{length, getD};
+ghost use Rattle.names.specs.Numbers.{lampLimit};
 ghost use Rattle.names.specs.Scene.{Sound, sceneOf};
+ghost use Rattle.limits.specs.Limits.{lampCount};
 ghost use Rattle.triangle.specs.Places.{vecAt};
 ghost use Rattle.bounce.specs.Hemisphere.{hemisphere};
-ghost use Rattle.surface.specs.Surface.{surfaceOf, shadowRay, skyRayIn, seenBy, seenOf, sunOf, skyOf, bouncedBy};
+ghost use Rattle.surface.specs.Surface.{surfaceOf, shadowRay, skyRayIn, lampRay, seenBy, seenOf, sunOf, skyOf, daylightOf, litBy, fallenOn, bouncedBy};
 use super::Seen;
 use super::Setting;
 use super::Surface;
 use super::Traced;
 use bounce::Frame;
+use bounce::Way;
+use limits::Lamp;
 use vectors::Ray;
 use vectors::Vec3;
 
@@ -49,20 +53,22 @@ pub fn surface_at(
 
 // ---- the light on it
 
-// What a surface sends back, and the rays that this takes: at most five.
+// What a surface sends back, and the rays that this takes: at most five, and one for each lamp.
 pub fn bounce_light(
     points: &[f32],
     uses: &[u32],
     kinds: &[u8],
     numbers: &[f32],
+    lamps: &[f32],
     setting: Setting,
     surface: Surface,
     distances: &mut [f32],
     places: &mut [usize],
 ) -> Traced
     requires { ⌜ Sound (sceneOf (now points) (now uses) (now kinds) (now numbers)) ⌝ }
+    requires { ⌜ lampCount (now lamps) ≤ lampLimit ⌝ }
     requires { ⌜ (length (now uses) ≤ length (now distances)) × (length (now uses) ≤ length (now places)) ⌝ }
-    ensures { λ r. ⌜ r ≡ bouncedBy (sceneOf (now (points .entry)) (now (uses .entry)) (now (kinds .entry)) (now (numbers .entry))) setting surface ⌝ }
+    ensures { λ r. ⌜ r ≡ bouncedBy (sceneOf (now (points .entry)) (now (uses .entry)) (now (kinds .entry)) (now (numbers .entry))) (now (lamps .entry)) setting surface ⌝ }
 {
     if bounce::inner::black(surface.albedo, surface.emissive) {
         let none = Vec3 {
@@ -75,6 +81,119 @@ pub fn bounce_light(
             rays: 0,
         };
     }
+    let fallen = light_fallen(
+        points,
+        uses,
+        kinds,
+        numbers,
+        lamps,
+        setting,
+        surface,
+        distances,
+        places,
+    );
+    let light = bounce::inner::reflect(surface.albedo, surface.emissive, fallen.light);
+    Traced {
+        light,
+        rays: fallen.rays,
+    }
+}
+
+// The light that falls on a surface: sun plus sky, and to that the lamps, one by one in list order.
+fn light_fallen(
+    points: &[f32],
+    uses: &[u32],
+    kinds: &[u8],
+    numbers: &[f32],
+    lamps: &[f32],
+    setting: Setting,
+    surface: Surface,
+    distances: &mut [f32],
+    places: &mut [usize],
+) -> Traced
+    requires { ⌜ Sound (sceneOf (now points) (now uses) (now kinds) (now numbers)) ⌝ }
+    requires { ⌜ lampCount (now lamps) ≤ lampLimit ⌝ }
+    requires { ⌜ (length (now uses) ≤ length (now distances)) × (length (now uses) ≤ length (now places)) ⌝ }
+    ensures { λ r. ⌜ r ≡ fallenOn (sceneOf (now (points .entry)) (now (uses .entry)) (now (kinds .entry)) (now (numbers .entry))) (now (lamps .entry)) setting surface ⌝ }
+{
+    let mut fallen = light_day(
+        points,
+        uses,
+        kinds,
+        numbers,
+        setting,
+        surface,
+        distances,
+        places,
+    );
+    let n = limits::inner::lamp_count(lamps);
+    let mut j = 0;
+    while j < n {
+        let lamp = limits::inner::lamp_at(lamps, j);
+        fallen = light_lamp(
+            points,
+            uses,
+            kinds,
+            numbers,
+            setting,
+            surface,
+            lamp,
+            fallen,
+            distances,
+            places,
+        );
+        j += 1;
+    }
+    fallen
+}
+
+// With a lamp's light added to what has fallen so far, where the lamp reaches the surface.
+fn light_lamp(
+    points: &[f32],
+    uses: &[u32],
+    kinds: &[u8],
+    numbers: &[f32],
+    setting: Setting,
+    surface: Surface,
+    lamp: Lamp,
+    fallen: Traced,
+    distances: &mut [f32],
+    places: &mut [usize],
+) -> Traced
+    requires { ⌜ Sound (sceneOf (now points) (now uses) (now kinds) (now numbers)) ⌝ }
+    requires { ⌜ (length (now uses) ≤ length (now distances)) × (length (now uses) ≤ length (now places)) ⌝ }
+    requires { ⌜ fallen .rays < 65536 ⌝ }
+    ensures { λ r. ⌜ r ≡ litBy (sceneOf (now (points .entry)) (now (uses .entry)) (now (kinds .entry)) (now (numbers .entry))) setting surface lamp fallen ⌝ }
+{
+    let way = bounce::inner::way_to(surface.point, lamp.position);
+    if bounce::inner::unlit(surface.normal, way) {
+        return fallen;
+    }
+    let ray = lamp_ray(setting, surface, way);
+    let passed = scan::inner::transmittance(points, uses, kinds, numbers, ray, distances, places);
+    let light = bounce::inner::lamplight(lamp.colour, surface.normal, way, passed);
+    let sum = vectors::add(fallen.light, light);
+    Traced {
+        light: sum,
+        rays: fallen.rays + 1,
+    }
+}
+
+// Sun plus sky.
+fn light_day(
+    points: &[f32],
+    uses: &[u32],
+    kinds: &[u8],
+    numbers: &[f32],
+    setting: Setting,
+    surface: Surface,
+    distances: &mut [f32],
+    places: &mut [usize],
+) -> Traced
+    requires { ⌜ Sound (sceneOf (now points) (now uses) (now kinds) (now numbers)) ⌝ }
+    requires { ⌜ (length (now uses) ≤ length (now distances)) × (length (now uses) ≤ length (now places)) ⌝ }
+    ensures { λ r. ⌜ r ≡ daylightOf (sceneOf (now (points .entry)) (now (uses .entry)) (now (kinds .entry)) (now (numbers .entry))) setting surface ⌝ }
+{
     let sun = light_sun(
         points,
         uses,
@@ -95,7 +214,7 @@ pub fn bounce_light(
         distances,
         places,
     );
-    let light = bounce::inner::reflect(surface.albedo, surface.emissive, sun.light, sky.light);
+    let light = vectors::add(sun.light, sky.light);
     Traced {
         light,
         rays: sun.rays + sky.rays,
@@ -234,6 +353,13 @@ pub fn shadow_ray(setting: Setting, surface: Surface) -> Ray
         setting.biases.step,
         setting.biases.shortest,
     )
+}
+
+// To a lamp.
+pub fn lamp_ray(setting: Setting, surface: Surface, way: Way) -> Ray
+    ensures { λ r. ⌜ r ≡ lampRay setting surface way ⌝ }
+{
+    bounce::inner::lamp_ray_from(surface.point, way, setting.biases.shortest)
 }
 
 // Along hemisphere direction j of the frame of a surface's normal.

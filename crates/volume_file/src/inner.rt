@@ -16,8 +16,8 @@ use vectors::Vec3;
 
 // "light or coefficient not finite or beyond ±2^64"
 const LIGHT_LIMIT: f32 = 18446744073709551616.0;
-
-const COEFFICIENT_LIMIT: f32 = 18446744073709551616.0;
+// "13 lets a coefficient reach ±2^96"
+const COEFFICIENT_LIMIT: f32 = 79228162514264337593543950336.0;
 
 // Whether the bytes are no volume file.
 pub fn is_faulty(s: &[u8]) -> bool

@@ -8,13 +8,12 @@ use native.Mathlib.Nat.{sub-zero, zero-add}
 use borrow.Author.Tests.{eq-eqb, ne-eqb}
 use lib.ListN.{length, getD}
 use lib.Ieee.{Float}
-use Rattle.names.specs.Numbers.{voxelCost}
 use Rattle.spread.specs.Spread.{Walked, walked, more, walk}
 use Rattle.spread.specs.Walks.{so-far-stop, so-far-end, so-far-skip, so-far-take}
 use Rattle.spread.specs.Contents.{length-replaced}
 use Rattle.gather.specs.Gather.{gatheredOf}
 use Rattle.gather.specs.GatherLaws.{length-gathered, cost-least, cost-most}
-use Rattle.intake.specs.Intake.{BakeInput, voxelNumbers}
+use Rattle.intake.specs.Intake.{BakeInput, voxelNumbers, bakeCost}
 use Rattle.demand.specs.Bake.{gatherInput, bakeOf}
 use Rattle.walk.specs.Reports.{Takeable, Taken, Walkable, Unhit, Reports}
 
@@ -52,7 +51,7 @@ module _ {b : BakeInput} {v₀ d₀ : List Float} {p₀ : List ℕ} {progress al
       }
 
   module _ {v d : List Float} {p : List ℕ} {i r : ℕ} (s : SoFar b v₀ d₀ p₀ progress allowance v d p i r) where
-    pub stops : i < length (b .active) → getD (b .active) i 0 ≡ 1 → allowance - r < voxelCost
+    pub stops : i < length (b .active) → getD (b .active) i 0 ≡ 1 → allowance - r < bakeCost b
         → Reports (walk (bakeOf b) (length (b .active) - progress) progress allowance v₀) (record { progress = i; rays = r }) v d₀ d p₀ p
     stops h t f = reports (so-far-stop (bakeOf b) i r allowance (length (b .active)) v (s .goes) h (eq-eqb _ _ t) f) (s .hits)
 
@@ -82,6 +81,7 @@ module _ {b : BakeInput} {v₀ d₀ : List Float} {p₀ : List ℕ} {progress al
                 axes = f .axes;
                 scene = f .scene;
                 sky = f .sky;
+                lamps = f .lamps;
                 lights = f .lights;
                 voxel = omega (arith, f .active);
                 distances = omega (arith, f .distances, s .distances);
@@ -91,11 +91,11 @@ module _ {b : BakeInput} {v₀ d₀ : List Float} {p₀ : List ℕ} {progress al
           inside = omega (arith, f .inside, f .active, s .volume);
         }
 
-    pub fits-rays : {c : ℕ} {v' : List Float} → Taken (gatherInput b) i c v v' → voxelCost ≤ allowance - r → r + c ≤ allowance
+    pub fits-rays : {c : ℕ} {v' : List Float} → Taken (gatherInput b) i c v v' → bakeCost b ≤ allowance - r → r + c ≤ allowance
     fits-rays t h = omega (arith, t .rays, cost-most (gatherInput b) i, s .within)
 
     pub takes : {c : ℕ} {v' d' : List Float} {p' : List ℕ} → Walkable b (length v₀) progress → i < length (b .active) → getD (b .active) i 0 ≡ 1
-        → voxelCost ≤ allowance - r
+        → bakeCost b ≤ allowance - r
         → Taken (gatherInput b) i c v v'
         → length d' ≡ length d
         → length p' ≡ length p

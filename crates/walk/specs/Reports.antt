@@ -6,8 +6,10 @@ use lib.ListN.{length}
 use lib.Ieee.{Float}
 use Rattle.spread.specs.Spread.{Called, Walked, replaced}
 use Rattle.gather.specs.Gather.{GatherInput, gatheredOf, costOf, Gatherable}
-use Rattle.intake.specs.Intake.{BakeInput, skyNumbers, voxelNumbers, voxelCount, triangleCount}
+use Rattle.intake.specs.Intake.{BakeInput, voxelNumbers, voxelCount, triangleCount}
+use Rattle.names.specs.Numbers.{skyNumbers, lampLimit}
 use Rattle.names.specs.Scene.{Sound}
+use Rattle.limits.specs.Limits.{lampCount}
 use Rattle.grid.specs.Grid.{AxesWithin}
 use Rattle.walk.specs.declared.Reached.{Reached}
 
@@ -25,6 +27,7 @@ pub record Walkable (b : BakeInput) (volume progress : ℕ) : Type 0 where
   pub axes : AxesWithin (b .axes)
   pub scene : Sound (b .scene)
   pub sky : length (b .sky) ≡ skyNumbers
+  pub lamps : lampCount (b .lamps) ≤ lampLimit
   pub active : length (b .active) ≡ voxelCount b
   pub lights : length (b .lights) ≡ voxelCount b
   pub distances : triangleCount b ≤ b .distances

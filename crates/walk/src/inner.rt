@@ -26,6 +26,7 @@ pub fn walk(
     light: Light,
     ambient: Ambient,
     sky: &[f32],
+    lamps: &[f32],
     table: &[f32; 1728],
     active: &[u8],
     lights: &[f32],
@@ -36,25 +37,26 @@ pub fn walk(
     allowance: u64,
 ) -> Reached
     requires { ⌜ Walkable
-        (inputOf axes corners (sceneOf (now points) (now uses) (now kinds) (now numbers)) light ambient (now sky) (now active) (now lights)
+        (inputOf axes corners (sceneOf (now points) (now uses) (now kinds) (now numbers)) light ambient (now sky) (now lamps) (now active) (now lights)
         (length (now distances)) (length (now places)))
         (length (now volume)) progress ⌝ }
     requires { ⌜ now table ≡ directions ⌝ }
     ensures { λ r. ⌜ Reports
         (spread.walk
         (bakeOf (inputOf axes corners (sceneOf (now (points .entry)) (now (uses .entry)) (now (kinds .entry)) (now (numbers .entry)))
-        light ambient (now (sky .entry)) (now (active .entry)) (now (lights .entry))
+        light ambient (now (sky .entry)) (now (lamps .entry)) (now (active .entry)) (now (lights .entry))
         (length (now (distances .entry))) (length (now (places .entry)))))
         (length (now (active .entry)) - progress) progress allowance (now (volume .entry)))
         r (now (volume .exit)) (now (distances .entry)) (now (distances .exit)) (now (places .entry)) (now (places .exit)) ⌝ }
 {
+    let cost = intake::inner::voxel_cost(lamps);
     let mut i = progress;
     let mut rays: u64 = 0;
     while i < active.len() {
         let at = i;
         i += 1;
         if active[at] == 1 {
-            if allowance - rays < intake::inner::VOXEL_COST {
+            if allowance - rays < cost {
                 return Reached { progress: at, rays };
             }
             rays += take(
@@ -67,6 +69,7 @@ pub fn walk(
                 light,
                 ambient,
                 sky,
+                lamps,
                 table,
                 lights,
                 volume,
@@ -90,6 +93,7 @@ fn take(
     light: Light,
     ambient: Ambient,
     sky: &[f32],
+    lamps: &[f32],
     table: &[f32; 1728],
     lights: &[f32],
     volume: &mut [f32],
@@ -98,12 +102,12 @@ fn take(
     i: usize,
 ) -> u64
     requires { ⌜ Takeable
-        (gatherOf axes corners (sceneOf (now points) (now uses) (now kinds) (now numbers)) light ambient (now sky) (now lights))
+        (gatherOf axes corners (sceneOf (now points) (now uses) (now kinds) (now numbers)) light ambient (now sky) (now lamps) (now lights))
         i (length (now distances)) (length (now places)) (length (now volume)) ⌝ }
     requires { ⌜ now table ≡ directions ⌝ }
     ensures { λ r. ⌜ Taken
         (gatherOf axes corners (sceneOf (now (points .entry)) (now (uses .entry)) (now (kinds .entry)) (now (numbers .entry)))
-        light ambient (now (sky .entry)) (now (lights .entry)))
+        light ambient (now (sky .entry)) (now (lamps .entry)) (now (lights .entry)))
         i r (now (volume .entry)) (now (volume .exit)) ⌝ }
 {
     let start = i * 16;
@@ -118,6 +122,7 @@ fn take(
         light,
         ambient,
         sky,
+        lamps,
         table,
         lights,
         distances,

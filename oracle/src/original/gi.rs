@@ -573,7 +573,8 @@ fn estimate_surface_bounce_radiance(
     let e_sky = eval_sh4_irradiance(&scene.irradiance_sh, normal).max(Vec3A::ZERO) * sky_vis;
     crate::watch::seen_if(crate::watch::Branch::AmbientRaised, crate::watch::some_below(eval_sh4_irradiance(&scene.irradiance_sh, normal), 0.0)); // oracle+
     crate::watch::seen_if(crate::watch::Branch::TotalRaised, crate::watch::some_below(e_sun + e_sky, 0.0)); // oracle+
-    let e_total = (e_sun + e_sky).max(Vec3A::ZERO);
+// oracle was:|    let e_total = (e_sun + e_sky).max(Vec3A::ZERO);
+    let e_total = crate::lamps::added(raytracer, scene, e_sun + e_sky, shading_origin, normal, t_min).max(Vec3A::ZERO); // oracle!
     let bounce = if e_total.length_squared() > 0.0 {
         crate::watch::seen(crate::watch::Branch::Bounced); // oracle+
         albedo * (e_total / PI)

@@ -6,6 +6,9 @@ use borrow.Author.Needs.{needs}
 use Rattle.replay_bake.proofs.fourth.Statement.{statement}
 use Rattle.replay_bake.proofs.fourth.Tie as tie
 
+room-for-lamps-requires : tie.Need-room-for-lamps-requires
+room-for-lamps-requires c κs = search needs
+
 room-for-distances-requires : tie.Need-room-for-distances-requires
 room-for-distances-requires c κs = search needs
 
@@ -21,20 +24,32 @@ fit-requires c κs = search needs
 nth-requires-2 : tie.Need-nth-requires-2
 nth-requires-2 c κs = search needs
 
+fit-requires-2 : tie.Need-fit-requires-2
+fit-requires-2 c κs = search needs
+
+nth-requires-3 : tie.Need-nth-requires-3
+nth-requires-3 c κs = search needs
+
 pairs-requires : tie.Need-pairs-requires
 pairs-requires c κs = search needs
 
-array-borrow-prefix-distances : tie.Need-array-borrow-prefix-distances
-array-borrow-prefix-distances c = search needs
+array-borrow-prefix-lamps : tie.Need-array-borrow-prefix-lamps
+array-borrow-prefix-lamps c = search needs
 
 slice-aggregate-baked : tie.Need-slice-aggregate-baked
 slice-aggregate-baked c = sym (length-take-le _ _ (omega arith))
 
-array-borrow-prefix-places : tie.Need-array-borrow-prefix-places
-array-borrow-prefix-places c = search needs
+array-borrow-prefix-distances : tie.Need-array-borrow-prefix-distances
+array-borrow-prefix-distances c = search needs
 
 slice-aggregate-baked-2 : tie.Need-slice-aggregate-baked-2
 slice-aggregate-baked-2 c = sym (length-take-le _ _ (omega arith))
+
+array-borrow-prefix-places : tie.Need-array-borrow-prefix-places
+array-borrow-prefix-places c = search needs
+
+slice-aggregate-baked-3 : tie.Need-slice-aggregate-baked-3
+slice-aggregate-baked-3 c = sym (length-take-le _ _ (omega arith))
 
 baked-requires : tie.Need-baked-requires
 baked-requires c κs = search needs
@@ -73,16 +88,21 @@ pub fourth-spec : {M : Type 1} → statement M
 fourth-spec =
     tie.close
     (tie.spec
+    room-for-lamps-requires
     room-for-distances-requires
     room-for-places-requires
     nth-requires
     fit-requires
     nth-requires-2
+    fit-requires-2
+    nth-requires-3
     pairs-requires
-    array-borrow-prefix-distances
+    array-borrow-prefix-lamps
     slice-aggregate-baked
-    array-borrow-prefix-places
+    array-borrow-prefix-distances
     slice-aggregate-baked-2
+    array-borrow-prefix-places
+    slice-aggregate-baked-3
     baked-requires
     same-length
     same-length-2

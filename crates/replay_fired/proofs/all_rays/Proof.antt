@@ -5,10 +5,10 @@ use Rattle.replay_fired.proofs.all_rays.Statement.{statement}
 use Rattle.replay_fired.proofs.all_rays.Tie as tie
 
 abbrev Inv-loop : tie.InvT-loop
-Inv-loop s axes points uses kinds numbers active table n so-far₀ i₀ so-far i = i ≤ n
+Inv-loop s axes points uses kinds numbers lamps active table n so-far₀ i₀ so-far i = i ≤ n
 
 abbrev μ-loop : tie.MeasureT-loop
-μ-loop s axes points uses kinds numbers active table n so-far₀ i₀ so-far i = n - i
+μ-loop s axes points uses kinds numbers lamps active table n so-far₀ i₀ so-far i = n - i
 
 table-requires : tie.Need-table-requires Inv-loop μ-loop
 table-requires c κs = search needs
@@ -23,7 +23,9 @@ marked-requires : tie.Need-marked-requires Inv-loop μ-loop
 marked-requires c κs = search needs
 
 voxel-rays-requires : tie.Need-voxel-rays-requires Inv-loop μ-loop
-voxel-rays-requires c κs = search needs
+voxel-rays-requires c κs =
+    let start = c .before .before .before .before .before .before .before .before .before .before .before .before .before .before in
+    (start .pre .0, (start .pre .1, search needs))
 
 add-i : tie.Need-add-i Inv-loop μ-loop
 add-i c = search needs

@@ -5,10 +5,10 @@ use Rattle.replay_fired.proofs.along_all.Statement.{statement}
 use Rattle.replay_fired.proofs.along_all.Tie as tie
 
 abbrev Inv-loop : tie.InvT-loop
-Inv-loop s voxel points uses kinds numbers setting centre table set so-far₀ k₀ so-far k = k ≤ 64
+Inv-loop s voxel points uses kinds numbers lamps setting centre table set so-far₀ k₀ so-far k = k ≤ 64
 
 abbrev μ-loop : tie.MeasureT-loop
-μ-loop s voxel points uses kinds numbers setting centre table set so-far₀ k₀ so-far k = 64 - k
+μ-loop s voxel points uses kinds numbers lamps setting centre table set so-far₀ k₀ so-far k = 64 - k
 
 loop-holds : tie.Need-loop-holds Inv-loop μ-loop
 loop-holds c = search needs

@@ -19,13 +19,13 @@ setting-of-requires : tie.Need-setting-of-requires
 setting-of-requires c κs = search needs
 
 centre-of-requires : tie.Need-centre-of-requires
-centre-of-requires c κs = c .before .before .before .before .before .before .before .before .before .before .pre .1
+centre-of-requires c κs = c .before .before .before .before .before .before .before .before .before .before .before .pre .1
 
 set-at-requires : tie.Need-set-at-requires
-set-at-requires c κs = c .before .before .before .before .before .before .before .before .before .before .before .pre .1 .0
+set-at-requires c κs = c .before .before .before .before .before .before .before .before .before .before .before .before .pre .1 .0
 
 along-all-requires : tie.Need-along-all-requires
-along-all-requires c κs = (c .before .before .before .before .before .before .before .before .before .before .before .before .pre .0, c .set-at .ensures)
+along-all-requires c κs = (c .before .before .before .before .before .before .before .before .before .before .before .before .before .pre .0, c .set-at .ensures)
 
 returns : tie.Need-returns
 returns c = search needs

@@ -1,7 +1,8 @@
--- `gather::inner::gather_along` meets its contract: the code is the definition, call for call, and one direction adds at most six rays and one miss.
-use Prim.Native.Nat.{_≤_}
+-- `gather::inner::gather_along` meets its contract: the code is the definition, call for call, and one direction adds at most six rays, one for each lamp, and one miss.
+use Prim.Native.Nat.{_+_, _≤_}
 use native.Mathlib.Omega.{arith}
 use borrow.Author.Needs.{needs}
+use Rattle.limits.specs.Limits.{lampCount}
 use Rattle.gather.specs.Gather.{gatheredAlong}
 use Rattle.gather.specs.GatherLaws.{incoming-costs}
 use Rattle.gather.proofs.inner.gather_along.Statement.{statement}
@@ -20,22 +21,23 @@ primary-ray-requires : tie.Need-primary-ray-requires
 primary-ray-requires c κs = search needs
 
 look-requires : tie.Need-look-requires
-look-requires c κs = let s = c .before .before .before .before .before .before .before .before .before .before .before .before in (s .pre .0, s .pre .1 .0)
+look-requires c κs = let s = c .before .before .before .before .before .before .before .before .before .before .before .before .before in (s .pre .0, (s .pre .1 .0, s .pre .1 .1 .0))
 
 add-radiance-requires : tie.Need-add-radiance-requires
 add-radiance-requires c κs = search needs
 
-add-t18 : tie.Need-add-t18
-add-t18 c =
+add-t19 : tie.Need-add-t19
+add-t19 c =
     let look = c .before .before .before .before .before .before .before .look in
-    let h : look .result .misses ≤ 1 = rw (look .ensures) (incoming-costs _ _ _ _ _ .missed) in
-    omega (arith, c .before .before .before .before .before .before .before .before .before .before .before .before .before .before .before .before .before .before .before .before .pre .1 .1 .1 .1)
+    let h : look .result .misses ≤ 1 = rw (look .ensures) (incoming-costs _ _ _ _ _ _ .missed) in
+    omega (arith, c .before .before .before .before .before .before .before .before .before .before .before .before .before .before .before .before .before .before .before .before .before .pre .1 .1 .1 .1 .1)
 
-add-t23 : tie.Need-add-t23
-add-t23 c =
+add-t24 : tie.Need-add-t24
+add-t24 c =
     let look = c .before .before .before .before .before .before .before .before .before .look in
-    let h : look .result .rays ≤ 6 = rw (look .ensures) (incoming-costs _ _ _ _ _ .most) in
-    omega (arith, c .before .before .before .before .before .before .before .before .before .before .before .before .before .before .before .before .before .before .before .before .before .before .pre .1 .1 .1 .0)
+    let s = c .before .before .before .before .before .before .before .before .before .before .before .before .before .before .before .before .before .before .before .before .before .before .before in
+    let h : look .result .rays ≤ 6 + lampCount (s .args .lamps .now) = rw (look .ensures) (incoming-costs _ _ _ _ _ _ .most) in
+    omega (arith, s .pre .1 .0, s .pre .1 .1 .1 .1 .0)
 
 same-length : tie.Need-same-length
 same-length c = search needs
@@ -48,4 +50,4 @@ unfolding gatheredAlong
 returns c = rw (← c .before .before .before .before .before .before .before .before .before .before .before .before .before .before .direction-at .ensures, ← c .before .before .before .before .before .before .before .before .before .before .before .before .before .three-at .ensures, ← c .before .before .before .before .before .before .before .before .before .before .before .before .primary-ray .ensures, ← c .before .before .before .before .before .before .before .before .before .look .ensures, ← c .before .before .before .before .add-radiance .ensures)
 
 pub gather-along-spec : {M : Type 1} → statement M
-gather-along-spec = tie.close (tie.spec direction-at-requires mul-three-at three-at-requires primary-ray-requires look-requires add-radiance-requires add-t18 add-t23 same-length same-length-2 returns)
+gather-along-spec = tie.close (tie.spec direction-at-requires mul-three-at three-at-requires primary-ray-requires look-requires add-radiance-requires add-t19 add-t24 same-length same-length-2 returns)

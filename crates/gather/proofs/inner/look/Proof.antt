@@ -1,8 +1,9 @@
 -- `gather::inner::look` meets its contract: each arm is a clause of the definition, and the place of what is met is one of the scene's.
 use mathlib.Core.Path.{sym, _∙_}
-use Prim.Native.Nat.{_≤_}
+use Prim.Native.Nat.{_+_, _≤_}
 use native.Mathlib.Omega.{arith}
 use borrow.Author.Needs.{needs}
+use Rattle.limits.specs.Limits.{lampCount}
 use Rattle.surface.specs.SurfaceLaws.{extra-most}
 use Rattle.gather.specs.Gather.{incomingBy}
 use Rattle.gather.specs.GatherLaws.{place-below}
@@ -20,15 +21,16 @@ enum-known-found c = search needs
 
 from-surface-requires : tie.Need-from-surface-requires
 from-surface-requires c κs =
-    let s = c .before .before .before .before .before .before .before .before .before .before .before .before in
+    let s = c .before .before .before .before .before .before .before .before .before .before .before .before .before in
     let met = sym (c .before .before .before .before .before .nearest .ensures) ∙ c .before .before .before .found .given .1 in
-    (s .pre .0, (s .pre .1, place-below _ _ _ _ _ _ met))
+    (s .pre .0, (s .pre .1 .0, (s .pre .1 .1, place-below _ _ _ _ _ _ met)))
 
-add-t20 : tie.Need-add-t20
-add-t20 c =
+add-t21 : tie.Need-add-t21
+add-t21 c =
     let sent = c .before .before .before .before .before .before .from-surface in
-    let h : sent .result .rays ≤ 5 = rw (sent .ensures) (extra-most _ _ _) in
-    omega arith
+    let s = c .before .before .before .before .before .before .before .before .before .before .before .before .before .before .before .before .before .before .before .before in
+    let h : sent .result .rays ≤ 5 + lampCount (s .args .lamps .now) = rw (sent .ensures) (extra-most _ _ _ _) in
+    omega (arith, s .pre .1 .0)
 
 returns : tie.Need-returns
 unfolding incomingBy
@@ -49,4 +51,4 @@ returns-2 c =
 pub look-spec : {M : Type 1} → statement M
 look-spec =
     tie.close
-    (tie.spec nearest-requires enum-told enum-known-found from-surface-requires add-t20 returns same-length same-length-2 returns-2)
+    (tie.spec nearest-requires enum-told enum-known-found from-surface-requires add-t21 returns same-length same-length-2 returns-2)

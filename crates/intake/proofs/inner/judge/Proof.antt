@@ -4,7 +4,7 @@ use borrow.Author.Tests.{lt-ltb, le-ltb}
 use mathlib.Core.Path.{sym, _∙_}
 use Rattle.names.specs.Refusals.{row-holds, row-passed, rows-passed}
 use Rattle.grid.specs.GridLaws.{voxels-most}
-use Rattle.limits.specs.LimitsLaws.{axes-row}
+use Rattle.limits.specs.LimitsLaws.{axes-row, lamps-row}
 use Rattle.intake.specs.Intake.{bakeRefusal, bakeRows}
 use Rattle.intake.proofs.Lists.{lists-row}
 use Rattle.intake.proofs.inner.judge.Statement.{statement}
@@ -95,21 +95,12 @@ returns-7 c =
     (row-passed _ _ _ _ (sym (c .before .before .before .bad-materials .ensures) ∙ c .before .before .if6 .left)
     (row-holds _ _ _ (sym (c .before .bad-lighting .ensures) ∙ c .if7 .taken)))))))
 
+bad-lamps-requires : tie.Need-bad-lamps-requires
+bad-lamps-requires c κs = search needs
+
 returns-8 : tie.Need-returns-8
 unfolding bakeRefusal bakeRows
 returns-8 c =
-    row-passed _ _ _ _ (sym (c .before .before .before .before .before .before .before .before .before .before .before .before .before .before .before .before .bad-axes .ensures) ∙ c .before .before .before .before .before .before .before .before .before .before .before .before .before .before .before .if1 .left)
-    (row-passed _ _ _ _ (sym (c .before .before .before .before .before .before .before .before .before .before .before .before .before .before .bad-grid .ensures) ∙ c .before .before .before .before .before .before .before .before .before .before .before .before .before .if2 .left)
-    (row-passed _ _ _ _ (lists-row _ _ (c .before .before .before .before .before .before .before .before .before .before .before .before .voxel-count .ensures) (c .before .before .before .before .before .before .before .before .before .before .before .wrong-scene .ensures) (c .before .before .before .before .before .before .before .before .before .before .wrong-lengths .ensures) (c .before .before .before .before .before .before .before .before .before .if3 .left))
-    (row-passed _ _ _ _ (sym (c .before .before .before .before .before .before .before .before .too-many .ensures) ∙ c .before .before .before .before .before .before .before .if4 .left)
-    (row-passed _ _ _ _ (sym (c .before .before .before .before .before .before .bad-points .ensures) ∙ c .before .before .before .before .before .if5 .left)
-    (row-passed _ _ _ _ (sym (c .before .before .before .before .bad-materials .ensures) ∙ c .before .before .before .if6 .left)
-    (row-passed _ _ _ _ (sym (c .before .before .bad-lighting .ensures) ∙ c .before .if7 .left)
-    (row-holds _ _ _ (lt-ltb _ _ (rw (c .before .before .before .before .before .before .before .before .before .before .before .before .voxel-count .ensures) at (c .if8 .taken))))))))))
-
-returns-9 : tie.Need-returns-9
-unfolding bakeRefusal bakeRows
-returns-9 c =
     row-passed _ _ _ _ (sym (c .before .before .before .before .before .before .before .before .before .before .before .before .before .before .before .before .before .bad-axes .ensures) ∙ c .before .before .before .before .before .before .before .before .before .before .before .before .before .before .before .before .if1 .left)
     (row-passed _ _ _ _ (sym (c .before .before .before .before .before .before .before .before .before .before .before .before .before .before .before .bad-grid .ensures) ∙ c .before .before .before .before .before .before .before .before .before .before .before .before .before .before .if2 .left)
     (row-passed _ _ _ _ (lists-row _ _ (c .before .before .before .before .before .before .before .before .before .before .before .before .before .voxel-count .ensures) (c .before .before .before .before .before .before .before .before .before .before .before .before .wrong-scene .ensures) (c .before .before .before .before .before .before .before .before .before .before .before .wrong-lengths .ensures) (c .before .before .before .before .before .before .before .before .before .before .if3 .left))
@@ -117,40 +108,71 @@ returns-9 c =
     (row-passed _ _ _ _ (sym (c .before .before .before .before .before .before .before .bad-points .ensures) ∙ c .before .before .before .before .before .before .if5 .left)
     (row-passed _ _ _ _ (sym (c .before .before .before .before .before .bad-materials .ensures) ∙ c .before .before .before .before .if6 .left)
     (row-passed _ _ _ _ (sym (c .before .before .before .bad-lighting .ensures) ∙ c .before .before .if7 .left)
-    (row-passed _ _ _ _ (le-ltb _ _ (rw (c .before .before .before .before .before .before .before .before .before .before .before .before .before .voxel-count .ensures) at (c .before .if8 .left)))
-    (row-holds _ _ _ (lt-ltb _ _ (c .if9 .taken))))))))))
+    (row-holds _ _ _ (sym (c .before .bad-lamps .ensures) ∙ c .if8 .taken))))))))
 
-bad-contents-requires : tie.Need-bad-contents-requires
-bad-contents-requires c κs = search needs
+returns-9 : tie.Need-returns-9
+unfolding bakeRefusal bakeRows
+returns-9 c =
+    row-passed _ _ _ _ (sym (c .before .before .before .before .before .before .before .before .before .before .before .before .before .before .before .before .before .before .bad-axes .ensures) ∙ c .before .before .before .before .before .before .before .before .before .before .before .before .before .before .before .before .before .if1 .left)
+    (row-passed _ _ _ _ (sym (c .before .before .before .before .before .before .before .before .before .before .before .before .before .before .before .before .bad-grid .ensures) ∙ c .before .before .before .before .before .before .before .before .before .before .before .before .before .before .before .if2 .left)
+    (row-passed _ _ _ _ (lists-row _ _ (c .before .before .before .before .before .before .before .before .before .before .before .before .before .before .voxel-count .ensures) (c .before .before .before .before .before .before .before .before .before .before .before .before .before .wrong-scene .ensures) (c .before .before .before .before .before .before .before .before .before .before .before .before .wrong-lengths .ensures) (c .before .before .before .before .before .before .before .before .before .before .before .if3 .left))
+    (row-passed _ _ _ _ (sym (c .before .before .before .before .before .before .before .before .before .before .too-many .ensures) ∙ c .before .before .before .before .before .before .before .before .before .if4 .left)
+    (row-passed _ _ _ _ (sym (c .before .before .before .before .before .before .before .before .bad-points .ensures) ∙ c .before .before .before .before .before .before .before .if5 .left)
+    (row-passed _ _ _ _ (sym (c .before .before .before .before .before .before .bad-materials .ensures) ∙ c .before .before .before .before .before .if6 .left)
+    (row-passed _ _ _ _ (sym (c .before .before .before .before .bad-lighting .ensures) ∙ c .before .before .before .if7 .left)
+    (row-passed _ _ _ _ (sym (c .before .before .bad-lamps .ensures) ∙ c .before .if8 .left)
+    (row-holds _ _ _ (lt-ltb _ _ (rw (c .before .before .before .before .before .before .before .before .before .before .before .before .before .before .voxel-count .ensures) at (c .if9 .taken)))))))))))
+
+voxel-cost-requires : tie.Need-voxel-cost-requires
+voxel-cost-requires c κs = lamps-row _ .0 (sym (c .before .before .bad-lamps .ensures) ∙ c .before .if8 .left) .0
 
 returns-10 : tie.Need-returns-10
 unfolding bakeRefusal bakeRows
 returns-10 c =
-    row-passed _ _ _ _ (sym (c .before .before .before .before .before .before .before .before .before .before .before .before .before .before .before .before .before .before .before .bad-axes .ensures) ∙ c .before .before .before .before .before .before .before .before .before .before .before .before .before .before .before .before .before .before .if1 .left)
-    (row-passed _ _ _ _ (sym (c .before .before .before .before .before .before .before .before .before .before .before .before .before .before .before .before .before .bad-grid .ensures) ∙ c .before .before .before .before .before .before .before .before .before .before .before .before .before .before .before .before .if2 .left)
-    (row-passed _ _ _ _ (lists-row _ _ (c .before .before .before .before .before .before .before .before .before .before .before .before .before .before .before .voxel-count .ensures) (c .before .before .before .before .before .before .before .before .before .before .before .before .before .before .wrong-scene .ensures) (c .before .before .before .before .before .before .before .before .before .before .before .before .before .wrong-lengths .ensures) (c .before .before .before .before .before .before .before .before .before .before .before .before .if3 .left))
-    (row-passed _ _ _ _ (sym (c .before .before .before .before .before .before .before .before .before .before .before .too-many .ensures) ∙ c .before .before .before .before .before .before .before .before .before .before .if4 .left)
-    (row-passed _ _ _ _ (sym (c .before .before .before .before .before .before .before .before .before .bad-points .ensures) ∙ c .before .before .before .before .before .before .before .before .if5 .left)
-    (row-passed _ _ _ _ (sym (c .before .before .before .before .before .before .before .bad-materials .ensures) ∙ c .before .before .before .before .before .before .if6 .left)
-    (row-passed _ _ _ _ (sym (c .before .before .before .before .before .bad-lighting .ensures) ∙ c .before .before .before .before .if7 .left)
-    (row-passed _ _ _ _ (le-ltb _ _ (rw (c .before .before .before .before .before .before .before .before .before .before .before .before .before .before .before .voxel-count .ensures) at (c .before .before .before .if8 .left)))
-    (row-passed _ _ _ _ (le-ltb _ _ (c .before .before .if9 .left))
-    (row-holds _ _ _ (rw (c .before .before .before .before .before .before .before .before .before .before .before .before .before .before .before .voxel-count .ensures) at (sym (c .before .bad-contents .ensures) ∙ c .if10 .taken)))))))))))
+    row-passed _ _ _ _ (sym (c .before .before .before .before .before .before .before .before .before .before .before .before .before .before .before .before .before .before .before .before .bad-axes .ensures) ∙ c .before .before .before .before .before .before .before .before .before .before .before .before .before .before .before .before .before .before .before .if1 .left)
+    (row-passed _ _ _ _ (sym (c .before .before .before .before .before .before .before .before .before .before .before .before .before .before .before .before .before .before .bad-grid .ensures) ∙ c .before .before .before .before .before .before .before .before .before .before .before .before .before .before .before .before .before .if2 .left)
+    (row-passed _ _ _ _ (lists-row _ _ (c .before .before .before .before .before .before .before .before .before .before .before .before .before .before .before .before .voxel-count .ensures) (c .before .before .before .before .before .before .before .before .before .before .before .before .before .before .before .wrong-scene .ensures) (c .before .before .before .before .before .before .before .before .before .before .before .before .before .before .wrong-lengths .ensures) (c .before .before .before .before .before .before .before .before .before .before .before .before .before .if3 .left))
+    (row-passed _ _ _ _ (sym (c .before .before .before .before .before .before .before .before .before .before .before .before .too-many .ensures) ∙ c .before .before .before .before .before .before .before .before .before .before .before .if4 .left)
+    (row-passed _ _ _ _ (sym (c .before .before .before .before .before .before .before .before .before .before .bad-points .ensures) ∙ c .before .before .before .before .before .before .before .before .before .if5 .left)
+    (row-passed _ _ _ _ (sym (c .before .before .before .before .before .before .before .before .bad-materials .ensures) ∙ c .before .before .before .before .before .before .before .if6 .left)
+    (row-passed _ _ _ _ (sym (c .before .before .before .before .before .before .bad-lighting .ensures) ∙ c .before .before .before .before .before .if7 .left)
+    (row-passed _ _ _ _ (sym (c .before .before .before .before .bad-lamps .ensures) ∙ c .before .before .before .if8 .left)
+    (row-passed _ _ _ _ (le-ltb _ _ (rw (c .before .before .before .before .before .before .before .before .before .before .before .before .before .before .before .before .voxel-count .ensures) at (c .before .before .if9 .left)))
+    (row-holds _ _ _ (lt-ltb _ _ (rw (c .before .voxel-cost .ensures) at (c .if10 .taken))))))))))))
+
+bad-contents-requires : tie.Need-bad-contents-requires
+bad-contents-requires c κs = search needs
 
 returns-11 : tie.Need-returns-11
 unfolding bakeRefusal bakeRows
 returns-11 c =
-    row-passed _ _ _ _ (sym (c .before .before .before .before .before .before .before .before .before .before .before .before .before .before .before .before .before .before .before .bad-axes .ensures) ∙ c .before .before .before .before .before .before .before .before .before .before .before .before .before .before .before .before .before .before .if1 .left)
-    (row-passed _ _ _ _ (sym (c .before .before .before .before .before .before .before .before .before .before .before .before .before .before .before .before .before .bad-grid .ensures) ∙ c .before .before .before .before .before .before .before .before .before .before .before .before .before .before .before .before .if2 .left)
-    (row-passed _ _ _ _ (lists-row _ _ (c .before .before .before .before .before .before .before .before .before .before .before .before .before .before .before .voxel-count .ensures) (c .before .before .before .before .before .before .before .before .before .before .before .before .before .before .wrong-scene .ensures) (c .before .before .before .before .before .before .before .before .before .before .before .before .before .wrong-lengths .ensures) (c .before .before .before .before .before .before .before .before .before .before .before .before .if3 .left))
-    (row-passed _ _ _ _ (sym (c .before .before .before .before .before .before .before .before .before .before .before .too-many .ensures) ∙ c .before .before .before .before .before .before .before .before .before .before .if4 .left)
-    (row-passed _ _ _ _ (sym (c .before .before .before .before .before .before .before .before .before .bad-points .ensures) ∙ c .before .before .before .before .before .before .before .before .if5 .left)
-    (row-passed _ _ _ _ (sym (c .before .before .before .before .before .before .before .bad-materials .ensures) ∙ c .before .before .before .before .before .before .if6 .left)
-    (row-passed _ _ _ _ (sym (c .before .before .before .before .before .bad-lighting .ensures) ∙ c .before .before .before .before .if7 .left)
-    (row-passed _ _ _ _ (le-ltb _ _ (rw (c .before .before .before .before .before .before .before .before .before .before .before .before .before .before .before .voxel-count .ensures) at (c .before .before .before .if8 .left)))
-    (row-passed _ _ _ _ (le-ltb _ _ (c .before .before .if9 .left))
-    (row-passed _ _ _ _ (rw (c .before .before .before .before .before .before .before .before .before .before .before .before .before .before .before .voxel-count .ensures) at (sym (c .before .bad-contents .ensures) ∙ c .if10 .left))
-    rows-passed)))))))))
+    row-passed _ _ _ _ (sym (c .before .before .before .before .before .before .before .before .before .before .before .before .before .before .before .before .before .before .before .before .before .before .bad-axes .ensures) ∙ c .before .before .before .before .before .before .before .before .before .before .before .before .before .before .before .before .before .before .before .before .before .if1 .left)
+    (row-passed _ _ _ _ (sym (c .before .before .before .before .before .before .before .before .before .before .before .before .before .before .before .before .before .before .before .before .bad-grid .ensures) ∙ c .before .before .before .before .before .before .before .before .before .before .before .before .before .before .before .before .before .before .before .if2 .left)
+    (row-passed _ _ _ _ (lists-row _ _ (c .before .before .before .before .before .before .before .before .before .before .before .before .before .before .before .before .before .before .voxel-count .ensures) (c .before .before .before .before .before .before .before .before .before .before .before .before .before .before .before .before .before .wrong-scene .ensures) (c .before .before .before .before .before .before .before .before .before .before .before .before .before .before .before .before .wrong-lengths .ensures) (c .before .before .before .before .before .before .before .before .before .before .before .before .before .before .before .if3 .left))
+    (row-passed _ _ _ _ (sym (c .before .before .before .before .before .before .before .before .before .before .before .before .before .before .too-many .ensures) ∙ c .before .before .before .before .before .before .before .before .before .before .before .before .before .if4 .left)
+    (row-passed _ _ _ _ (sym (c .before .before .before .before .before .before .before .before .before .before .before .before .bad-points .ensures) ∙ c .before .before .before .before .before .before .before .before .before .before .before .if5 .left)
+    (row-passed _ _ _ _ (sym (c .before .before .before .before .before .before .before .before .before .before .bad-materials .ensures) ∙ c .before .before .before .before .before .before .before .before .before .if6 .left)
+    (row-passed _ _ _ _ (sym (c .before .before .before .before .before .before .before .before .bad-lighting .ensures) ∙ c .before .before .before .before .before .before .before .if7 .left)
+    (row-passed _ _ _ _ (sym (c .before .before .before .before .before .before .bad-lamps .ensures) ∙ c .before .before .before .before .before .if8 .left)
+    (row-passed _ _ _ _ (le-ltb _ _ (rw (c .before .before .before .before .before .before .before .before .before .before .before .before .before .before .before .before .before .before .voxel-count .ensures) at (c .before .before .before .before .if9 .left)))
+    (row-passed _ _ _ _ (le-ltb _ _ (rw (c .before .before .before .voxel-cost .ensures) at (c .before .before .if10 .left)))
+    (row-holds _ _ _ (rw (c .before .before .before .before .before .before .before .before .before .before .before .before .before .before .before .before .before .before .voxel-count .ensures) at (sym (c .before .bad-contents .ensures) ∙ c .if11 .taken))))))))))))
+
+returns-12 : tie.Need-returns-12
+unfolding bakeRefusal bakeRows
+returns-12 c =
+    row-passed _ _ _ _ (sym (c .before .before .before .before .before .before .before .before .before .before .before .before .before .before .before .before .before .before .before .before .before .before .bad-axes .ensures) ∙ c .before .before .before .before .before .before .before .before .before .before .before .before .before .before .before .before .before .before .before .before .before .if1 .left)
+    (row-passed _ _ _ _ (sym (c .before .before .before .before .before .before .before .before .before .before .before .before .before .before .before .before .before .before .before .before .bad-grid .ensures) ∙ c .before .before .before .before .before .before .before .before .before .before .before .before .before .before .before .before .before .before .before .if2 .left)
+    (row-passed _ _ _ _ (lists-row _ _ (c .before .before .before .before .before .before .before .before .before .before .before .before .before .before .before .before .before .before .voxel-count .ensures) (c .before .before .before .before .before .before .before .before .before .before .before .before .before .before .before .before .before .wrong-scene .ensures) (c .before .before .before .before .before .before .before .before .before .before .before .before .before .before .before .before .wrong-lengths .ensures) (c .before .before .before .before .before .before .before .before .before .before .before .before .before .before .before .if3 .left))
+    (row-passed _ _ _ _ (sym (c .before .before .before .before .before .before .before .before .before .before .before .before .before .before .too-many .ensures) ∙ c .before .before .before .before .before .before .before .before .before .before .before .before .before .if4 .left)
+    (row-passed _ _ _ _ (sym (c .before .before .before .before .before .before .before .before .before .before .before .before .bad-points .ensures) ∙ c .before .before .before .before .before .before .before .before .before .before .before .if5 .left)
+    (row-passed _ _ _ _ (sym (c .before .before .before .before .before .before .before .before .before .before .bad-materials .ensures) ∙ c .before .before .before .before .before .before .before .before .before .if6 .left)
+    (row-passed _ _ _ _ (sym (c .before .before .before .before .before .before .before .before .bad-lighting .ensures) ∙ c .before .before .before .before .before .before .before .if7 .left)
+    (row-passed _ _ _ _ (sym (c .before .before .before .before .before .before .bad-lamps .ensures) ∙ c .before .before .before .before .before .if8 .left)
+    (row-passed _ _ _ _ (le-ltb _ _ (rw (c .before .before .before .before .before .before .before .before .before .before .before .before .before .before .before .before .before .before .voxel-count .ensures) at (c .before .before .before .before .if9 .left)))
+    (row-passed _ _ _ _ (le-ltb _ _ (rw (c .before .before .before .voxel-cost .ensures) at (c .before .before .if10 .left)))
+    (row-passed _ _ _ _ (rw (c .before .before .before .before .before .before .before .before .before .before .before .before .before .before .before .before .before .before .voxel-count .ensures) at (sym (c .before .bad-contents .ensures) ∙ c .if11 .left))
+    rows-passed))))))))))
 
 pub judge-spec : {M : Type 1} → statement M
 judge-spec =
@@ -172,8 +194,11 @@ judge-spec =
     returns-6
     bad-lighting-requires
     returns-7
+    bad-lamps-requires
     returns-8
     returns-9
-    bad-contents-requires
+    voxel-cost-requires
     returns-10
-    returns-11)
+    bad-contents-requires
+    returns-11
+    returns-12)

@@ -11,19 +11,22 @@ use Rattle.walk.proofs.inner.walk.Statement.{statement}
 use Rattle.walk.proofs.inner.walk.Tie as tie
 
 abbrev Inv-loop : tie.InvT-loop
-Inv-loop axes corners points uses kinds numbers light ambient sky table active lights volume₀ distances₀ places₀ progress allowance i₀ rays₀ volume distances places i rays =
-    SoFar (inputOf axes corners (sceneOf points uses kinds numbers) light ambient sky active lights (length distances₀) (length places₀)) volume₀ distances₀ places₀
+Inv-loop axes corners points uses kinds numbers light ambient sky lamps table active lights volume₀ distances₀ places₀ progress allowance cost i₀ rays₀ volume distances places i rays =
+    SoFar (inputOf axes corners (sceneOf points uses kinds numbers) light ambient sky lamps active lights (length distances₀) (length places₀)) volume₀ distances₀ places₀
     progress allowance volume distances places i rays
 
 abbrev μ-loop : tie.MeasureT-loop
-μ-loop axes corners points uses kinds numbers light ambient sky table active lights volume₀ distances₀ places₀ progress allowance i₀ rays₀ volume distances places i rays =
+μ-loop axes corners points uses kinds numbers light ambient sky lamps table active lights volume₀ distances₀ places₀ progress allowance cost i₀ rays₀ volume distances places i rays =
     length active - i
 
+voxel-cost-requires : tie.Need-voxel-cost-requires Inv-loop μ-loop
+voxel-cost-requires c κs = c .before .before .before .before .before .before .before .before .before .before .before .pre .0 .lamps
+
 loop-holds : tie.Need-loop-holds Inv-loop μ-loop
-loop-holds c = begins (c .before .before .before .before .before .before .before .before .before .before .pre .0)
+loop-holds c = begins (c .before .before .before .before .before .before .before .before .before .before .before .before .pre .0)
 
 add-i : tie.Need-add-i Inv-loop μ-loop
-add-i c = omega (arith, c .before .before .before .before .before .before .before .before .before .before .before .before .pre .0 .active, voxels-most _ (c .before .before .before .before .before .before .before .before .before .before .before .before .pre .0 .axes))
+add-i c = omega (arith, c .before .before .before .before .before .before .before .before .before .before .before .before .before .before .pre .0 .active, voxels-most _ (c .before .before .before .before .before .before .before .before .before .before .before .before .before .before .pre .0 .axes))
 
 shared-slice-read-if1 : tie.Need-shared-slice-read-if1 Inv-loop μ-loop
 shared-slice-read-if1 c = omega arith
@@ -41,21 +44,21 @@ same-length-3 : tie.Need-same-length-3 Inv-loop μ-loop
 same-length-3 c = c .before .before .before .before .loop .inv .places
 
 returns : tie.Need-returns Inv-loop μ-loop
-returns c = stops (c .before .before .before .before .loop .inv) (c .before .before .before .loop-test .taken) (c .before .if1 .taken) (c .if2 .taken)
+returns c = stops (c .before .before .before .before .loop .inv) (c .before .before .before .loop-test .taken) (c .before .if1 .taken) (rw (c .before .before .before .before .before .voxel-cost .ensures) at (c .if2 .taken))
 
 take-requires : tie.Need-take-requires Inv-loop μ-loop
-take-requires c κs = (takeable (c .before .before .before .before .before .before .before .loop .inv) (c .before .before .before .before .before .before .before .before .before .before .before .before .before .before .before .before .before .before .pre .0) refl refl (c .before .before .before .before .before .before .loop-test .taken), c .before .before .before .before .before .before .before .before .before .before .before .before .before .before .before .before .before .before .pre .1)
+take-requires c κs = (takeable (c .before .before .before .before .before .before .before .loop .inv) (c .before .before .before .before .before .before .before .before .before .before .before .before .before .before .before .before .before .before .before .before .pre .0) refl refl (c .before .before .before .before .before .before .loop-test .taken), c .before .before .before .before .before .before .before .before .before .before .before .before .before .before .before .before .before .before .before .before .pre .1)
 
 add-rays : tie.Need-add-rays Inv-loop μ-loop
-add-rays c = omega (arith, fits-rays (c .before .before .before .before .before .before .before .before .before .before .before .before .before .before .loop .inv) (c .before .before .before .before .before .before .take .ensures) (c .before .before .before .before .before .before .before .before .before .before .if2 .left), c .before .before .before .before .before .before .before .before .before .before .before .before .before .before .before .before .before .before .before .before .before .before .before .before .before .fits .allowance)
+add-rays c = omega (arith, fits-rays (c .before .before .before .before .before .before .before .before .before .before .before .before .before .before .loop .inv) (c .before .before .before .before .before .before .take .ensures) (rw (c .before .before .before .before .before .before .before .before .before .before .before .before .before .before .before .voxel-cost .ensures) at (c .before .before .before .before .before .before .before .before .before .before .if2 .left)), c .before .before .before .before .before .before .before .before .before .before .before .before .before .before .before .before .before .before .before .before .before .before .before .before .before .before .before .fits .allowance)
 
 loop-less : tie.Need-loop-less Inv-loop μ-loop
 loop-less c = omega arith
 
 loop-again : tie.Need-loop-again Inv-loop μ-loop
 loop-again c =
-    takes (c .before .before .before .before .before .before .before .before .before .before .before .before .before .before .loop .inv) (c .before .before .before .before .before .before .before .before .before .before .before .before .before .before .before .before .before .before .before .before .before .before .before .before .before .pre .0) (c .before .before .before .before .before .before .before .before .before .before .before .before .before .loop-test .taken) (c .before .before .before .before .before .before .before .before .before .before .before .if1 .taken) (c .before .before .before .before .before .before .before .before .before .before .if2 .left) (c .before .before .before .before .before .before .take .ensures)
-    (c .before .before .before .before .before .before .take .kept .1 .1 .1 .1 .1 .1 .1 .1 .1 .1 .1 .1 .0) (c .before .before .before .before .before .before .take .kept .1 .1 .1 .1 .1 .1 .1 .1 .1 .1 .1 .1 .1 .0)
+    takes (c .before .before .before .before .before .before .before .before .before .before .before .before .before .before .loop .inv) (c .before .before .before .before .before .before .before .before .before .before .before .before .before .before .before .before .before .before .before .before .before .before .before .before .before .before .before .pre .0) (c .before .before .before .before .before .before .before .before .before .before .before .before .before .loop-test .taken) (c .before .before .before .before .before .before .before .before .before .before .before .if1 .taken) (rw (c .before .before .before .before .before .before .before .before .before .before .before .before .before .before .before .voxel-cost .ensures) at (c .before .before .before .before .before .before .before .before .before .before .if2 .left)) (c .before .before .before .before .before .before .take .ensures)
+    (c .before .before .before .before .before .before .take .kept .1 .1 .1 .1 .1 .1 .1 .1 .1 .1 .1 .1 .1 .0) (c .before .before .before .before .before .before .take .kept .1 .1 .1 .1 .1 .1 .1 .1 .1 .1 .1 .1 .1 .1 .0)
 
 loop-less-2 : tie.Need-loop-less-2 Inv-loop μ-loop
 loop-less-2 c = omega arith
@@ -81,6 +84,7 @@ walk-spec =
     (tie.spec
     Inv-loop
     μ-loop
+    voxel-cost-requires
     loop-holds
     add-i
     shared-slice-read-if1
