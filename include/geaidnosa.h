@@ -33,6 +33,7 @@
  *   volume, and its scratch   16·N: the four coefficients of each voxel, x y z w of each in turn
  *   sky         1,728: red, green and blue of direction i of set s from 3·(64·s + i) on
  *   lamps       6 a lamp, none to eight: position x y z, colour RGB; any multiple of 6 is a length
+ *   positions   three a position: x y z                                    answers  one a position for light, sixteen for coefficients
  *   distances, places   hit scratch, each at least T
  * Hit scratch is open after a call that traced rays: the contents are no one's promise. Where a call refuses, or fires no ray, it is as it was.
  */
@@ -145,6 +146,12 @@ typedef struct GeaidnosaPartStart {
     uint32_t refusal;
     size_t start;
 } GeaidnosaPartStart;
+
+/* The place of the position that is refused first, counted from 0; 0 too where no position causes the refusal (1, 2 and 3). */
+typedef struct GeaidnosaFirstRefusal {
+    uint32_t refusal;
+    size_t place;
+} GeaidnosaFirstRefusal;
 
 typedef struct GeaidnosaHead {
     uint32_t refusal;
@@ -289,6 +296,24 @@ uint32_t geaidnosa_voxel_refusal(
     const float *scratch, size_t scratch_length,
     size_t index,
     uint8_t second);
+
+/* The light at each of a list of positions, x y z of each, in answers, one number a position: each the number that geaidnosa_light_at gives there, with
+ * the grid tested once. Refuses 1, 2, 3, and the first of what that call refuses at a position (11, 13), with its place. */
+GeaidnosaFirstRefusal geaidnosa_frame_lights(
+    GeaidnosaAxes axes,
+    GeaidnosaCorners corners,
+    const float *light, size_t light_length,
+    const float *positions, size_t positions_length,
+    float *answers, size_t answers_length);
+
+/* The four coefficients at each of a list of positions, x y z of each, in answers, sixteen numbers a position: those that geaidnosa_coefficients_at gives
+ * there. Refuses 1, 2, 3, and the first of what that call refuses at a position (11, 13), with its place. */
+GeaidnosaFirstRefusal geaidnosa_frame_coefficients(
+    GeaidnosaAxes axes,
+    GeaidnosaCorners corners,
+    const float *volume, size_t volume_length,
+    const float *positions, size_t positions_length,
+    float *answers, size_t answers_length);
 
 /* ---- the volume file */
 

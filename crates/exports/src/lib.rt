@@ -13,9 +13,11 @@ ghost use Rattle.spread.specs.Spread.{stage};
 ghost use Rattle.intake.specs.Intake.{inputOf};
 ghost use Rattle.bake.specs.Baked.{Baked};
 ghost use Rattle.lookup.specs.Lookup.{LightLookedUp, CoefficientsLookedUp, PartJudged};
+ghost use Rattle.frames.specs.Frames.{LightsFramed, CoefficientsFramed};
 ghost use Rattle.volume.specs.Volume.{FileAxes, VolumeBytes, VolumeRead, VolumeWritten, FileFigures};
 ghost use Rattle.exports.specs.Exports.{valuesOf, chosen, MeetTold, NearestTold, PartTold};
 use bake::BakeAnswer;
+use frames::FirstRefusal;
 use grid::Axes;
 use grid::Corners;
 use limits::Ambient;
@@ -272,6 +274,32 @@ pub extern "C" fn geaidnosa_voxel_refusal(
     ensures { λ r. ⌜ PartJudged axes (now (volume .entry)) (now (scratch .entry)) index (chosen second) r ⌝ }
 {
     lookup::voxel_refusal(axes, volume, scratch, index, second != 0)
+}
+
+#[no_mangle]
+pub extern "C" fn geaidnosa_frame_lights(
+    axes: Axes,
+    corners: Corners,
+    light: &[f32],
+    positions: &[f32],
+    answers: &mut [f32],
+) -> FirstRefusal
+    ensures { λ r. ⌜ LightsFramed axes corners (now (light .entry)) (now (positions .entry)) (now (answers .entry)) r (now (answers .exit)) ⌝ }
+{
+    frames::frame_lights(axes, corners, light, positions, answers)
+}
+
+#[no_mangle]
+pub extern "C" fn geaidnosa_frame_coefficients(
+    axes: Axes,
+    corners: Corners,
+    volume: &[f32],
+    positions: &[f32],
+    answers: &mut [f32],
+) -> FirstRefusal
+    ensures { λ r. ⌜ CoefficientsFramed axes corners (now (volume .entry)) (now (positions .entry)) (now (answers .entry)) r (now (answers .exit)) ⌝ }
+{
+    frames::frame_coefficients(axes, corners, volume, positions, answers)
 }
 
 // ---- the volume file

@@ -1,0 +1,5 @@
+-- A camera frame: the lookups at each of a list of positions.
+pub mod Frames
+pub mod FramesLaws
+pub mod FramesFigures
+pub mod Passes

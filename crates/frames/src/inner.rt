@@ -1,0 +1,281 @@
+// The two passes of a frame. The first reads every position and writes nothing; the second, where nothing was refused, fills the answers.
+ghost use mathlib.Core.Path.{_≡_};
+ghost use mathlib.Core.Bool.{true, false, _||_};
+ghost use mathlib.Core.List.{_++_};
+ghost use Prim.Native.Nat.{_+_, _*_, _<_, _≤_};
+ghost use lib.ListN.{length, take};
+ghost use Rattle.names.specs.Refusals.{firstOf};
+ghost use Rattle.grid.specs.Grid.{AxesWithin, voxels};
+ghost use Rattle.limits.specs.Limits.{wrongLength, badLights, badCoefficients};
+ghost use Rattle.lookup.specs.Place.{cellsOf};
+ghost use Rattle.lookup.specs.Lookup.{lightRefusal, lightBlend, coefficientRefusal};
+ghost use Rattle.frames.specs.Frames.{frameRows, positionCount, positionAt, wrongFrame, leastRefused, lightRefusalAt, lightFrameRefusal, lightFrameOf, coefficientRefusalAt, coefficientFrameRefusal, coefficientFrameOf};
+ghost use Rattle.frames.specs.Passes.{LightGridGood, LightsAccepted, CoefficientGridGood, CoefficientsAccepted};
+use super::FirstRefusal;
+use grid::Axes;
+use grid::Corners;
+use vectors::Vec3;
+
+// ---- light
+
+// The first refusal of a frame of lights.
+pub fn light_refusal(
+    axes: Axes,
+    corners: Corners,
+    light: &[f32],
+    positions: &[f32],
+    answers: usize,
+) -> FirstRefusal
+    ensures { λ r. ⌜ r ≡ lightFrameRefusal axes corners (now (light .entry)) (now (positions .entry)) answers ⌝ }
+{
+    let refusal = rows_refusal(1, axes, corners, light.len(), positions.len(), answers);
+    if refusal != 0 {
+        return FirstRefusal { refusal, place: 0 };
+    }
+    let clear = lights_clear(light, positions.len() / 3);
+    first_bad_light(axes, corners, light, positions, clear)
+}
+
+// Whether every light of the list was read and none is refused. The list is read where that costs less than to find the cells around each position:
+// measured, from one position for 64 lights on.
+fn lights_clear(light: &[f32], count: usize) -> bool
+    ensures { λ r. ⌜ (r ≡ true → badLights (now (light .entry)) ≡ false) ⌝ }
+{
+    if light.len() / 64 <= count {
+        return !limits::inner::bad_lights(light);
+    }
+    false
+}
+
+// The first position that the single lookup refuses.
+fn first_bad_light(
+    axes: Axes,
+    corners: Corners,
+    light: &[f32],
+    positions: &[f32],
+    clear: bool,
+) -> FirstRefusal
+    requires { ⌜ LightGridGood axes corners (now light) clear ⌝ }
+    ensures { λ r. ⌜ r ≡ leastRefused (lightRefusalAt axes corners (now (light .entry)) (now (positions .entry))) (positionCount (length (now (positions .entry)))) 0 ⌝ }
+{
+    let count = positions.len() / 3;
+    let mut k = 0;
+    while k < count {
+        let refusal = bad_light_at(axes, corners, light, position(positions, k), clear);
+        if refusal != 0 {
+            return FirstRefusal { refusal, place: k };
+        }
+        k += 1;
+    }
+    FirstRefusal {
+        refusal: 0,
+        place: 0,
+    }
+}
+
+// What the single lookup refuses at a position of a good grid: 11, 13 or 0. Where all lights are good the cells need not be looked for.
+fn bad_light_at(axes: Axes, corners: Corners, light: &[f32], p: Vec3, clear: bool) -> u32
+    requires { ⌜ LightGridGood axes corners (now light) clear ⌝ }
+    ensures { λ r. ⌜ r ≡ lightRefusal axes corners (now (light .entry)) p ⌝ }
+{
+    if limits::inner::bad_position(p) {
+        return 11;
+    }
+    if clear {
+        return 0;
+    }
+    if lookup::inner::bad_light_cells(light, lookup::inner::cells(axes, corners, p)) {
+        return 13;
+    }
+    0
+}
+
+// The light at each position, none of which is refused.
+pub fn fill_lights(
+    axes: Axes,
+    corners: Corners,
+    light: &[f32],
+    positions: &[f32],
+    answers: &mut [f32],
+)
+    requires { ⌜ LightsAccepted axes corners (now light) (now positions) (length (now answers)) ⌝ }
+    ensures { λ r. ⌜ now (answers .exit) ≡ lightFrameOf axes corners (now (light .entry)) (now (positions .entry)) ⌝ }
+{
+    let mut k = 0;
+    while k < answers.len() {
+        answers[k] = light_between(axes, corners, light, position(positions, k));
+        k += 1;
+    }
+}
+
+fn light_between(axes: Axes, corners: Corners, light: &[f32], p: Vec3) -> f32
+    requires { ⌜ AxesWithin axes × (length (now light) ≡ voxels axes) ⌝ }
+    ensures { λ r. ⌜ r ≡ lightBlend (now (light .entry)) (cellsOf axes corners p) ⌝ }
+{
+    lookup::inner::blended(light, 1, 0, lookup::inner::cells(axes, corners, p))
+}
+
+// ---- the four coefficients
+
+// The first refusal of a frame of coefficients.
+pub fn coefficient_refusal(
+    axes: Axes,
+    corners: Corners,
+    volume: &[f32],
+    positions: &[f32],
+    answers: usize,
+) -> FirstRefusal
+    ensures { λ r. ⌜ r ≡ coefficientFrameRefusal axes corners (now (volume .entry)) (now (positions .entry)) answers ⌝ }
+{
+    let refusal = rows_refusal(16, axes, corners, volume.len(), positions.len(), answers);
+    if refusal != 0 {
+        return FirstRefusal { refusal, place: 0 };
+    }
+    let clear = coefficients_clear(volume, positions.len() / 3);
+    first_bad_coefficient(axes, corners, volume, positions, clear)
+}
+
+// Whether every number of the volume was read and none is refused. It is read where it is no longer than what the cells around each position hold.
+fn coefficients_clear(volume: &[f32], count: usize) -> bool
+    ensures { λ r. ⌜ (r ≡ true → badCoefficients (now (volume .entry)) ≡ false) ⌝ }
+{
+    if volume.len() / 128 <= count {
+        return !limits::inner::bad_coefficients(volume);
+    }
+    false
+}
+
+// The first position that the single lookup refuses.
+fn first_bad_coefficient(
+    axes: Axes,
+    corners: Corners,
+    volume: &[f32],
+    positions: &[f32],
+    clear: bool,
+) -> FirstRefusal
+    requires { ⌜ CoefficientGridGood axes corners (now volume) clear ⌝ }
+    ensures { λ r. ⌜ r ≡ leastRefused (coefficientRefusalAt axes corners (now (volume .entry)) (now (positions .entry))) (positionCount (length (now (positions .entry)))) 0 ⌝ }
+{
+    let count = positions.len() / 3;
+    let mut k = 0;
+    while k < count {
+        let number = bad_coefficient_at(axes, corners, volume, position(positions, k), clear);
+        if number != 0 {
+            return FirstRefusal {
+                refusal: number,
+                place: k,
+            };
+        }
+        k += 1;
+    }
+    FirstRefusal {
+        refusal: 0,
+        place: 0,
+    }
+}
+
+// What the single lookup refuses at a position of a good grid: 11, 13 or 0. Where all numbers are good the cells need not be looked for.
+fn bad_coefficient_at(axes: Axes, corners: Corners, volume: &[f32], p: Vec3, clear: bool) -> u32
+    requires { ⌜ CoefficientGridGood axes corners (now volume) clear ⌝ }
+    ensures { λ r. ⌜ r ≡ coefficientRefusal axes corners (now (volume .entry)) p ⌝ }
+{
+    if limits::inner::bad_position(p) {
+        return 11;
+    }
+    if clear {
+        return 0;
+    }
+    if lookup::inner::bad_volume_cells(volume, lookup::inner::cells(axes, corners, p)) {
+        return 13;
+    }
+    0
+}
+
+// The sixteen numbers at each position, none of which is refused.
+pub fn fill_coefficients(
+    axes: Axes,
+    corners: Corners,
+    volume: &[f32],
+    positions: &[f32],
+    answers: &mut [f32],
+)
+    requires { ⌜ CoefficientsAccepted axes corners (now volume) (now positions) (length (now answers)) ⌝ }
+    ensures { λ r. ⌜ now (answers .exit) ≡ coefficientFrameOf axes corners (now (volume .entry)) (now (positions .entry)) ⌝ }
+{
+    let count = positions.len() / 3;
+    let mut k = 0;
+    while k < count {
+        let c = lookup::inner::cells(axes, corners, position(positions, k));
+        let numbers = lookup::inner::coefficients_blended(volume, c);
+        let at = k * 16;
+        k += 1;
+        put(&numbers, answers, at);
+    }
+}
+
+// Sixteen numbers, from the place at on.
+fn put(numbers: &[f32], answers: &mut [f32], at: usize)
+    requires { ⌜ (length (now numbers) ≡ 16) × (at + 16 ≤ length (now answers)) ⌝ }
+    ensures { λ r. ⌜ take (at + 16) (now (answers .exit)) ≡ take at (now (answers .entry)) ++ now (numbers .entry) ⌝ }
+{
+    let mut i = 0;
+    while i < 16 {
+        answers[at + i] = numbers[i];
+        i += 1;
+    }
+}
+
+// ---- shared by both
+
+// The refusal of the rows that concern no position, of lists that have `each` numbers a voxel and a position.
+fn rows_refusal(
+    each: usize,
+    axes: Axes,
+    corners: Corners,
+    list: usize,
+    positions: usize,
+    answers: usize,
+) -> u32
+    requires { ⌜ (0 < each) × (each ≤ 16) ⌝ }
+    ensures { λ r. ⌜ r ≡ firstOf (frameRows each axes corners list positions answers) ⌝ }
+{
+    if limits::inner::bad_axes(axes) {
+        return 1;
+    }
+    if limits::inner::bad_grid(corners, axes) {
+        return 2;
+    }
+    if wrong_lists(each, axes, list, positions, answers) {
+        return 3;
+    }
+    0
+}
+
+// Whether the list has not `each` numbers a voxel, or the positions and the answers do not fit.
+fn wrong_lists(each: usize, axes: Axes, list: usize, positions: usize, answers: usize) -> bool
+    requires { ⌜ AxesWithin axes × (0 < each) × (each ≤ 16) ⌝ }
+    ensures { λ r. ⌜ r ≡ wrongLength list (voxels axes * each) || wrongFrame each positions answers ⌝ }
+{
+    let n = grid::inner::voxel_count(axes) * each;
+    (list != n) | wrong_frame(each, positions, answers)
+}
+
+// Whether the positions are no multiple of three, or the answers not exactly `each` for every position.
+fn wrong_frame(each: usize, positions: usize, answers: usize) -> bool
+    requires { ⌜ 0 < each ⌝ }
+    ensures { λ r. ⌜ r ≡ wrongFrame each positions answers ⌝ }
+{
+    (positions % 3 != 0) | limits::inner::wrong_share(each, answers, positions / 3)
+}
+
+// The position at place k.
+fn position(positions: &[f32], k: usize) -> Vec3
+    requires { ⌜ k * 3 + 2 < length (now positions) ⌝ }
+    ensures { λ r. ⌜ r ≡ positionAt (now (positions .entry)) k ⌝ }
+{
+    Vec3 {
+        x: positions[k * 3],
+        y: positions[k * 3 + 1],
+        z: positions[k * 3 + 2],
+    }
+}
