@@ -47,14 +47,14 @@ negative nan = false
 negative (inf s) = s
 negative (fin s m e) = s
 
-in-units : (x : Float) → T (fits binary32 x) → T (finite x) → InUnits (2 ^ 149) x
-in-units x h f = record { negative = negative x; size = units x; exact = exact x h f }
-  where
-    exact : (x : Float) → T (fits binary32 x) → T (finite x) → HasValue x (negative x) (units x) (2 ^ 149)
-    unfolding units negative
-    exact nan h f = absurd f
-    exact (inf s) h f = absurd f
-    exact (fin s m e) h f = count-exact s m e h
+exact-units : (x : Float) → T (fits binary32 x) → T (finite x) → HasValue x (negative x) (units x) (2 ^ 149)
+unfolding units negative
+exact-units nan h f = absurd f
+exact-units (inf s) h f = absurd f
+exact-units (fin s m e) h f = count-exact s m e h
+
+abbrev counted : (x : Float) → T (fits binary32 x) → T (finite x) → InUnits (2 ^ 149) x
+counted x h f = record { negative = negative x; size = units x; exact = exact-units x h f }
 
 abbrev near : ℕ → ℕ → ℕ → Bool
 near d a b = both (leb b (a + d)) (leb a (b + d))
@@ -87,7 +87,6 @@ height-of k false size t = near-of (2 ^ 129) (size + k * 2 ^ 144) (2 ^ 149) t
 height-of k true size t = near-of (2 ^ 129) (k * 2 ^ 144) (2 ^ 149 + size) t
 
 ruled-of : (k : ℕ) (x y z : Float) → T (fits binary32 x) → T (fits binary32 y) → T (fits binary32 z) → T (ruled k x y z) → Ruled k x y z
-unfolding in-units
 ruled-of k x y z a b c t =
     let F = both (finite x) (both (finite y) (finite z)) in
     let L = near (2 ^ 278) (long x y z) (2 ^ 298) in
@@ -96,9 +95,9 @@ ruled-of k x y z a b c t =
     let g = both-right (finite x) (both (finite y) (finite z)) f in
     let u = both-right F (both L H) t in
     record {
-      in-x = in-units x a (both-left (finite x) (both (finite y) (finite z)) f);
-      in-y = in-units y b (both-left (finite y) (finite z) g);
-      in-z = in-units z c (both-right (finite y) (finite z) g);
+      in-x = counted x a (both-left (finite x) (both (finite y) (finite z)) f);
+      in-y = counted y b (both-left (finite y) (finite z) g);
+      in-z = counted z c (both-right (finite y) (finite z) g);
       length = near-of (2 ^ 278) (long x y z) (2 ^ 298) (both-left L H u);
       height = height-of k (negative z) (units z) (both-right L H u);
     }

@@ -33,7 +33,8 @@ abbrev pub onward : Bool → Float → Float → Bool
 onward true x z = le x z
 onward false x z = le z x
 
--- y is an f32 and a whole number, and its sign is s. Down, y is the largest whole number not above x, and up, the smallest not below it: of the f32s and of all others.
+-- y is an f32 and a whole number, of the sign s. Where `u` is false it is not above x, and no whole number that is not above x is larger;
+-- where true it is not below x, and none that is not below x is smaller: of all whole numbers, f32s or not.
 pub record FirstWhole (u s : Bool) (x y : Float) : Type 0 where
   pub single : T (fits binary32 y)
   pub whole : InUnits 1 y
