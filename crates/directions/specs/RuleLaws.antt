@@ -1,4 +1,5 @@
--- The table keeps module 2's rule at every entry: one test, computed over all 576 of them, and a lemma that gives the rule at each.
+-- The table keeps module 2's rule at every entry: one test, computed over all 576 of them, and a lemma that gives the rule at each. The test counts units by
+-- the floats' `count`, which is exact for every f32.
 -- And what callers cite of it: the table's length, and a bound of every component.
 use mathlib.Core.Path.{_≡_, refl, subst}
 use mathlib.Core.Bool.{Bool, true, false}
@@ -8,10 +9,16 @@ use native.Mathlib.Nat.{add-zero, mul-le-mul, lt-of-le-of-lt}
 use native.Mathlib.Omega.{arith}
 use lib.Dec.{T, leb, leb→le, lit<}
 use lib.ListN.{length, getD}
-use lib.Ieee.{Float, nan, binary32, ofBits, ofFields, odd}
+use lib.Ieee.{Float, nan, inf, fin, binary32, fits, ofBits, ofFields, odd}
+use lib.Ieee.Bits.{ofBits-fits}
+use lib.Ieee.Exact.{HasValue}
+use lib.Ieee.Scale.{finite}
 use lib.Count.{trailingZeros}
+use Rattle.floats.specs.Units.{InUnits}
+use Rattle.floats.specs.Root.{count}
+use Rattle.floats.specs.RootLaws.Units.{count-exact}
 use Rattle.directions.specs.Table.{patterns, directions}
-use Rattle.directions.specs.Rule.{Close, Ruled, unitsOf, isFinite, isNegative, squaredLength, twoAnd, stepOf}
+use Rattle.directions.specs.Rule.{Close, AtHeight, Ruled, stepOf}
 use Rattle.directions.specs.Triples.{both, both-left, both-right, every3, at, getD-map}
 
 pub patterns-length : length patterns ≡ 1728
@@ -29,15 +36,38 @@ number-at n h = getD-map (ofBits binary32) patterns n 0 nan (omega (arith, patte
 
 -- ---- the rule as a test
 
+-- a number's units and its sign
+units : Float → ℕ
+units nan = 0
+units (inf s) = 0
+units (fin s m e) = count m e
+
+negative : Float → Bool
+negative nan = false
+negative (inf s) = s
+negative (fin s m e) = s
+
+exact-units : (x : Float) → T (fits binary32 x) → T (finite x) → HasValue x (negative x) (units x) (2 ^ 149)
+unfolding units negative
+exact-units nan h f = absurd f
+exact-units (inf s) h f = absurd f
+exact-units (fin s m e) h f = count-exact s m e h
+
+abbrev counted : (x : Float) → T (fits binary32 x) → T (finite x) → InUnits (2 ^ 149) x
+counted x h f = record { negative = negative x; size = units x; exact = exact-units x h f }
+
 abbrev near : ℕ → ℕ → ℕ → Bool
 near d a b = both (leb b (a + d)) (leb a (b + d))
 
-abbrev finite : Float → Float → Float → Bool
-finite x y z = both (isFinite x) (both (isFinite y) (isFinite z))
+abbrev high : ℕ → Bool → ℕ → Bool
+high k false size = near (2 ^ 129) (size + k * 2 ^ 144) (2 ^ 149)
+high k true size = near (2 ^ 129) (k * 2 ^ 144) (2 ^ 149 + size)
+
+abbrev long : Float → Float → Float → ℕ
+long x y z = units x * units x + units y * units y + units z * units z
 
 abbrev ruled : ℕ → Float → Float → Float → Bool
-ruled k x y z =
-    both (finite x y z) (both (near (2 ^ 278) (squaredLength x y z) (2 ^ 298)) (near (2 ^ 129) (twoAnd z) ((96 - k) * 2 ^ 144)))
+ruled k x y z = both (both (finite x) (both (finite y) (finite z))) (both (near (2 ^ 278) (long x y z) (2 ^ 298)) (high k (negative z) (units z)))
 
 -- at triple n of the table: entry n % 64 of set n / 64
 abbrev right : ℕ → ℕ → ℕ → ℕ → Bool
@@ -45,25 +75,32 @@ right n x y z = ruled (stepOf (n / 64) (n % 64)) (ofBits binary32 x) (ofBits bin
 
 -- the one test over the whole table, computed
 passed : T (every3 right 0 patterns)
-unfolding patterns ofBits ofFields odd trailingZeros unitsOf isFinite isNegative squaredLength twoAnd
+unfolding patterns ofBits ofFields odd trailingZeros count units negative
 passed = tt
-
-holds : (b : Bool) → T b → b ≡ true
-holds true t = refl
-holds false t = absurd t
 
 near-of : (d a b : ℕ) → T (near d a b) → Close d a b
 near-of d a b t =
     record { low = leb→le _ _ (both-left (leb b (a + d)) (leb a (b + d)) t); high = leb→le _ _ (both-right (leb b (a + d)) (leb a (b + d)) t) }
 
-ruled-of : (k : ℕ) (x y z : Float) → T (ruled k x y z) → Ruled k x y z
-ruled-of k x y z t =
-    let A = near (2 ^ 278) (squaredLength x y z) (2 ^ 298) in
-    let B = near (2 ^ 129) (twoAnd z) ((96 - k) * 2 ^ 144) in
-    let f = both-left (finite x y z) (both A B) t in
-    let g = both-right (isFinite x) (both (isFinite y) (isFinite z)) f in
-    let u = both-right (finite x y z) (both A B) t in
-    record { finite-x = holds _ (both-left (isFinite x) (both (isFinite y) (isFinite z)) f); finite-y = holds _ (both-left (isFinite y) (isFinite z) g); finite-z = holds _ (both-right (isFinite y) (isFinite z) g); length = near-of (2 ^ 278) (squaredLength x y z) (2 ^ 298) (both-left A B u); height = near-of (2 ^ 129) (twoAnd z) ((96 - k) * 2 ^ 144) (both-right A B u) }
+height-of : (k : ℕ) (n : Bool) (size : ℕ) → T (high k n size) → AtHeight k n size
+height-of k false size t = near-of (2 ^ 129) (size + k * 2 ^ 144) (2 ^ 149) t
+height-of k true size t = near-of (2 ^ 129) (k * 2 ^ 144) (2 ^ 149 + size) t
+
+ruled-of : (k : ℕ) (x y z : Float) → T (fits binary32 x) → T (fits binary32 y) → T (fits binary32 z) → T (ruled k x y z) → Ruled k x y z
+ruled-of k x y z a b c t =
+    let F = both (finite x) (both (finite y) (finite z)) in
+    let L = near (2 ^ 278) (long x y z) (2 ^ 298) in
+    let H = high k (negative z) (units z) in
+    let f = both-left F (both L H) t in
+    let g = both-right (finite x) (both (finite y) (finite z)) f in
+    let u = both-right F (both L H) t in
+    record {
+      in-x = counted x a (both-left (finite x) (both (finite y) (finite z)) f);
+      in-y = counted y b (both-left (finite y) (finite z) g);
+      in-z = counted z c (both-right (finite y) (finite z) g);
+      length = near-of (2 ^ 278) (long x y z) (2 ^ 298) (both-left L H u);
+      height = height-of k (negative z) (units z) (both-right L H u);
+    }
 
 -- ---- what the table is
 
@@ -76,7 +113,7 @@ rule s i hs hi =
     let f : n % 64 ≡ i = omega arith in
     let h : n * 3 + 2 < length patterns = omega (arith, patterns-length) in
     rw (number-at (n * 3) (omega arith), number-at (n * 3 + 1) (omega arith), number-at (n * 3 + 2) (omega arith))
-    (ruled-of (stepOf s i) _ _ _
+    (ruled-of (stepOf s i) _ _ _ (ofBits-fits binary32 (getD patterns (n * 3) 0)) (ofBits-fits binary32 (getD patterns (n * 3 + 1) 0)) (ofBits-fits binary32 (getD patterns (n * 3 + 2) 0))
     (subst (λ (m : ℕ). T (ruled (stepOf m i) (ofBits binary32 (getD patterns (n * 3) 0)) (ofBits binary32 (getD patterns (n * 3 + 1) 0)) (ofBits binary32 (getD patterns (n * 3 + 2) 0)))) e
     (subst (λ (m : ℕ). T (ruled (stepOf (n / 64) m) (ofBits binary32 (getD patterns (n * 3) 0)) (ofBits binary32 (getD patterns (n * 3 + 1) 0)) (ofBits binary32 (getD patterns (n * 3 + 2) 0)))) f
     (at right patterns passed n h))))
@@ -89,10 +126,10 @@ root-below a b h = go (decLt a b)
     go (yes p) = p
     go (no q) = absurd (omega (arith, mul-le-mul {n₁ = b} {m₁ = b} {n₂ = a} {m₂ = a} (omega arith) (omega arith)))
 
--- each number of a ruled triple is finite and below 1 + 2^-21 in magnitude: its square is at most the squared length
+-- each number of a ruled triple is below 1 + 2^-21 in magnitude: its square is at most the squared length
 pub record Small (x : Float) : Type 0 where
-  pub finite : isFinite x ≡ true
-  pub below : unitsOf x < 2 ^ 149 + 2 ^ 128
+  pub in-units : InUnits (2 ^ 149) x
+  pub below : in-units .size < 2 ^ 149 + 2 ^ 128
 
 parts : (a b c t : ℕ) → a + b + c ≤ t → (a ≤ t) × (b ≤ t) × (c ≤ t)
 parts a b c t h = (omega arith, omega arith, omega arith)
@@ -101,10 +138,12 @@ small : (a : ℕ) → a * a ≤ 2 ^ 298 + 2 ^ 278 → a < 2 ^ 149 + 2 ^ 128
 small a h = root-below a (2 ^ 149 + 2 ^ 128) (lt-of-le-of-lt h (lit< tt))
 
 pub ruled-small : (k : ℕ) (x y z : Float) → Ruled k x y z → Small x × Small y × Small z
-unfolding squaredLength
 ruled-small k x y z r =
-    let p = parts (unitsOf x * unitsOf x) (unitsOf y * unitsOf y) (unitsOf z * unitsOf z) (2 ^ 298 + 2 ^ 278) (r .length .high) in
-    (record { finite = r .finite-x; below = small (unitsOf x) (p .0) }, record { finite = r .finite-y; below = small (unitsOf y) (p .1) }, record { finite = r .finite-z; below = small (unitsOf z) (p .2) })
+    let a = r .in-x .size in
+    let b = r .in-y .size in
+    let c = r .in-z .size in
+    let p = parts (a * a) (b * b) (c * c) (2 ^ 298 + 2 ^ 278) (r .length .high) in
+    (record { in-units = r .in-x; below = small a (p .0) }, record { in-units = r .in-y; below = small b (p .1) }, record { in-units = r .in-z; below = small c (p .2) })
 
 -- so every number of the table is
 pub number-small : (s i c : ℕ) → s < 9 → i < 64 → c < 3 → Small (getD directions ((64 * s + i) * 3 + c) nan)

@@ -3,13 +3,13 @@ use mathlib.Core.Path.{_≡_, refl, sym, ap, _∙_, subst}
 use Prim.Native.Nat.{ℕ, zero, suc, _+_, _/_, _%_, _^_, _≤_, _<_}
 use mathlib.Core.Bool.{Bool, true, false, not, cond, _||_}
 use native.Mathlib.Nat.{mod-lt, mod-mod}
-use lib.Dec.{T, leb, ltb, eqb, lit<, lt→ltb}
+use lib.Dec.{T, leb, eqb, lit<}
 use lib.Arith.{lt→nleb, le→nltb}
 use lib.Bits.{bitAnd, and-mask}
 use lib.Pow.{mod-mod-pow}
 use lib.Ieee.{Float, nan, inf, fin, binary32, isNan, ne, lt, ofBits, toBits, div, fits, ofFields, odd, nanBits}
 use lib.Ieee.Compare.{differs-from-itself}
-use lib.Ieee.Bits.{ofBits-toBits, is-false, is-true, nanBits-is, nanBits-above}
+use lib.Ieee.Bits.{ofBits-toBits, is-false, nanBits-is, nanBits-above}
 use Rattle.floats.specs.Choice.{magnitudeOf, largerOf, smallerOf}
 
 pub no-number : nan ≡ div binary32 (ofBits binary32 0) (ofBits binary32 0)
@@ -99,20 +99,6 @@ pub nan-magnitude : (x : Float) → ne x x ≡ true → nan ≡ magnitudeOf x
 unfolding magnitudeOf
 nan-magnitude x h = sym (ap magnitudeOf (is-nan x h))
 
--- ---- on patterns: the one that `toBits` writes of a NaN, and which ones are a NaN's
-nan-of : (x : Float) → isNan x ≡ true → x ≡ nan
-unfolding isNan
-nan-of nan h = refl
-nan-of (inf s) h = absurd (subst T (sym h) tt)
-nan-of (fin s m e) h = absurd (subst T (sym h) tt)
-
-pub nan-written : toBits binary32 nan ≡ 2143289344
-unfolding toBits
-nan-written = refl
-
--- past the infinity's pattern, sign apart
-pub nan-pattern : (b : ℕ) → 2139095040 < b % 2 ^ 31 → ofBits binary32 b ≡ nan
-nan-pattern b h = nan-of (ofBits binary32 b) (sym (nanBits-is binary32 b) ∙ nanBits-above binary32 b ∙ is-true (ltb 2139095040 (b % 2 ^ 31)) (lt→ltb 2139095040 (b % 2 ^ 31) h))
-
+-- ---- a pattern that is no NaN's
 pub number-pattern : (b : ℕ) → b % 2 ^ 31 ≤ 2139095040 → T (not (nanBits binary32 b))
 number-pattern b h = subst (λ (z : Bool). T (not z)) (sym (nanBits-above binary32 b)) (le→nltb 2139095040 (b % 2 ^ 31) h)

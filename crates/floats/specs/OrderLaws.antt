@@ -1,16 +1,17 @@
 -- The order of floats, as IEEE 754's comparisons have it: `lt` is a strict order of all that is not NaN, infinities included, and tells any two unequal ones apart.
--- Beside NaN every comparison is false, so that what only leads from one `lt` to another holds of NaN too. Assumes nothing.
+-- Beside NaN every comparison is false, so that what only leads from one `lt` to another holds of NaN too. And `lt` goes by the exact values. Assumes nothing.
 use mathlib.Core.Path.{_≡_, refl, sym, ap, _∙_}
 use mathlib.Core.Logic.{_⊎_, inl, inr}
 use Prim.Native.Nat.{ℕ, _+_, _*_, _<_}
 use mathlib.Core.Bool.{Bool, true, false, _&&_, _||_, Bool·beq, false≢true}
-use native.Mathlib.Nat.{mul-right-comm, add-mul, zero-mul, mul-lt-mul-of-pos-right, lt-of-mul-lt-mul-right}
+use native.Mathlib.Nat.{mul-comm, mul-right-comm, mul-mul-mul-comm, mul-pos, add-mul, zero-mul, mul-lt-mul-of-pos-right, lt-of-mul-lt-mul-right}
 use native.Mathlib.Omega.{arith}
 use lib.IntN.{ℤ}
 use lib.Dec.{ltb, eqb}
 use borrow.Author.Tests.{ltb-true, ltb-false, lt-ltb, le-ltb, eq-eqb, eqb-true}
 use lib.Ieee.{Float, nan, inf, fin, up, down, below, level, lt, eq, le, isNan}
 use lib.Ieee.Fits.{down-pos}
+use lib.Ieee.Exact.{HasValue}
 
 -- ---- signed whole numbers
 
@@ -310,3 +311,25 @@ le-lt-transitive x y z h k = go (lt x z) refl
     go false e =
         let p = le-numbers x y h in
         absurd (false≢true (sym (lt-negatively-transitive y x z (p .0) (le-not-lt x y h) e) ∙ k))
+
+-- ---- by exact values
+
+-- numbers that are a / c and b / d in size compare as a * d and b * c do
+pub lt-values : (x y : Float) (s t : Bool) (a c b d : ℕ) → 0 < c → 0 < d → HasValue x s a c → HasValue y t b d → lt x y ≡ below s (a * d) t (b * c)
+unfolding lt
+lt-values nan y s t a c b d C D v w = absurd v
+lt-values (inf p) y s t a c b d C D v w = absurd v
+lt-values (fin p m e) nan s t a c b d C D v w = absurd w
+lt-values (fin p m e) (inf q) s t a c b d C D v w = absurd w
+lt-values (fin p m e) (fin q n g) s t a c b d C D v w =
+    let X = m * up e in
+    let Y = n * up g in
+    let E = down e in
+    let G = down g in
+    let left : X * G * (c * d) ≡ a * d * (E * G) = mul-mul-mul-comm X G c d ∙ ap (λ (z : ℕ). z * (G * d)) (v .1) ∙ ap (λ (z : ℕ). a * E * z) (mul-comm G d) ∙ mul-mul-mul-comm a E d G in
+    let right : Y * E * (c * d) ≡ b * c * (E * G) =
+    ap (λ (z : ℕ). Y * E * z) (mul-comm c d) ∙ mul-mul-mul-comm Y E d c ∙ ap (λ (z : ℕ). z * (E * c)) (w .1) ∙ ap (λ (z : ℕ). b * G * z) (mul-comm E c) ∙ mul-mul-mul-comm b G c E ∙ ap (λ (z : ℕ). b * c * z) (mul-comm G E) in
+    sym (below-scaled p (X * G) q (Y * E) (c * d) (mul-pos C D))
+    ∙ ap (λ (z : ℕ). below p z q (Y * E * (c * d))) left ∙ ap (λ (z : ℕ). below p (a * d * (E * G)) q z) right
+    ∙ below-scaled p (a * d) q (b * c) (E * G) (mul-pos (down-pos e) (down-pos g))
+    ∙ ap (λ (z : Bool). below z (a * d) q (b * c)) (v .0) ∙ ap (λ (z : Bool). below s (a * d) z (b * c)) (w .0)

@@ -1,10 +1,12 @@
--- Floor and ceiling, as IEEE 754's roundToIntegralTowardNegative and roundToIntegralTowardPositive; and a number as an integer. Definitions only.
+-- Floor and ceiling, as IEEE 754's roundToIntegralTowardNegative and roundToIntegralTowardPositive; and a number as an integer.
+-- Definitions only: specs/FloorLaws.antt and specs/WholeLaws.antt say what they mean.
 use mathlib.Core.Path.{_≡_}
 use Prim.Native.Nat.{ℕ, _+_, _*_, _/_, _%_}
 use mathlib.Core.Bool.{Bool, true, false, cond}
-use lib.Dec.{eqb}
-use lib.Ieee.{Float, nan, inf, fin, up, down, unlike, binary32, round, lt}
+use lib.Dec.{T, eqb}
+use lib.Ieee.{Float, nan, inf, fin, up, down, unlike, binary32, fits, round, lt, le}
 use Rattle.names.specs.Bits.{lit, zero32}
+use Rattle.floats.specs.Units.{InUnits}
 
 -- The whole number next to a / c: the whole part, or where `away` is true and a / c is not whole, one more
 unfoldable pub step : Bool → ℕ → ℕ → ℕ
@@ -23,6 +25,36 @@ floorOf x = toward false x
 
 abbrev pub ceilingOf : Float → Float
 ceilingOf x = toward true x
+
+-- ---- what floor and ceiling are, as IEEE 754 says it: the relation that `toward` meets, and that no other f32 meets
+
+-- z is x or lies further on: not below x where `u` is true, and not above it where not
+abbrev pub onward : Bool → Float → Float → Bool
+onward true x z = le x z
+onward false x z = le z x
+
+-- y is an f32 and a whole number, of the sign s. Where `u` is false it is not above x, and no whole number that is not above x is larger;
+-- where true it is not below x, and none that is not below x is smaller: of all whole numbers, f32s or not.
+pub record FirstWhole (u s : Bool) (x y : Float) : Type 0 where
+  pub single : T (fits binary32 y)
+  pub whole : InUnits 1 y
+  pub sign : whole .negative ≡ s
+  pub on : onward u x y ≡ true
+  pub first : (z : Float) → InUnits 1 z → onward u x z ≡ true → onward u y z ≡ true
+
+-- y is that number, with x's own sign; NaN gives NaN, and an infinity itself
+unfoldable pub WholeFrom : Bool → Float → Float → Type 0
+WholeFrom u nan y = y ≡ nan
+WholeFrom u (inf s) y = y ≡ inf s
+WholeFrom u (fin s m e) y = FirstWhole u s (fin s m e) y
+
+-- y is the floor of x
+abbrev pub FloorOf : Float → Float → Type 0
+FloorOf x y = WholeFrom false x y
+
+-- y is the ceiling of x
+abbrev pub CeilingOf : Float → Float → Type 0
+CeilingOf x y = WholeFrom true x y
 
 -- ---- a number as an integer
 

@@ -134,7 +134,7 @@ fn number(b: u32) -> f32
     ensures { λ r. ⌜ r ≡ ofBits binary32 b ⌝ }
 {
     if b % 0x80000000 > 0x7f800000 {
-        return 0.0 / 0.0;
+        return 0.0 / 0.0; // the one NaN
     }
     f32::from_bits(b)
 }

@@ -1,17 +1,16 @@
 -- What gather writes stays within ±2^96, where the rows of the public call have passed: so a resumed call is never refused for it. A ray
 -- brings at most 10 · 2^79, so that 64 of them sum to at most 1280 · 2^79 in each coefficient; irradiance at most doubles that, and the floor
 -- at most doubles it again.
-use mathlib.Core.Path.{_≡_, refl, sym}
+use mathlib.Core.Path.{_≡_, refl}
 use mathlib.Core.Bool.{Bool, true, false, _&&_, _||_, false≢true}
 use mathlib.Core.List.{List, [], _∷_}
-use Prim.Native.Nat.{ℕ, zero, suc, _+_, _*_, _/_, _%_, _^_, _<_, _≤_}
-use native.Mathlib.Nat.{le-of-lt, le-trans, le-of-eq, le-of-mul-le-mul-right, mul-le-mul-right, mul-right-comm, div-lt-iff-lt-mul, add-zero}
+use Prim.Native.Nat.{ℕ, zero, suc, _+_, _*_, _/_, _%_, _<_, _≤_}
+use native.Mathlib.Nat.{le-of-lt, le-trans, mul-le-mul-right, add-zero}
 use native.Mathlib.Omega.{arith}
 use lib.Dec.{lit<, lit≤}
 use lib.ListN.{length, getD}
 use lib.Ieee as Ieee
-use lib.Ieee.{Float, nan, inf, fin, down, ofBits}
-use lib.Ieee.Fits.{down-pos}
+use lib.Ieee.{Float, nan, ofBits}
 use Rattle.names.specs.Bits.{lit, zero32, one32}
 use Rattle.names.specs.Numbers.{primaryRays, skyNumbers, pointLimit, colourLimit, lightLimit, coefficientLimit}
 use Rattle.names.specs.Scene.{Scene}
@@ -21,12 +20,11 @@ use Rattle.vectors.specs.declared.Vec3.{Vec3}
 use Rattle.vectors.specs.declared.Ray.{Ray}
 use Rattle.vectors.specs.Vectors.{normalV}
 use Rattle.bounds.specs.Bounds.{AtMost, EachAtMost}
-use Rattle.bounds.specs.BoundsLaws.{at-most-up, at-most-finite, at-most-of-test, test-of-at-most, div-at-most, int-at-most, zero-at-most, one-value, point-value, colour-value, light-value, coefficient-value}
+use Rattle.bounds.specs.BoundsLaws.{at-most-of-value, at-most-up, at-most-finite, at-most-of-test, test-of-at-most, div-at-most, int-at-most, zero-at-most, one-value, point-value, colour-value, light-value, coefficient-value}
 use Rattle.bounds.specs.VectorLaws.{dot-at-most}
 use Rattle.bounds.specs.NormalLaws.{thin-normal-within}
 use Rattle.directions.specs.Table.{directions}
 use Rattle.directions.specs.Sets.{set-below}
-use Rattle.directions.specs.Rule.{unitsOf, isFinite}
 use Rattle.directions.specs.RuleLaws.{Small, number-small}
 use Rattle.grid.specs.Grid.{xOf, yOf, zOf, floatOf, edgesOf}
 use Rattle.limits.specs.Limits.{within, upTo, wrongScene, tooMany, badPoints, badMaterials, badDirection, badColour, badLight, badAmbient, badSky, badLights, lampAt, badLamps}
@@ -49,13 +47,7 @@ use Rattle.gather_bounds.specs.SceneBounds.{Modest, ModestSetting, Modes
 -- ---- a direction's components are at most 2
 
 small-at-most : (x : Float) → Small x → AtMost 2 0 x
-unfolding AtMost unitsOf isFinite
-small-at-most nan h = absurd (false≢true (h .finite))
-small-at-most (inf s) h = absurd (false≢true (h .finite))
-small-at-most (fin s m e) h =
-    let a = div-lt-iff-lt-mul (down-pos e) .0 (h .below) in
-    let b = le-trans (le-of-lt a) (mul-le-mul-right {m = 2 ^ 149 + 2 ^ 128} {n = 2 ^ 150} (down e) (lit≤ tt)) in
-    le-of-mul-le-mul-right {k = 2 ^ 149} (le-trans b (le-of-eq (sym (mul-right-comm 2 (down e) (2 ^ 149))))) (lit< tt)
+small-at-most x h = at-most-of-value x (h .in-units .negative) (h .in-units .size) 2 0 (h .in-units .exact) (le-trans (le-of-lt (h .below)) (lit≤ tt))
 
 component-small : (k c : ℕ) → k < 576 → c < 3 → AtMost 2 0 (getD directions (k * 3 + c) nan)
 component-small k c h p =

@@ -1,12 +1,13 @@
 -- `floats::number` meets its contract: past the infinity's pattern every pattern is a NaN's, and `ofBits` makes that the one NaN.
 use mathlib.Core.Path.{sym, _∙_}
-use Rattle.floats.proofs.Choose.{no-number, nan-pattern, number-pattern}
+use Rattle.floats.specs.PatternLaws.{nan-past}
+use Rattle.floats.proofs.Choose.{no-number, number-pattern}
 use Rattle.floats.proofs.number.Statement.{statement}
 use Rattle.floats.proofs.number.Tie as tie
 use borrow.Author.Needs.{needs}
 
 returns : tie.Need-returns
-returns c = sym no-number ∙ sym (nan-pattern (c .before .args .b) (c .if1 .taken))
+returns c = sym no-number ∙ sym (nan-past (c .before .args .b) (c .if1 .taken))
 
 float-from-bits-result : tie.Need-float-from-bits-result
 float-from-bits-result c = number-pattern (c .before .args .b) (c .if1 .left)

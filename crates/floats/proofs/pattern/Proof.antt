@@ -2,7 +2,8 @@
 use mathlib.Core.Path.{sym, ap, _∙_}
 use borrow.Author.Needs.{needs}
 use lib.Ieee.{binary32, toBits}
-use Rattle.floats.proofs.Choose.{is-nan, no-nan, nan-written}
+use Rattle.floats.specs.PatternLaws.{nan-written}
+use Rattle.floats.proofs.Choose.{is-nan, no-nan}
 use Rattle.floats.proofs.pattern.Statement.{statement}
 use Rattle.floats.proofs.pattern.Tie as tie
 

@@ -1,9 +1,9 @@
 -- A number of 24 digits whose square is near n, raised by a power of two, is nearer to the root of n raised by that power's square than every other f32. Assumes nothing.
-use mathlib.Core.Path.{_≡_, sym, ap, _∙_, subst}
+use mathlib.Core.Path.{_≡_, refl, sym, ap, _∙_, subst}
 use mathlib.Core.Logic.{_⊎_, inl, inr}
-use Prim.Native.Nat.{ℕ, zero, suc, _+_, _-_, _*_, _/_, _%_, _^_, _≤_, _<_}
-use mathlib.Core.Bool.{true, false, _&&_}
-use native.Mathlib.Nat.{lt-of-not-le, not-le-of-lt, eq-or-lt-of-le, mul-assoc, mul-one, zero-mul, mul-div-cancel, div-one, div-eq-of-lt}
+use Prim.Native.Nat.{ℕ, zero, suc, _+_, _-_, _*_, _/_, _%_, _^_, _≤_, _<_, _∣_}
+use mathlib.Core.Bool.{Bool, true, false, _&&_}
+use native.Mathlib.Nat.{lt-of-not-le, not-le-of-lt, eq-or-lt-of-le, mul-assoc, mul-one, zero-mul, mul-div-cancel, div-one, div-eq-of-lt, dvd-zero, dvd-mul-left, dvd-mul-left-of-dvd, dvd-mul-right-of-dvd, one-dvd, div-mul-cancel}
 use native.Mathlib.Omega.{arith}
 use lib.IntN.{ℤ, pos, negsuc}
 use lib.Dec.{T, leb, ltb, eqb, leb→le, ltb→lt, lit<}
@@ -41,13 +41,29 @@ spread k (negsuc p) h =
           ∙ ap (λ (z : ℕ). z * 2 ^ (149 - suc p)) (mul-one k),
     )
 
+-- an f32 is no finer than a unit
+not-finer : (s : Bool) (m : ℕ) (e : ℤ) → T (fits binary32 (fin s (suc m) e)) → down e ≤ 2 ^ 149
+unfolding fits
+not-finer s m e h =
+    leb→le (down e) (2 ^ 149) (and-r (eqb (suc m % 2) 1 && ltb (suc m) (2 ^ 24)) (leb (down e) (2 ^ 149)) (and-l (eqb (suc m % 2) 1 && ltb (suc m) (2 ^ 24) && leb (down e) (2 ^ 149)) (ltb (suc m * up e) (2 ^ 128 * down e)) h))
+
 pub fits-spread : (k : ℕ) (j : ℤ) → T (fits binary32 (fin false k j)) → (k < 16777216) × Spread k (count k j)
 unfolding fits count
 fits-spread zero j h = (lit< tt, (0, ap (λ (z : ℕ). z / down j) (ap (λ (z : ℕ). z * 2 ^ 149) (zero-mul (up j)) ∙ zero-mul (2 ^ 149)) ∙ div-eq-of-lt (down-pos j)))
 fits-spread (suc m) j h =
     let a = and-l (eqb (suc m % 2) 1 && ltb (suc m) (2 ^ 24) && leb (down j) (2 ^ 149)) (ltb (suc m * up j) (2 ^ 128 * down j)) h in
     let b = and-l (eqb (suc m % 2) 1 && ltb (suc m) (2 ^ 24)) (leb (down j) (2 ^ 149)) a in
-    (ltb→lt (suc m) (2 ^ 24) (and-r (eqb (suc m % 2) 1) (ltb (suc m) (2 ^ 24)) b), spread (suc m) j (leb→le (down j) (2 ^ 149) (and-r (eqb (suc m % 2) 1 && ltb (suc m) (2 ^ 24)) (leb (down j) (2 ^ 149)) a)))
+    (ltb→lt (suc m) (2 ^ 24) (and-r (eqb (suc m % 2) 1) (ltb (suc m) (2 ^ 24)) b), spread (suc m) j (not-finer false m j h))
+
+-- so `count` leaves nothing over
+power-divides : (e : ℤ) → down e ≤ 2 ^ 149 → down e ∣ 2 ^ 149
+power-divides (pos k) h = one-dvd (2 ^ 149)
+power-divides (negsuc k) h = subst (λ (z : ℕ). 2 ^ suc k ∣ z) (sym (pow-add 2 (149 - suc k) (suc k)) ∙ ap (λ (z : ℕ). 2 ^ z) (back 149 (suc k) (pow-back (suc k) 149 h))) (dvd-mul-left (2 ^ suc k) (2 ^ (149 - suc k)))
+
+pub count-exact : (s : Bool) (m : ℕ) (e : ℤ) → T (fits binary32 (fin s m e)) → HasValue (fin s m e) s (count m e) (2 ^ 149)
+unfolding count
+count-exact s zero e h = (refl, sym (div-mul-cancel (down e) (dvd-mul-right-of-dvd (down e) (subst (λ (z : ℕ). down e ∣ z) (sym (zero-mul (up e))) (dvd-zero (down e))) (2 ^ 149))))
+count-exact s (suc m) e h = (refl, sym (div-mul-cancel (down e) (dvd-mul-left-of-dvd (down e) (power-divides e (not-finer s m e h)) (suc m * up e))))
 
 -- a value in units is what `count` says
 pub counted : (m : ℕ) (e : ℤ) (a : ℕ) → m * up e * 2 ^ 149 ≡ a * down e → count m e ≡ a
