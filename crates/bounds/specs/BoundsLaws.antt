@@ -45,7 +45,7 @@ grid-most a c n j C N h =
     let g : a * 1 ≤ n * 2 ^ (j - k) * (c * 2 ^ k) = le-trans (le-of-eq (mul-one a)) (le-trans h (le-of-eq (ap (λ (z : ℕ). z * c) (sym e) ∙ mul-right-comm (n * 2 ^ (j - k)) (2 ^ k) c ∙ mul-assoc (n * 2 ^ (j - k)) c (2 ^ k)))) in
     le-trans (mul-le-mul-right (2 ^ k) (le-trans (closest-mono a (c * 2 ^ k) (n * 2 ^ (j - k)) 1 (mul-pos C (pow-pos k)) (omega arith) g) (le-of-eq (closest-one (n * 2 ^ (j - k)))))) (le-of-eq e)
 
-at-most-of-value : (x : Float) (s : Bool) (a n k : ℕ) → HasValue x s a (2 ^ 149) → a ≤ n * 2 ^ (k + 149) → AtMost n k x
+pub at-most-of-value : (x : Float) (s : Bool) (a n k : ℕ) → HasValue x s a (2 ^ 149) → a ≤ n * 2 ^ (k + 149) → AtMost n k x
 unfolding AtMost
 at-most-of-value nan s a n k v h = v
 at-most-of-value (inf t) s a n k v h = v

@@ -1,4 +1,5 @@
 -- A normalised vector: where the dot of a vector with itself is above 0 and finite, no component of the normalised vector is NaN, and each is at most 2 in size.
+-- Of any other vector some component is infinite or NaN, or each is a zero.
 -- A component x squared, as it rounds, is at most the dot D; so x * x is below 2 D and one unit, that is at most 3 D; and 4 times the square of the root of D is at least that. Assumes nothing.
 use mathlib.Core.Path.{_≡_, refl, sym, ap, _∙_, subst}
 use mathlib.Core.Logic.{_⊎_, inl, inr}
@@ -9,11 +10,11 @@ use native.Mathlib.Decide.{decLe}
 use native.Mathlib.Omega.{arith}
 use lib.IntN.{ℤ}
 use lib.Dec.{T, ltb, eqb, lit<}
-use borrow.Author.Tests.{ne-eqb, ltb-true}
+use borrow.Author.Tests.{ne-eqb, ltb-true, ltb-false}
 use lib.Pow.{pow-pos, pow-mono, pow-add}
 use lib.Ieee.{Float, nan, inf, fin, binary32, up, down, unlike, size, units, odd, round, add, mul, div, lt, fits, ofBits}
 use lib.Ieee.Digits.{size-reaches, back}
-use lib.Ieee.Fits.{down-pos, round-is, mul-fits, add-fits}
+use lib.Ieee.Fits.{up-pos, down-pos, round-is, mul-fits, add-fits}
 use lib.Ieee.Exact.{HasValue, odd-sign}
 use lib.Ieee.Nearest.{closest-mono, nearest-ge}
 use lib.Ieee.Order.{drop, kept}
@@ -29,6 +30,7 @@ use Rattle.vectors.specs.declared.Vec3.{Vec3}
 use Rattle.vectors.specs.Vectors.{dotV, divV, lengthV, normalV}
 use Rattle.bounds.specs.Bounds.{Within, EachAtMost}
 use Rattle.bounds.specs.BoundsLaws.{closest-one, round-at-most}
+use Rattle.bounds.specs.WildLaws.{either-wild, Wild, wild-x, wild-y, wild-z, root-wild, over-wild}
 
 -- ---- what a fraction rounds to, in units of 2 ^ -149
 
@@ -249,14 +251,27 @@ thin-above : lt zero32 thinLimit ≡ true
 unfolding lt ofBits
 thin-above = refl
 
-pub normal-within : (a : Vec3) → lt zero32 (dotV a a) ≡ true → finite (dotV a a) ≡ true → EachAtMost 1 1 (normalV a)
-unfolding dotV normalV divV lengthV
-normal-within a p f =
+-- the dot of a vector with itself, in units, and what each component's square is at most
+record Squared (a : Vec3) : Type 0 where
+  whole : ℕ
+  value : HasValue (dotV a a) false whole (2 ^ 149)
+  x-part : ℕ
+  x-square : HasSquare (a .x) x-part
+  x-most : x-part ≤ whole
+  y-part : ℕ
+  y-square : HasSquare (a .y) y-part
+  y-most : y-part ≤ whole
+  z-part : ℕ
+  z-square : HasSquare (a .z) z-part
+  z-most : z-part ≤ whole
+
+squared : (a : Vec3) → finite (dotV a a) ≡ true → Squared a
+unfolding dotV
+squared a f =
     let X = mul binary32 (a .x) (a .x) in
     let Y = mul binary32 (a .y) (a .y) in
     let Z = mul binary32 (a .z) (a .z) in
     let S = add binary32 X Y in
-    let d = add binary32 S Z in
     let o = parts-finite S Z f in
     let i = parts-finite X Y (o .0) in
     let x = square-is (a .x) (i .0) in
@@ -264,15 +279,79 @@ normal-within a p f =
     let z = square-is (a .z) (o .1) in
     let s = sum-is X Y (x .0) (y .0) (mul-fits binary32 (a .x) (a .x)) (mul-fits binary32 (a .y) (a .y)) (x .1) (y .1) (o .0) in
     let t = sum-is S Z (s .0) (z .0) (add-fits binary32 X Y) (mul-fits binary32 (a .z) (a .z)) (s .1) (z .1) f in
-    let D = t .0 in
-    let g = above-zero d D (t .1) p in
-    let h = add-fits binary32 S Z in
     record {
-      x = component (a .x) d (x .0) D h (x .2) (t .1) g (le-trans (s .2) (t .2));
-      y = component (a .y) d (y .0) D h (y .2) (t .1) g (le-trans (s .3) (t .2));
-      z = component (a .z) d (z .0) D h (z .2) (t .1) g (t .3);
+      whole = t .0;
+      value = t .1;
+      x-part = x .0;
+      x-square = x .2;
+      x-most = le-trans (s .2) (t .2);
+      y-part = y .0;
+      y-square = y .2;
+      y-most = le-trans (s .3) (t .2);
+      z-part = z .0;
+      z-square = z .2;
+      z-most = t .3;
+    }
+
+-- it is not negative
+pub square-sum : (a : Vec3) → finite (dotV a a) ≡ true → (D : ℕ) × HasValue (dotV a a) false D (2 ^ 149)
+square-sum a f = let s = squared a f in (s .whole, s .value)
+
+pub normal-within : (a : Vec3) → lt zero32 (dotV a a) ≡ true → finite (dotV a a) ≡ true → EachAtMost 1 1 (normalV a)
+unfolding dotV normalV divV lengthV
+normal-within a p f =
+    let s = squared a f in
+    let g = above-zero (dotV a a) (s .whole) (s .value) p in
+    let h = add-fits binary32 _ _ in
+    record {
+      x = component (a .x) (dotV a a) (s .x-part) (s .whole) h (s .x-square) (s .value) g (s .x-most);
+      y = component (a .y) (dotV a a) (s .y-part) (s .whole) h (s .y-square) (s .value) g (s .y-most);
+      z = component (a .z) (dotV a a) (s .z-part) (s .whole) h (s .z-square) (s .value) g (s .z-most);
     }
 
 -- so too of a light's direction or a cross that is not thin
 pub thin-normal-within : (a : Vec3) → lt thinLimit (dotV a a) ≡ true → finite (dotV a a) ≡ true → EachAtMost 1 1 (normalV a)
 thin-normal-within a p f = normal-within a (lt-transitive zero32 thinLimit (dotV a a) thin-above p) f
+
+-- ---- any vector
+
+-- where the dot is 0, each quotient is infinite or NaN
+over-zero : (x : Float) (s : Bool) (e : ℤ) → finite (div binary32 x (fin s 0 e)) ≡ false
+unfolding div
+over-zero nan s e = refl
+over-zero (inf t) s e = refl
+over-zero (fin t m d) s e = either-wild (eqb m 0) (unlike t s)
+
+over-none : (x d : Float) (D : ℕ) → HasValue d false D (2 ^ 149) → lt zero32 d ≡ false → finite (div binary32 x (rootOf d)) ≡ false
+unfolding lt ofBits rootOf
+over-none x nan D v h = absurd v
+over-none x (inf s) D v h = absurd v
+over-none x (fin true m e) D v h = absurd (false≢true (sym (v .0)))
+over-none x (fin false zero e) D v h = over-zero x false e
+over-none x (fin false (suc m) e) D v h =
+    absurd (lt-irrefl 0 (lt-of-lt-of-le (mul-pos (mul-pos (zero-lt-suc m) (up-pos e)) (zero-lt-suc 0)) (le-trans (ltb-false (0 * down e) (suc m * up e * 1) h) (le-of-eq (zero-mul (down e))))))
+
+-- whatever is normalised: some component is infinite or NaN, or each is at most 2 in size
+pub normal-spread : (a : Vec3) → Wild (normalV a) ⊎ EachAtMost 1 1 (normalV a)
+unfolding normalV divV lengthV
+normal-spread a = by (finite (dotV a a)) refl
+  where
+    over : Float → Float
+    over x = div binary32 x (rootOf (dotV a a))
+
+    each : (p q r : Bool) → finite (dotV a a) ≡ false → finite (over (a .x)) ≡ p → finite (over (a .y)) ≡ q → finite (over (a .z)) ≡ r
+        → Wild (normalV a) ⊎ EachAtMost 1 1 (normalV a)
+    each false q r f h g k = inl (wild-x h)
+    each true false r f h g k = inl (wild-y g)
+    each true true false f h g k = inl (wild-z k)
+    each true true true f h g k =
+        let o = root-wild (dotV a a) f in
+        inr (record { x = over-wild (a .x) _ 1 1 o h; y = over-wild (a .y) _ 1 1 o g; z = over-wild (a .z) _ 1 1 o k })
+
+    some : (b : Bool) → lt zero32 (dotV a a) ≡ b → finite (dotV a a) ≡ true → Wild (normalV a) ⊎ EachAtMost 1 1 (normalV a)
+    some true p f = inr (normal-within a p f)
+    some false p f = let s = squared a f in inl (wild-x (over-none (a .x) (dotV a a) (s .whole) (s .value) p))
+
+    by : (b : Bool) → finite (dotV a a) ≡ b → Wild (normalV a) ⊎ EachAtMost 1 1 (normalV a)
+    by true f = some (lt zero32 (dotV a a)) refl f
+    by false f = each (finite (over (a .x))) (finite (over (a .y))) (finite (over (a .z))) f refl refl refl
