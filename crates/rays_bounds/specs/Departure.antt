@@ -4,23 +4,23 @@ use mathlib.Core.Path.{_≡_, refl, sym, _∙_}
 use mathlib.Core.Bool.{Bool, true, false, cond, false≢true}
 use Prim.Native.Nat.{ℕ, _+_, _*_, _^_, _≤_, _<_}
 use native.Mathlib.Nat.{lt-of-le-of-lt}
-use lib.Dec.{lit<, lit≤}
+use lib.Dec.{lit<}
 use lib.Ieee as Ieee
-use lib.Ieee.{Float, nan, inf, fin, binary32, isNan, ofBits}
+use lib.Ieee.{Float, binary32, isNan}
 use Rattle.names.specs.Bits.{zero32, one32}
 use Rattle.floats.specs.Choice.{magnitudeOf}
 use Rattle.floats.specs.OrderLaws.{le-numbers}
 use Rattle.vectors.specs.declared.Ray.{Ray}
 use Rattle.vectors.specs.declared.Triangle.{Triangle}
-use Rattle.limits.specs.Limits.{badTriangle, badRay}
-use Rattle.bounds.specs.Bounds.{AtMost, EachAtMost}
+use Rattle.limits.specs.Limits.{badRay}
+use Rattle.bounds.specs.Bounds.{EachAtMost}
 use Rattle.bounds.specs.BoundsLaws.{at-most-up}
 use Rattle.bounds.specs.WildLaws.{Wild, dot-wild, cross-wild, wild-over-wild}
 use Rattle.triangle.specs.declared.Meet.{Meet}
 use Rattle.triangle.specs.declared.Meet.the-variants.{Miss, Hit}
 use Rattle.triangle.specs.declared.Solved.{Solved}
 use Rattle.triangle.specs.Meet.{flatLimit, largest32, absentOf, solvedOf, judgedOf, meetOf}
-use Rattle.rays_bounds.specs.TestBounds.{NearPoints, Bounded, test-bounded, distance-bounded, largest-passes}
+use Rattle.rays_bounds.specs.TestBounds.{NearPoints, distance-bounded, largest-passes, last-test-passes}
 
 -- the judgement without its last test
 unfoldable pub judgedWithout : Solved → Float → Float → Meet
@@ -86,6 +86,5 @@ pub wild-idle : (ray : Ray) (triangle : Triangle) → Wild (ray .direction) → 
 wild-idle ray triangle w = idle ray triangle (λ h g. absurd (not-nan _ (wild-nan ray triangle w) g))
 
 -- a ray that row 8 accepts
-pub accepted-idle : (ray : Ray) (triangle : Triangle) → badTriangle triangle ≡ false → badRay ray ≡ false → meetOf ray triangle ≡ meetWithout ray triangle
-accepted-idle ray triangle bt br =
-    idle ray triangle (λ h g. largest-passes _ (at-most-up _ 408 63 16777215 104 (lit≤ tt) (test-bounded ray triangle bt br h .t)))
+pub accepted-idle : (ray : Ray) (triangle : Triangle) → NearPoints triangle → badRay ray ≡ false → meetOf ray triangle ≡ meetWithout ray triangle
+accepted-idle ray triangle p br = idle ray triangle (λ h g. last-test-passes ray triangle p br h)

@@ -22,24 +22,16 @@ use Rattle.vectors.specs.declared.Vec3.{Vec3}
 use Rattle.vectors.specs.declared.Ray.{Ray}
 use Rattle.vectors.specs.declared.Triangle.{Triangle}
 use Rattle.vectors.specs.Vectors.{subV, crossV}
-use Rattle.limits.specs.Limits.{outsideV, badPoints, badTriangle, badRay}
-use Rattle.limits.specs.LimitsLaws.{within-between, vector-row, any-of-three, points-row, ray-row}
+use Rattle.limits.specs.Limits.{badPoints, badTriangle, badRay}
+use Rattle.limits.specs.LimitsLaws.{any-of-three, points-row, ray-row}
 use Rattle.bounds.specs.Bounds.{AtMost, AtLeast, EachAtMost}
 use Rattle.bounds.specs.BoundsLaws.{at-most-up, at-most-of-test, test-of-at-most, at-least-of-test, at-most-finite, magnitude-at-most, mul-at-most, div-at-most, one-value, point-value, colour-value, direction-value}
 use Rattle.bounds.specs.VectorLaws.{sub-each, dot-at-most, cross-each}
+use Rattle.grid_laws.specs.RowBounds.{within-at-most, within-each}
 use Rattle.triangle.specs.Meet.{flatLimit, largest32, solvedOf, meetOf}
 use Rattle.triangle.specs.Places.{vecAt, triangleAt}
 use Rattle.triangle.specs.Laws.{hit-met}
 use Rattle.triangle.specs.declared.Meet.the-variants.{Hit}
-
--- a vector whose components are within a limit that is n·2^k
-each : (b : Float) (n k : ℕ) (v : Vec3) → HasValue b false (n * 2 ^ k) 1 → outsideV b v ≡ false → EachAtMost n k v
-each b n k v h e =
-    let p = vector-row b v .0 e in
-    let x = within-between b (v .x) .0 (p .0) in
-    let y = within-between b (v .y) .0 (p .1) in
-    let z = within-between b (v .z) .0 (p .2) in
-    record { x = at-most-of-test _ b n k h (x .0) (x .1); y = at-most-of-test _ b n k h (y .0) (y .1); z = at-most-of-test _ b n k h (z .0) (z .1) }
 
 wider : (n k l j : ℕ) (v : Vec3) → n * 2 ^ k ≤ l * 2 ^ j → EachAtMost n k v → EachAtMost l j v
 wider n k l j v h e = record { x = at-most-up _ n k l j h (e .x); y = at-most-up _ n k l j h (e .y); z = at-most-up _ n k l j h (e .z) }
@@ -93,7 +85,7 @@ pub near-points : (triangle : Triangle) → badTriangle triangle ≡ false → N
 unfolding badTriangle
 near-points triangle h =
     let t = any-of-three _ _ _ .0 h in
-    record { p0 = each pointLimit 1 12 _ point-value (t .0); p1 = each pointLimit 1 12 _ point-value (t .1); p2 = each pointLimit 1 12 _ point-value (t .2) }
+    record { p0 = within-each pointLimit _ 1 12 point-value (t .0); p1 = within-each pointLimit _ 1 12 point-value (t .1); p2 = within-each pointLimit _ 1 12 point-value (t .2) }
 
 -- the triangle at a place of a list that row 5 accepts
 pub near-place : (points : List Float) (i : ℕ) → badPoints points ≡ false → i * 9 + 8 < length points → NearPoints (triangleAt points i)
@@ -101,7 +93,7 @@ unfolding triangleAt
 near-place points i h l = record { p0 = first; p1 = at 3 (omega arith); p2 = at 6 (omega arith) }
   where
     number : (j : ℕ) → j < length points → AtMost 1 12 (getD points j nan)
-    number j q = let b = within-between pointLimit (getD points j nan) .0 (points-row points .0 h j q) in at-most-of-test _ pointLimit 1 12 point-value (b .0) (b .1)
+    number j q = within-at-most pointLimit _ 1 12 point-value (points-row points .0 h j q)
 
     first : EachAtMost 1 12 (vecAt points (i * 9))
     first = record { x = number (i * 9) (omega arith); y = number (i * 9 + 1) (omega arith); z = number (i * 9 + 2) (omega arith) }
@@ -175,21 +167,20 @@ module _ (ray : Ray) (triangle : Triangle) (n k : ℕ) (points : NearPoints tria
       let sp = dot-at-most _ _ (n + 1) k 4 13 (omega arith) (less _ (24 * (n + 1)) (k + 13) (k + 51) (omega arith) (omega arith) room) s-small p in
       let dq = dot-at-most _ _ 1 1 m (k + 12) (omega arith) (less _ (24 * (n + 1)) (1 + (k + 12)) (k + 51) (omega arith) (omega arith) room) d q-small in
       let u = mul-at-most _ _ _ (k + 13) 1 27 (omega arith) (less _ (24 * (n + 1)) _ (k + 51) (omega arith) (omega arith) room) sp inverse in
-      let o = finite-number _ (at-most-finite _ _ _ u) in
       record {
         u = again _ _ (12 * (n + 1)) _ (k + 40) (omega arith) (omega arith) u;
         v = again _ _ (12 * (n + 1)) _ (k + 40) (omega arith) (omega arith) (mul-at-most _ _ _ (1 + (k + 12)) 1 27 (omega arith) (less _ (24 * (n + 1)) _ (k + 51) (omega arith) (omega arith) room) dq inverse);
-        t = distance-bounded h o;
+        t = distance-bounded h (finite-number _ (at-most-finite _ _ _ u));
       }
 
 -- of a ray that row 8 accepts: |u| and |v| are at most 204·2^52, |t| is at most 408·2^63
-pub test-bounded : (ray : Ray) (triangle : Triangle) → badTriangle triangle ≡ false → badRay ray ≡ false
+pub test-bounded : (ray : Ray) (triangle : Triangle) → NearPoints triangle → badRay ray ≡ false
     → le (magnitudeOf (solvedOf ray triangle .det)) flatLimit ≡ false → Bounded 16 12 ray triangle
-test-bounded ray triangle bt br h =
+test-bounded ray triangle p br h =
     let rows = ray-row ray .0 br in
-    let o = wider 1 16 16 12 (ray .origin) (lit≤ tt) (each colourLimit 1 16 (ray .origin) colour-value (rows .0)) in
-    let d = each directionLimit 1 1 (ray .direction) direction-value (rows .1) in
-    numbers-bounded ray triangle 16 12 (near-points triangle bt) o (lit≤ tt) (lit< tt) (lit< tt) d h
+    let o = wider 1 16 16 12 (ray .origin) (lit≤ tt) (within-each colourLimit (ray .origin) 1 16 colour-value (rows .0)) in
+    let d = within-each directionLimit (ray .direction) 1 1 direction-value (rows .1) in
+    numbers-bounded ray triangle 16 12 p o (lit≤ tt) (lit< tt) (lit< tt) d h
 
 largest-value : HasValue largest32 false (16777215 * 2 ^ 104) 1
 unfolding ofBits
@@ -199,14 +190,14 @@ pub largest-passes : (t : Float) → AtMost 16777215 104 t → le (magnitudeOf t
 largest-passes t h = test-of-at-most _ largest32 16777215 104 largest-value (magnitude-at-most _ 16777215 104 h) .1
 
 -- the last test of the definition, that the distance is finite, passes wherever it is reached
-pub last-test-passes : (ray : Ray) (triangle : Triangle) → badTriangle triangle ≡ false → badRay ray ≡ false
+pub last-test-passes : (ray : Ray) (triangle : Triangle) → NearPoints triangle → badRay ray ≡ false
     → le (magnitudeOf (solvedOf ray triangle .det)) flatLimit ≡ false → le (magnitudeOf (solvedOf ray triangle .t)) largest32 ≡ true
-last-test-passes ray triangle bt br h = largest-passes _ (at-most-up _ 408 63 16777215 104 (lit≤ tt) (test-bounded ray triangle bt br h .t))
+last-test-passes ray triangle p br h = largest-passes _ (at-most-up _ 408 63 16777215 104 (lit≤ tt) (test-bounded ray triangle p br h .t))
 
 -- a hit's distance, u and v are finite
-pub hit-finite : (ray : Ray) (triangle : Triangle) (t u v : Float) → badTriangle triangle ≡ false → badRay ray ≡ false → meetOf ray triangle ≡ Hit t u v
+pub hit-finite : (ray : Ray) (triangle : Triangle) (t u v : Float) → NearPoints triangle → badRay ray ≡ false → meetOf ray triangle ≡ Hit t u v
     → (finite t ≡ true) × (finite u ≡ true) × (finite v ≡ true)
-hit-finite ray triangle t u v bt br e =
+hit-finite ray triangle t u v p br e =
     let m = hit-met ray triangle t u v e in
-    let b = test-bounded ray triangle bt br (m .steep) in
+    let b = test-bounded ray triangle p br (m .steep) in
     (rw (m .distance) (at-most-finite _ 408 63 (b .t)), rw (m .first) (at-most-finite _ 204 52 (b .u)), rw (m .second) (at-most-finite _ 204 52 (b .v)))
