@@ -1,4 +1,4 @@
--- The departure that makes a non-finite distance a miss never shows in an accepted bake (`NoDeparture`). A primary ray starts within 11·2^12, so that what it meets lies within
+-- The departure that makes a non-finite distance a miss never shows in an accepted bake (`NoDepartures`). A primary ray starts within 11·2^12, so that what it meets lies within
 -- 288·2^63 along it and the surface's point within 578·2^63. A ray from there starts within 579·2^63, so that no distance passes 13920·2^114, which is finite. That holds in
 -- whatever direction; but a ray to the sky starts moved along its own direction, which is not shown to be finite. Where it is not, u is NaN and the ray meets nothing.
 use mathlib.Core.Path.{_≡_, refl, sym}
@@ -91,6 +91,16 @@ primaryAt g i k = primaryRay (settingIn g) (centreAt (g .corners) (g .axes) i) (
 abbrev pub surfaceAt : GatherInput → ℕ → ℕ → ℕ → Float → Surface
 surfaceAt g i k place t = surfaceOf (g .scene) (primaryAt g i k) place t (settingIn g .biases .hit)
 
+-- the rays along direction k, and those of a surface that the first of them meets: the test is that without the departure
+pub record NoDepartures (g : GatherInput) (i k : ℕ) : Type 0 where
+  pub primary : NoDeparture (g .scene) (primaryAt g i k)
+  pub shadow : (place : ℕ) (t u v : Float) → nearestOf (g .scene) (primaryAt g i k) ≡ At place t u v
+      → NoDeparture (g .scene) (shadowRay (settingIn g) (surfaceAt g i k place t))
+  pub sky : (place : ℕ) (t u v : Float) → nearestOf (g .scene) (primaryAt g i k) ≡ At place t u v → (j : ℕ)
+      → NoDeparture (g .scene) (skyRay (settingIn g) (surfaceAt g i k place t) j)
+  pub lamp : (place : ℕ) (t u v : Float) → nearestOf (g .scene) (primaryAt g i k) ≡ At place t u v → (j : ℕ)
+      → NoDeparture (g .scene) (lampRay (settingIn g) (surfaceAt g i k place t) (wayTo (surfaceAt g i k place t .point) (lampAt (g .lamps) j .position)))
+
 module _ (g : GatherInput) (r : Rows g) (ha : badAxes (g .axes) ≡ false) (hg : badGrid (g .corners) (g .axes) ≡ false) where
   biases : SmallBiases (settingIn g .biases)
   unfolding settingOf
@@ -109,7 +119,7 @@ module _ (g : GatherInput) (r : Rows g) (ha : badAxes (g .axes) ≡ false) (hg :
         add-each _ _ 4 7 12 (lit< tt) (lit< tt) (each-up _ 12320 0 4 12 (lit≤ tt) centre)
         (each-up _ 14 11 7 12 (lit≤ tt) (scale-each (directionAt k) _ 2 0 7 11 (lit< tt) (lit< tt) (direction-small k listed) (biases .primary)))
 
-    pub primary-same : NoDeparture (g .scene) (primaryAt g i k)
+    primary-same : NoDeparture (g .scene) (primaryAt g i k)
     primary-same p h = far-same (primaryAt g i k) _ 11 12 (near p h) primary-start (lit≤ tt) (lit< tt) (lit≤ tt)
 
     -- ---- and of the surface that it meets
@@ -141,19 +151,22 @@ module _ (g : GatherInput) (r : Rows g) (ha : badAxes (g .axes) ≡ false) (hg :
       far ray h p l = far-same ray _ 579 63 (near p l) h (lit≤ tt) (lit< tt) (lit≤ tt)
 
       -- to the sun
-      pub shadow-same : NoDeparture (g .scene) (shadowRay (settingIn g) (surfaceAt g i k place t))
+      shadow-same : NoDeparture (g .scene) (shadowRay (settingIn g) (surfaceAt g i k place t))
       unfolding shadowRay rayFrom
       shadow-same = far _ (moved-start _ (setting-small (edgesOf (g .corners) (g .axes)) (g .light) (g .ambient) (r .light) (r .ambient) .toward))
 
       -- to the sky
-      pub sky-same : (j : ℕ) → NoDeparture (g .scene) (skyRay (settingIn g) (surfaceAt g i k place t) j)
+      sky-same : (j : ℕ) → NoDeparture (g .scene) (skyRay (settingIn g) (surfaceAt g i k place t) j)
       unfolding skyRayIn rayFrom turnedBy
       sky-same j p l =
           ⊎-elim (λ (w : Wild _). wild-same (skyRay (settingIn g) (surfaceAt g i k place t) j) _ w) (λ (h : EachAtMost 1 1 _). far (skyRay (settingIn g) (surfaceAt g i k place t) j) (moved-start _ h) p l)
           (normal-spread _)
 
       -- to lamp j
-      pub lamp-same : (j : ℕ)
+      lamp-same : (j : ℕ)
           → NoDeparture (g .scene) (lampRay (settingIn g) (surfaceAt g i k place t) (wayTo (surfaceAt g i k place t .point) (lampAt (g .lamps) j .position)))
       unfolding lampRay lampRayFrom
       lamp-same j = far _ (each-up _ 578 63 579 63 (lit≤ tt) point-small)
+
+    pub no-departures : NoDepartures g i k
+    no-departures = record { primary = primary-same; shadow = shadow-same; sky = sky-same; lamp = lamp-same }
