@@ -21,16 +21,12 @@ use Rattle.demand.specs.Bake.{gatherInput, bakeOf}
 use Rattle.demand.specs.Demanded.{bake-fair, bake-demand}
 use Rattle.demand.specs.Lasting.{GathersWithin, bake-lasts}
 
--- what the gather writes of an accepted input lies within ±2^96
-gathers : (b : BakeInput) (s : Stage Float) (a : ℕ) → BakePassed b s a → GathersWithin b
+-- what the rows of an accepted input say of what is gathered
+pub gather-rows : (b : BakeInput) (s : Stage Float) (a : ℕ) → BakePassed b s a → Rows (gatherInput b)
 unfolding wrongBakeLists badLighting badContents
-gathers b s a p i h =
-    let g = gatherInput b in
-    let f = fits b s a p in
+gather-rows b s a p =
     let l = any-of-three (badLight (b .light)) (badAmbient (b .ambient)) (badSky (b .sky)) .0 (p .lighting) in
-    let c = any-of-three (badMask (b .active)) (badLights (b .lights)) _ .0 (p .contents) in
-    let rows : Rows g
-    = record {
+    record {
       lists = either (wrongScene (b .scene .points) (b .scene .uses) (b .scene .kinds) (b .scene .numbers)) _ .0 (p .lists) .0;
       many = p .few;
       points = p .points;
@@ -38,11 +34,17 @@ gathers b s a p i h =
       light = l .0;
       ambient = l .1;
       sky = l .2;
-      lights = c .1;
-      skies = f .sky;
+      lights = any-of-three (badMask (b .active)) (badLights (b .lights)) _ .0 (p .contents) .1;
+      skies = fits b s a p .sky;
       lamps = p .lamps;
-    } in
-    coefficients-row (gatheredOf g i) .1 (λ j k. gathered-within g i rows (omega (arith, f .lights)) j (omega (arith, length-gathered g i)))
+    }
+
+-- what the gather writes of an accepted input lies within ±2^96
+gathers : (b : BakeInput) (s : Stage Float) (a : ℕ) → BakePassed b s a → GathersWithin b
+gathers b s a p i h =
+    let g = gatherInput b in
+    let f = fits b s a p in
+    coefficients-row (gatheredOf g i) .1 (λ j k. gathered-within g i (gather-rows b s a p) (omega (arith, f .lights)) j (omega (arith, length-gathered g i)))
 
 -- the next call is not refused
 pub goes-on : (b : BakeInput) → Lasts (bakeOf b)

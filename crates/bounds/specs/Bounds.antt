@@ -15,6 +15,12 @@ AtLeast n k nan = ⊥
 AtLeast n k (inf s) = ⊥
 AtLeast n k (fin s m e) = n * down e ≤ m * up e * 2 ^ k
 
+-- x is finite, and |x| ≤ n / 2 ^ k
+unfoldable pub Under : ℕ → ℕ → Float → Type 0
+Under n k nan = ⊥
+Under n k (inf s) = ⊥
+Under n k (fin s m e) = m * up e * 2 ^ k ≤ n * down e
+
 -- |x| ≤ 2 ^ k
 abbrev pub Within : ℕ → Float → Type 0
 Within k x = AtMost 1 k x
@@ -24,3 +30,8 @@ pub record EachAtMost (n k : ℕ) (a : Vec3) : Type 0 where
   pub x : AtMost n k (a .x)
   pub y : AtMost n k (a .y)
   pub z : AtMost n k (a .z)
+
+pub record EachUnder (n k : ℕ) (a : Vec3) : Type 0 where
+  pub x : Under n k (a .x)
+  pub y : Under n k (a .y)
+  pub z : Under n k (a .z)

@@ -6,9 +6,9 @@ use mathlib.Core.Bool.{Bool, true, false, cond, _&&_, _||_, Bool·beq, false≢t
 use native.Mathlib.Nat.{le-refl, le-trans, le-of-eq, le-of-lt, eq-or-lt-of-le, lt-of-le-of-lt, lt-of-lt-of-le, lt-irrefl, mul-one, zero-mul, mul-comm, mul-assoc, mul-left-comm, mul-right-comm, mul-mul-mul-comm, add-mul, mul-le-mul, mul-le-mul-right, mul-lt-mul-of-pos-right, le-of-mul-le-mul-right, mul-pos, div-one, mod-one, div-le-of-le-mul, add-le-add}
 use native.Mathlib.Omega.{arith}
 use lib.IntN.{ℤ, pos}
-use lib.Dec.{ltb, eqb}
+use lib.Dec.{ltb, eqb, lit≤}
 use borrow.Author.Tests.{ltb-true, eqb-true, lt-ltb, eq-eqb, ne-eqb}
-use lib.Pow.{pow-pos, pow-add, shl-lt}
+use lib.Pow.{pow-pos, pow-mono, pow-add, shl-lt}
 use lib.Ieee.{Float, nan, inf, fin, binary32, up, down, unlike, size, nearest, units, round, neg, sum, add, sub, mul, div, lt, eq, le, isNan, ofBits, ofInt}
 use lib.Ieee.Digits.{size-le, back}
 use lib.Ieee.Fits.{down-pos, round-is}
@@ -24,7 +24,7 @@ use Rattle.floats.specs.Choice.{magnitudeOf, largerOf, smallerOf}
 use Rattle.floats.specs.OrderLaws.{lt-asymmetric, lt-irreflexive, lt-transitive, not-lt-le, lt-le}
 use Rattle.floats.specs.FiniteLaws.{finite-number, larger-number, smaller-number}
 use Rattle.vectors.specs.Vectors.{clampOf}
-use Rattle.bounds.specs.Bounds.{AtMost, AtLeast, Within}
+use Rattle.bounds.specs.Bounds.{AtMost, AtLeast, Under, Within}
 
 -- ---- rounding
 
@@ -62,6 +62,26 @@ round-at-most s a c n k C N B h =
     let g : kept 24 b c * 2 ^ drop 24 b c ≤ n * 2 ^ (k + 149) = grid-most b c n (k + 149) C N (le-trans (mul-le-mul-right (2 ^ 149) h) (le-of-eq (mul-right-comm (n * 2 ^ k) c (2 ^ 149) ∙ ap (λ (z : ℕ). z * c) (sym scaled)))) in
     let small : kept 24 b c * 2 ^ drop 24 b c < 2 ^ 277 = lt-of-le-of-lt g (lt-of-le-of-lt (le-of-eq scaled) (lt-of-lt-of-le (mul-lt-mul-of-pos-right B (pow-pos 149)) (le-of-eq (sym (pow-add 2 128 149))))) in
     subst (λ (v : Float). AtMost n k v) (sym (round-is binary32 s a c)) (at-most-of-value (units binary32 s (kept 24 b c) (drop 24 b c)) s (kept 24 b c * 2 ^ drop 24 b c) n k (units-val binary32 s (kept 24 b c) (drop 24 b c) small) g)
+
+-- and of a fraction at most n / 2 ^ d
+pub round-under : (s : Bool) (a c n d : ℕ) → 0 < c → n < 16777216 → d ≤ 149 → a * 2 ^ d ≤ n * c → Under n d (round binary32 s a c)
+unfolding Under
+round-under s a c n d C N E h =
+    let j = 149 - d in
+    let b = a * 2 ^ 149 in
+    let whole : d + j ≡ 149 = omega arith in
+    let split : 2 ^ d * 2 ^ j ≡ 2 ^ 149 = sym (pow-add 2 d j) ∙ ap (λ (z : ℕ). 2 ^ z) whole in
+    let g : kept 24 b c * 2 ^ drop 24 b c ≤ n * 2 ^ j = grid-most b c n j C N (le-trans (le-of-eq (ap (λ (z : ℕ). a * z) (sym split) ∙ sym (mul-assoc a (2 ^ d) (2 ^ j)))) (le-trans (mul-le-mul-right (2 ^ j) h) (le-of-eq (mul-right-comm n c (2 ^ j))))) in
+    let small : kept 24 b c * 2 ^ drop 24 b c < 2 ^ 277 = lt-of-le-of-lt g (lt-of-lt-of-le (mul-lt-mul-of-pos-right N (pow-pos j)) (le-trans (mul-le-mul (le-refl 16777216) (pow-mono {i = j} {j = 149} (omega arith))) (lit≤ tt))) in
+    subst (λ (v : Float). Under n d v) (sym (round-is binary32 s a c)) (of-value (units binary32 s (kept 24 b c) (drop 24 b c)) (kept 24 b c * 2 ^ drop 24 b c) (units-val binary32 s (kept 24 b c) (drop 24 b c) small) split g)
+  where
+    of-value : (x : Float) (q : ℕ) → HasValue x s q (2 ^ 149) → 2 ^ d * 2 ^ (149 - d) ≡ 2 ^ 149 → q ≤ n * 2 ^ (149 - d) → Under n d x
+    of-value nan q v e g = v
+    of-value (inf t) q v e g = v
+    of-value (fin t m i) q v e g =
+        le-of-mul-le-mul-right
+        (le-trans (le-of-eq (mul-assoc (m * up i) (2 ^ d) (2 ^ (149 - d)) ∙ ap (λ (z : ℕ). m * up i * z) e ∙ v .1)) (le-trans (mul-le-mul-right (down i) g) (le-of-eq (mul-right-comm n (2 ^ (149 - d)) (down i)))))
+        (pow-pos (149 - d))
 
 -- ---- what a test says
 
@@ -208,6 +228,20 @@ mul-at-most (fin s m e) (fin t q d) n j l k N B h g =
     round-at-most (unlike s t) (m * up e * (q * up d)) (down e * down d) (n * l) (j + k) (mul-pos (down-pos e) (down-pos d)) N B
     (le-trans (mul-le-mul h g)
     (le-of-eq (mul-mul-mul-comm (n * 2 ^ j) (down e) (l * 2 ^ k) (down d) ∙ ap (λ (z : ℕ). z * (down e * down d)) (mul-mul-mul-comm n (2 ^ j) l (2 ^ k) ∙ ap (λ (z : ℕ). n * l * z) (sym (pow-add 2 j k))))))
+
+-- |x| ≤ l / 2 ^ d and |y| ≤ n * 2 ^ d * 2 ^ k, so |x * y| ≤ n * l * 2 ^ k
+pub under-mul : (x y : Float) (n k l d : ℕ) → n * l < 16777216 → n * l * 2 ^ k < 2 ^ 128 → Under l d x → AtMost (n * 2 ^ d) k y → AtMost (n * l) k (mul binary32 x y)
+unfolding AtMost Under mul
+under-mul nan y n k l d N B h g = absurd h
+under-mul (inf s) y n k l d N B h g = absurd h
+under-mul (fin s m e) nan n k l d N B h g = absurd g
+under-mul (fin s m e) (inf t) n k l d N B h g = absurd g
+under-mul (fin s m e) (fin t q j) n k l d N B h g =
+    round-at-most (unlike s t) (m * up e * (q * up j)) (down e * down j) (n * l) k (mul-pos (down-pos e) (down-pos j)) N B
+    (le-of-mul-le-mul-right (le-trans (le-of-eq (mul-right-comm (m * up e) (q * up j) (2 ^ d))) (le-trans (mul-le-mul h g) (le-of-eq (moved n (2 ^ d) (2 ^ k) (down e) l (down j))))) (pow-pos d))
+  where
+    moved : (n a b e l j : ℕ) → l * e * (n * a * b * j) ≡ n * l * b * (e * j) * a
+    moved n a b e l j = simp (mul-assoc, mul-comm, mul-left-comm)
 
 -- |x| ≤ n * l * 2 ^ j and l / 2 ^ k ≤ |y|, so |x / y| ≤ n * 2 ^ (j + k)
 pub div-at-most : (x y : Float) (n l j k : ℕ) → 0 < l → n < 16777216 → n * 2 ^ (j + k) < 2 ^ 128 → AtMost (n * l) j x → AtLeast l k y → AtMost n (j + k) (div binary32 x y)

@@ -1,5 +1,7 @@
 -- A normalised vector: where the dot of a vector with itself is above 0 and finite, no component of the normalised vector is NaN, and each is at most 2 in size.
--- A component x squared, as it rounds, is at most the dot D; so x * x is below 2 D and one unit, that is at most 3 D; and 4 times the square of the root of D is at least that. Assumes nothing.
+-- Of any other vector some component is infinite or NaN, or each is a zero.
+-- A component x squared, as it rounds, is at most the dot D; so x * x is less than a 256th above D, and one unit; and 4 times the square of the root of D is at least 3 D.
+-- Where D is not thin the one unit counts for nothing, and a component is at most 19 / 16. Assumes nothing.
 use mathlib.Core.Path.{_≡_, refl, sym, ap, _∙_, subst}
 use mathlib.Core.Logic.{_⊎_, inl, inr}
 use Prim.Native.Nat.{ℕ, zero, suc, _+_, _-_, _*_, _/_, _%_, _^_, _≤_, _<_, zero-le, compare}
@@ -8,12 +10,12 @@ use native.Mathlib.Nat.{le-refl, le-trans, le-of-eq, le-of-lt, lt-irrefl, lt-of-
 use native.Mathlib.Decide.{decLe}
 use native.Mathlib.Omega.{arith}
 use lib.IntN.{ℤ}
-use lib.Dec.{T, ltb, eqb, lit<}
-use borrow.Author.Tests.{ne-eqb, ltb-true}
+use lib.Dec.{T, ltb, eqb, lit<, lit≤}
+use borrow.Author.Tests.{ne-eqb, ltb-true, ltb-false}
 use lib.Pow.{pow-pos, pow-mono, pow-add}
 use lib.Ieee.{Float, nan, inf, fin, binary32, up, down, unlike, size, units, odd, round, add, mul, div, lt, fits, ofBits}
 use lib.Ieee.Digits.{size-reaches, back}
-use lib.Ieee.Fits.{down-pos, round-is, mul-fits, add-fits}
+use lib.Ieee.Fits.{up-pos, down-pos, round-is, mul-fits, add-fits}
 use lib.Ieee.Exact.{HasValue, odd-sign}
 use lib.Ieee.Nearest.{closest-mono, nearest-ge}
 use lib.Ieee.Order.{drop, kept}
@@ -27,8 +29,9 @@ use Rattle.floats.specs.RootLaws.Units.{fits-spread, counted}
 use Rattle.floats.specs.OrderLaws.{lt-transitive}
 use Rattle.vectors.specs.declared.Vec3.{Vec3}
 use Rattle.vectors.specs.Vectors.{dotV, divV, lengthV, normalV}
-use Rattle.bounds.specs.Bounds.{Within, EachAtMost}
-use Rattle.bounds.specs.BoundsLaws.{closest-one, round-at-most}
+use Rattle.bounds.specs.Bounds.{AtMost, Under, Within, EachAtMost, EachUnder}
+use Rattle.bounds.specs.BoundsLaws.{closest-one, round-under}
+use Rattle.bounds.specs.WildLaws.{either-wild, Wild, wild-x, wild-y, wild-z, root-wild, over-wild}
 
 -- ---- what a fraction rounds to, in units of 2 ^ -149
 
@@ -58,9 +61,9 @@ grid-least a c n j C N h = go (decLe k j)
         more : (j : ℕ) → j < k → 24 + j ≤ 23 + k
         more j h = omega arith
 
--- a fraction is below twice what it rounds to, and one unit
-grid-half : (a c : ℕ) → 0 < c → a < (2 * (kept 24 a c * 2 ^ drop 24 a c) + 1) * c
-grid-half a c C = go (eq-zero-or-pos w) (eq-zero-or-pos k)
+-- a fraction is less than a 256th above what it rounds to, and one unit
+grid-near : (a c : ℕ) → 0 < c → 256 * a < (257 * (kept 24 a c * 2 ^ drop 24 a c) + 256) * c
+grid-near a c C = go (eq-zero-or-pos k)
   where
     k : ℕ
     k = drop 24 a c
@@ -74,28 +77,25 @@ grid-half a c C = go (eq-zero-or-pos w) (eq-zero-or-pos k)
     rounded : w ≤ kept 24 a c
     rounded = nearest-ge w (compare (a % (c * 2 ^ k) * 2) (c * 2 ^ k))
 
-    go : (w ≡ 0) ⊎ (0 < w) → (k ≡ 0) ⊎ (0 < k) → a < (2 * (kept 24 a c * 2 ^ k) + 1) * c
-    go (inr p) _ =
-        lt-of-lt-of-le most
-        (le-trans (mul-le-mul-right (c * 2 ^ k) (twice w (kept 24 a c) p rounded))
-        (le-trans (le-of-eq (regroup (kept 24 a c) c (2 ^ k))) (mul-le-mul-right c (le-add-right (2 * (kept 24 a c * 2 ^ k)) 1))))
-      where
-        twice : (w q : ℕ) → 0 < w → w ≤ q → w + 1 ≤ 2 * q
-        twice w q p h = omega arith
+    -- by p = 2 ^ k
+    few : (w q c p : ℕ) → p ≡ 1 → w ≤ q → a < (w + 1) * (c * p) → 256 * a < (257 * (q * p) + 256) * c
+    few w q c p e h l =
+        let h' = mul-le-mul-right c h in
+        let l' : a < (w + 1) * (c * 1) = rw e at l in
+        rw e (omega arith)
 
-        regroup : (q c p : ℕ) → 2 * q * (c * p) ≡ 2 * (q * p) * c
-        regroup q c p = simp (mul-assoc, mul-comm, mul-left-comm)
-    go (inl z) (inl y) =
-        lt-of-lt-of-le most
-        (le-trans (le-of-eq (ap (λ (v : ℕ). (v + 1) * (c * 2 ^ k)) z ∙ one-mul (c * 2 ^ k) ∙ ap (λ (v : ℕ). c * 2 ^ v) y ∙ mul-one c ∙ sym (one-mul c))) (mul-le-mul-right c (some (kept 24 a c * 2 ^ k))))
-      where
-        some : (q : ℕ) → 1 ≤ 2 * q + 1
-        some q = omega arith
-    go (inl z) (inr y) =
+    many : (w q c p : ℕ) → 256 ≤ w → w ≤ q → a < (w + 1) * (c * p) → 256 * a < (257 * (q * p) + 256) * c
+    many w q c p s h l =
+        let s' = mul-le-mul-right (c * p) s in
+        let h' = mul-le-mul-right (c * p) h in
+        omega arith
+
+    go : (k ≡ 0) ⊎ (0 < k) → 256 * a < (257 * (kept 24 a c * 2 ^ k) + 256) * c
+    go (inl z) = few w (kept 24 a c) c (2 ^ k) (ap (λ (v : ℕ). 2 ^ v) z) rounded most
+    go (inr y) =
         let big : 2 ^ (23 + k) ≤ a / c = size-reaches (a / c) (23 + k) (all-in-use (size (a / c)) y) in
-        absurd (lt-irrefl a (lt-of-lt-of-le most
-        (le-trans (le-of-eq (ap (λ (v : ℕ). (v + 1) * (c * 2 ^ k)) z ∙ one-mul (c * 2 ^ k) ∙ mul-comm c (2 ^ k)))
-        (le-trans (mul-le-mul-right c (pow-mono {i = k} {j = 23 + k} (omega arith))) (le-div-iff-mul-le C .0 big)))))
+        let large : 8388608 ≤ w = le-div-iff-mul-le (mul-pos C (pow-pos k)) .1 (le-trans (le-of-eq (sym (mul-assoc 8388608 c (2 ^ k)) ∙ mul-right-comm 8388608 c (2 ^ k) ∙ ap (λ (z : ℕ). z * c) (sym (pow-add 2 23 k)))) (le-div-iff-mul-le C .0 big)) in
+        many w (kept 24 a c) c (2 ^ k) (omega arith) rounded most
       where
         all-in-use : (z : ℕ) → 0 < z - 24 → 23 + (z - 24) < z
         all-in-use z h = omega arith
@@ -128,19 +128,19 @@ parts-finite (fin s m e) nan h = absurd (false≢true h)
 parts-finite (fin s m e) (inf t) h = absurd (false≢true h)
 parts-finite (fin s m e) (fin t n d) h = (refl, refl)
 
--- x * x is below twice q units, and one unit
+-- x * x is less than a 256th above q units, and one unit
 abbrev HasSquare : Float → ℕ → Type 0
 HasSquare nan q = ⊥
 HasSquare (inf s) q = ⊥
-HasSquare (fin s m e) q = m * up e * (m * up e) * 2 ^ 149 < (2 * q + 1) * (down e * down e)
+HasSquare (fin s m e) q = 256 * (m * up e * (m * up e) * 2 ^ 149) < (257 * q + 256) * (down e * down e)
 
 square-is : (x : Float) → finite (mul binary32 x x) ≡ true → (q : ℕ) × HasValue (mul binary32 x x) false q (2 ^ 149) × HasSquare x q
 unfolding mul
 square-is nan h = absurd (false≢true h)
 square-is (inf true) h = absurd (false≢true h)
 square-is (inf false) h = absurd (false≢true h)
-square-is (fin true m e) h = let a = m * up e * (m * up e) in let c = down e * down e in (kept 24 (a * 2 ^ 149) c * 2 ^ drop 24 (a * 2 ^ 149) c, round-value false a c h, grid-half (a * 2 ^ 149) c (mul-pos (down-pos e) (down-pos e)))
-square-is (fin false m e) h = let a = m * up e * (m * up e) in let c = down e * down e in (kept 24 (a * 2 ^ 149) c * 2 ^ drop 24 (a * 2 ^ 149) c, round-value false a c h, grid-half (a * 2 ^ 149) c (mul-pos (down-pos e) (down-pos e)))
+square-is (fin true m e) h = let a = m * up e * (m * up e) in let c = down e * down e in (kept 24 (a * 2 ^ 149) c * 2 ^ drop 24 (a * 2 ^ 149) c, round-value false a c h, grid-near (a * 2 ^ 149) c (mul-pos (down-pos e) (down-pos e)))
+square-is (fin false m e) h = let a = m * up e * (m * up e) in let c = down e * down e in (kept 24 (a * 2 ^ 149) c * 2 ^ drop 24 (a * 2 ^ 149) c, round-value false a c h, grid-near (a * 2 ^ 149) c (mul-pos (down-pos e) (down-pos e)))
 
 -- an f32 of a units is no more than what a fraction from there up rounds to
 part : (m : ℕ) (e : ℤ) (a : ℕ) → T (fits binary32 (fin false m e)) → m * up e * 2 ^ 149 ≡ a * down e → (N C : ℕ) → 0 < C → a * C ≤ N → a ≤ kept 24 N C * 2 ^ drop 24 N C
@@ -173,12 +173,6 @@ sum-is (fin false m e) (fin false n d) a b f g v w h =
 
 -- ---- one component over the root
 
--- |x| is at most n units
-abbrev AtMostUnits : Float → ℕ → Type 0
-AtMostUnits nan n = ⊥
-AtMostUnits (inf s) n = ⊥
-AtMostUnits (fin s m e) n = m * up e * 2 ^ 149 ≤ n * down e
-
 square-back : (a b : ℕ) → a * a ≤ b * b → a ≤ b
 square-back a b h = go (decLe a b)
   where
@@ -186,33 +180,50 @@ square-back a b h = go (decLe a b)
     go (yes l) = l
     go (no f) = let l = lt-of-not-le f in absurd (lt-irrefl (b * b) (lt-of-lt-of-le (lt-of-le-of-lt (mul-le-mul (le-refl b) (le-of-lt l)) (mul-lt-mul-of-pos-right l (lt-of-le-of-lt zero-le l))) h))
 
--- x over R units, with |x| at most twice that
-over-root : (x r : Float) (R : ℕ) → HasValue r false R (2 ^ 149) → 0 < R → AtMostUnits x (2 * R) → Within 1 (div binary32 x r)
-unfolding div
-over-root nan r R v p h = absurd h
-over-root (inf s) r R v p h = absurd h
-over-root (fin s m e) nan R v p h = absurd v
-over-root (fin s m e) (inf t) R v p h = absurd v
-over-root (fin s m e) (fin t n d) R v p h =
-    let some : 0 < n * up d = first-pos (n * up d) (2 ^ 149) (subst (λ (z : ℕ). 0 < z) (sym (v .1)) (mul-pos p (down-pos d))) in
-    let z : eqb n 0 ≡ false = ne-eqb n 0 (λ e. lt-irrefl 0 (subst (λ (k : ℕ). 0 < k) (ap (λ (k : ℕ). k * up d) e ∙ zero-mul (up d)) some)) in
-    subst (λ (b : Bool). Within 1 (cond b (cond (eqb m 0) nan (inf (unlike s t))) (round binary32 (unlike s t) (m * up e * down d) (n * up d * down e)))) (sym z)
-    (round-at-most (unlike s t) (m * up e * down d) (n * up d * down e) 1 1 (mul-pos some (down-pos e)) (omega arith) (lit< tt)
-    (le-of-mul-le-mul-right
-    (le-trans (le-of-eq (mul-right-comm (m * up e) (down d) (2 ^ 149)))
-    (le-trans (mul-le-mul-right (down d) h)
-    (le-of-eq (mul-right-comm (2 * R) (down e) (down d) ∙ ap (λ (z : ℕ). z * down e) (mul-assoc 2 R (down d) ∙ ap (λ (z : ℕ). 2 * z) (sym (v .1)) ∙ sym (mul-assoc 2 (n * up d) (2 ^ 149))) ∙ mul-right-comm (2 * (n * up d)) (2 ^ 149) (down e) ∙ ap (λ (z : ℕ). z * 2 ^ 149) (mul-assoc 2 (n * up d) (down e))))))
-    (pow-pos 149)))
+-- |x| by 2 ^ d is at most u times R units
+abbrev AtMostUnits : Float → ℕ → ℕ → ℕ → Type 0
+AtMostUnits nan d u R = ⊥
+AtMostUnits (inf s) d u R = ⊥
+AtMostUnits (fin s m e) d u R = 2 ^ d * (m * up e * 2 ^ 149) ≤ u * (R * down e)
 
--- P is 2 ^ 149: from the square of A / B, which is below 2 q + 1 units, to A / B itself
-root-over : (A B P q D R : ℕ) → 0 < P → A * A * P < (2 * q + 1) * (B * B) → 2 * q + 1 ≤ 3 * D → 3 * (D * P) ≤ 4 * (R * R) → A * P ≤ 2 * R * B
-root-over A B P q D R p h l g =
-    square-back (A * P) (2 * R * B)
-    (le-trans (le-of-eq (mul-mul-mul-comm A P A P ∙ sym (mul-assoc (A * A) P P)))
-    (le-trans (mul-le-mul-right P (le-of-lt h))
-    (le-trans (mul-le-mul-right P (mul-le-mul-right (B * B) l))
-    (le-trans (le-of-eq (mul-right-comm (3 * D) (B * B) P ∙ ap (λ (z : ℕ). z * (B * B)) (mul-assoc 3 D P)))
-    (le-trans (mul-le-mul-right (B * B) g) (le-of-eq (ap (λ (z : ℕ). z * (B * B)) (sym (mul-mul-mul-comm 2 R 2 R)) ∙ sym (mul-mul-mul-comm (2 * R) B (2 * R) B))))))))
+-- so x over R units is at most u / 2 ^ d
+over-root : (x r : Float) (R u d : ℕ) → HasValue r false R (2 ^ 149) → 0 < R → u < 16777216 → d ≤ 149 → AtMostUnits x d u R → Under u d (div binary32 x r)
+unfolding div
+over-root nan r R u d v p U E h = absurd h
+over-root (inf s) r R u d v p U E h = absurd h
+over-root (fin s m e) nan R u d v p U E h = absurd v
+over-root (fin s m e) (inf t) R u d v p U E h = absurd v
+over-root (fin s m e) (fin t n j) R u d v p U E h =
+    let some : 0 < n * up j = first-pos (n * up j) (2 ^ 149) (subst (λ (z : ℕ). 0 < z) (sym (v .1)) (mul-pos p (down-pos j))) in
+    let z : eqb n 0 ≡ false = ne-eqb n 0 (λ e. lt-irrefl 0 (subst (λ (k : ℕ). 0 < k) (ap (λ (k : ℕ). k * up j) e ∙ zero-mul (up j)) some)) in
+    subst (λ (b : Bool). Under u d (cond b (cond (eqb m 0) nan (inf (unlike s t))) (round binary32 (unlike s t) (m * up e * down j) (n * up j * down e)))) (sym z)
+    (round-under (unlike s t) (m * up e * down j) (n * up j * down e) u d (mul-pos some (down-pos e)) U E
+    (le-of-mul-le-mul-right
+    (le-trans (le-of-eq (first (m * up e) (down j) (2 ^ d) (2 ^ 149)))
+    (le-trans (mul-le-mul-right (down j) h)
+    (le-of-eq (second u R (down e) (down j) ∙ ap (λ (z : ℕ). u * (z * down e)) (sym (v .1)) ∙ third u (n * up j) (2 ^ 149) (down e)))))
+    (pow-pos 149)))
+  where
+    first : (a b c q : ℕ) → a * b * c * q ≡ c * (a * q) * b
+    first a b c q = simp (mul-assoc, mul-comm, mul-left-comm)
+
+    second : (a b c q : ℕ) → a * (b * c) * q ≡ a * (b * q * c)
+    second a b c q = simp (mul-assoc, mul-comm, mul-left-comm)
+
+    third : (a b c q : ℕ) → a * (b * c * q) ≡ a * (b * q) * c
+    third a b c q = simp (mul-assoc, mul-comm, mul-left-comm)
+
+-- P is 2 ^ 149: from the square of A / B, which is at most S / 256 units, to A / B itself; S is at most t times the dot's D units, and R are the root's
+root-over : (u v t A B P S D R : ℕ) → 4 * t * (v * v) ≤ 768 * (u * u) → 256 * (A * A * P) ≤ S * (B * B) → S ≤ t * D → 3 * (D * P) ≤ 4 * (R * R) → v * (A * P) ≤ u * (R * B)
+root-over u v t A B P S D R c h l g =
+    let h' = mul-le-mul-right (3 * P) h in
+    let l' = mul-le-mul-right (B * B * (3 * P)) l in
+    let g' = mul-le-mul-right (t * (B * B)) g in
+    let e : 768 * (A * P * (A * P)) ≤ 4 * t * (R * B * (R * B)) = omega arith in
+    square-back (v * (A * P)) (u * (R * B)) (last (A * P) (R * B) e)
+  where
+    last : (a b : ℕ) → 768 * (a * a) ≤ 4 * t * (b * b) → v * a * (v * a) ≤ u * b * (u * b)
+    last a b e = let e' = mul-le-mul-right (v * v) e in let c' = mul-le-mul-right (b * b) c in omega arith
 
 some-root : (D P R : ℕ) → 0 < D → 0 < P → 3 * (D * P) ≤ 4 * (R * R) → 0 < R
 some-root D P R d p h = go (eq-zero-or-pos R)
@@ -221,18 +232,19 @@ some-root D P R d p h = go (eq-zero-or-pos R)
     go (inr l) = l
     go (inl e) = absurd (lt-irrefl 0 (lt-of-lt-of-le (mul-pos (zero-lt-suc 2) (mul-pos d p)) (le-trans h (le-of-eq (ap (λ (z : ℕ). 4 * (z * z)) e)))))
 
-component : (x d : Float) (q D : ℕ) → T (fits binary32 d) → HasSquare x q → HasValue d false D (2 ^ 149) → 0 < D → q ≤ D → Within 1 (div binary32 x (rootOf d))
-component nan d q D f h v p l = absurd h
-component (inf s) d q D f h v p l = absurd h
-component (fin s m e) nan q D f h v p l = absurd v
-component (fin s m e) (inf t) q D f h v p l = absurd v
-component (fin s m e) (fin true n g) q D f h v p l = absurd (false≢true (sym (v .0)))
-component (fin s m e) (fin false zero g) q D f h v p l = absurd (lt-irrefl 0 (lt-of-lt-of-le (mul-pos p (down-pos g)) (le-of-eq (sym (v .1) ∙ ap (λ (z : ℕ). z * 2 ^ 149) (zero-mul (up g)) ∙ zero-mul (2 ^ 149)))))
-component (fin s m e) (fin false (suc n) g) q D f h v p l =
+component : (u d t : ℕ) → u < 16777216 → d ≤ 149 → 4 * t * (2 ^ d * 2 ^ d) ≤ 768 * (u * u) → (x y : Float) (q D : ℕ) → T (fits binary32 y) → HasSquare x q → HasValue y false D (2 ^ 149) → 0 < D → 257 * q + 256 ≤ t * D
+    → Under u d (div binary32 x (rootOf y))
+component u d t U E c nan y q D f h v p l = absurd h
+component u d t U E c (inf s) y q D f h v p l = absurd h
+component u d t U E c (fin s m e) nan q D f h v p l = absurd v
+component u d t U E c (fin s m e) (inf i) q D f h v p l = absurd v
+component u d t U E c (fin s m e) (fin true n g) q D f h v p l = absurd (false≢true (sym (v .0)))
+component u d t U E c (fin s m e) (fin false zero g) q D f h v p l = absurd (lt-irrefl 0 (lt-of-lt-of-le (mul-pos p (down-pos g)) (le-of-eq (sym (v .1) ∙ ap (λ (z : ℕ). z * 2 ^ 149) (zero-mul (up g)) ∙ zero-mul (2 ^ 149)))))
+component u d t U E c (fin s m e) (fin false (suc n) g) q D f h v p l =
     let r = root-square n g f in
     let R = r .0 in
     let b : 3 * (D * 2 ^ 149) ≤ 4 * (R * R) = subst (λ (z : ℕ). 3 * (z * 2 ^ 149) ≤ 4 * (R * R)) (counted (suc n) g D (v .1)) (r .2) in
-    over-root (fin s m e) (rootOf (fin false (suc n) g)) R (r .1) (some-root D (2 ^ 149) R p (pow-pos 149) b) (root-over (m * up e) (down e) (2 ^ 149) q D R (pow-pos 149) h (omega arith) b)
+    over-root (fin s m e) (rootOf (fin false (suc n) g)) R u d (r .1) (some-root D (2 ^ 149) R p (pow-pos 149) b) U E (root-over u (2 ^ d) t (m * up e) (down e) (2 ^ 149) (257 * q + 256) D R c (le-of-lt h) l b)
 
 -- ---- the vector
 
@@ -249,14 +261,27 @@ thin-above : lt zero32 thinLimit ≡ true
 unfolding lt ofBits
 thin-above = refl
 
-pub normal-within : (a : Vec3) → lt zero32 (dotV a a) ≡ true → finite (dotV a a) ≡ true → EachAtMost 1 1 (normalV a)
-unfolding dotV normalV divV lengthV
-normal-within a p f =
+-- the dot of a vector with itself, in units, and what each component's square is at most
+record Squared (a : Vec3) : Type 0 where
+  whole : ℕ
+  value : HasValue (dotV a a) false whole (2 ^ 149)
+  x-part : ℕ
+  x-square : HasSquare (a .x) x-part
+  x-most : x-part ≤ whole
+  y-part : ℕ
+  y-square : HasSquare (a .y) y-part
+  y-most : y-part ≤ whole
+  z-part : ℕ
+  z-square : HasSquare (a .z) z-part
+  z-most : z-part ≤ whole
+
+squared : (a : Vec3) → finite (dotV a a) ≡ true → Squared a
+unfolding dotV
+squared a f =
     let X = mul binary32 (a .x) (a .x) in
     let Y = mul binary32 (a .y) (a .y) in
     let Z = mul binary32 (a .z) (a .z) in
     let S = add binary32 X Y in
-    let d = add binary32 S Z in
     let o = parts-finite S Z f in
     let i = parts-finite X Y (o .0) in
     let x = square-is (a .x) (i .0) in
@@ -264,15 +289,109 @@ normal-within a p f =
     let z = square-is (a .z) (o .1) in
     let s = sum-is X Y (x .0) (y .0) (mul-fits binary32 (a .x) (a .x)) (mul-fits binary32 (a .y) (a .y)) (x .1) (y .1) (o .0) in
     let t = sum-is S Z (s .0) (z .0) (add-fits binary32 X Y) (mul-fits binary32 (a .z) (a .z)) (s .1) (z .1) f in
-    let D = t .0 in
-    let g = above-zero d D (t .1) p in
-    let h = add-fits binary32 S Z in
     record {
-      x = component (a .x) d (x .0) D h (x .2) (t .1) g (le-trans (s .2) (t .2));
-      y = component (a .y) d (y .0) D h (y .2) (t .1) g (le-trans (s .3) (t .2));
-      z = component (a .z) d (z .0) D h (z .2) (t .1) g (t .3);
+      whole = t .0;
+      value = t .1;
+      x-part = x .0;
+      x-square = x .2;
+      x-most = le-trans (s .2) (t .2);
+      y-part = y .0;
+      y-square = y .2;
+      y-most = le-trans (s .3) (t .2);
+      z-part = z .0;
+      z-square = z .2;
+      z-most = t .3;
     }
+
+-- it is not negative
+pub square-sum : (a : Vec3) → finite (dotV a a) ≡ true → (D : ℕ) × HasValue (dotV a a) false D (2 ^ 149)
+square-sum a f = let s = squared a f in (s .whole, s .value)
+
+-- where the squares, in 256ths, are at most t times the dot's
+normal-under : (u d t : ℕ) → u < 16777216 → d ≤ 149 → 4 * t * (2 ^ d * 2 ^ d) ≤ 768 * (u * u) → (a : Vec3) (s : Squared a) → 0 < s .whole → ((q : ℕ) → q ≤ s .whole → 257 * q + 256 ≤ t * s .whole)
+    → EachUnder u d (normalV a)
+unfolding dotV normalV divV lengthV
+normal-under u d t U E c a s g l =
+    let h = add-fits binary32 _ _ in
+    record {
+      x = component u d t U E c (a .x) (dotV a a) (s .x-part) (s .whole) h (s .x-square) (s .value) g (l _ (s .x-most));
+      y = component u d t U E c (a .y) (dotV a a) (s .y-part) (s .whole) h (s .y-square) (s .value) g (l _ (s .y-most));
+      z = component u d t U E c (a .z) (dotV a a) (s .z-part) (s .whole) h (s .z-square) (s .value) g (l _ (s .z-most));
+    }
+
+whole-under : (x : Float) → Under 2 0 x → Within 1 x
+unfolding Under AtMost
+whole-under nan h = h
+whole-under (inf s) h = h
+whole-under (fin s m e) h = omega (arith, h)
+
+pub normal-within : (a : Vec3) → lt zero32 (dotV a a) ≡ true → finite (dotV a a) ≡ true → EachAtMost 1 1 (normalV a)
+normal-within a p f =
+    let s = squared a f in
+    let g = above-zero (dotV a a) (s .whole) (s .value) p in
+    let n = normal-under 2 0 513 (lit< tt) (lit≤ tt) (lit≤ tt) a s g (λ q h. omega arith) in
+    record { x = whole-under _ (n .x); y = whole-under _ (n .y); z = whole-under _ (n .z) }
 
 -- so too of a light's direction or a cross that is not thin
 pub thin-normal-within : (a : Vec3) → lt thinLimit (dotV a a) ≡ true → finite (dotV a a) ≡ true → EachAtMost 1 1 (normalV a)
 thin-normal-within a p f = normal-within a (lt-transitive zero32 thinLimit (dotV a a) thin-above p) f
+
+-- a dot that is not thin is many units
+many-units : (d : Float) (D : ℕ) → HasValue d false D (2 ^ 149) → lt thinLimit d ≡ true → 256 ≤ D
+unfolding lt ofBits
+many-units nan D v h = absurd v
+many-units (inf s) D v h = absurd v
+many-units (fin true m e) D v h = absurd (false≢true (sym (v .0)))
+many-units (fin false m e) D v h =
+    let l : 2305843 * 1 * down e < m * up e * 2 ^ 61 = ltb-true _ _ h in
+    le-of-mul-le-mul-right (le-trans (mul-le-mul-right {m = 256} {n = 2305843 * 1} (down e) (lit≤ tt)) (le-trans (le-of-lt l) (le-trans (mul-le-mul (le-refl (m * up e)) (pow-mono {i = 61} {j = 149} (lit≤ tt))) (le-of-eq (v .1))))) (down-pos e)
+
+-- and there each component is at most 19 / 16 in size
+pub thin-normal-under : (a : Vec3) → lt thinLimit (dotV a a) ≡ true → finite (dotV a a) ≡ true → EachUnder 19 4 (normalV a)
+thin-normal-under a p f =
+    let s = squared a f in
+    let m = many-units (dotV a a) (s .whole) (s .value) p in
+    normal-under 19 4 258 (lit< tt) (lit≤ tt) (lit≤ tt) a s (omega arith) (λ q h. omega arith)
+
+-- ---- any vector
+
+-- where the dot is 0, each quotient is infinite or NaN
+over-zero : (x : Float) (s : Bool) (e : ℤ) → finite (div binary32 x (fin s 0 e)) ≡ false
+unfolding div
+over-zero nan s e = refl
+over-zero (inf t) s e = refl
+over-zero (fin t m d) s e = either-wild (eqb m 0) (unlike t s)
+
+over-none : (x d : Float) (D : ℕ) → HasValue d false D (2 ^ 149) → lt zero32 d ≡ false → finite (div binary32 x (rootOf d)) ≡ false
+unfolding lt ofBits rootOf
+over-none x nan D v h = absurd v
+over-none x (inf s) D v h = absurd v
+over-none x (fin true m e) D v h = absurd (false≢true (sym (v .0)))
+over-none x (fin false zero e) D v h = over-zero x false e
+over-none x (fin false (suc m) e) D v h =
+    absurd (lt-irrefl 0 (lt-of-lt-of-le (mul-pos (mul-pos (zero-lt-suc m) (up-pos e)) (zero-lt-suc 0)) (le-trans (ltb-false (0 * down e) (suc m * up e * 1) h) (le-of-eq (zero-mul (down e))))))
+
+-- whatever is normalised: some component is infinite or NaN, or each is at most 2 in size
+pub normal-spread : (a : Vec3) → Wild (normalV a) ⊎ EachAtMost 1 1 (normalV a)
+unfolding normalV divV lengthV
+normal-spread a = by (finite (dotV a a)) refl
+  where
+    over : Float → Float
+    over x = div binary32 x (rootOf (dotV a a))
+
+    each : (p q r : Bool) → finite (dotV a a) ≡ false → finite (over (a .x)) ≡ p → finite (over (a .y)) ≡ q → finite (over (a .z)) ≡ r
+        → Wild (normalV a) ⊎ EachAtMost 1 1 (normalV a)
+    each false q r f h g k = inl (wild-x h)
+    each true false r f h g k = inl (wild-y g)
+    each true true false f h g k = inl (wild-z k)
+    each true true true f h g k =
+        let o = root-wild (dotV a a) f in
+        inr (record { x = over-wild (a .x) _ 1 1 o h; y = over-wild (a .y) _ 1 1 o g; z = over-wild (a .z) _ 1 1 o k })
+
+    some : (b : Bool) → lt zero32 (dotV a a) ≡ b → finite (dotV a a) ≡ true → Wild (normalV a) ⊎ EachAtMost 1 1 (normalV a)
+    some true p f = inr (normal-within a p f)
+    some false p f = let s = squared a f in inl (wild-x (over-none (a .x) (dotV a a) (s .whole) (s .value) p))
+
+    by : (b : Bool) → finite (dotV a a) ≡ b → Wild (normalV a) ⊎ EachAtMost 1 1 (normalV a)
+    by true f = some (lt zero32 (dotV a a)) refl f
+    by false f = each (finite (over (a .x))) (finite (over (a .y))) (finite (over (a .z))) f refl refl refl

@@ -7,8 +7,8 @@ use mathlib.Core.Bool.{false}
 use lib.Ieee.{Float, isNan}
 use Rattle.vectors.specs.declared.Vec3.{Vec3}
 use Rattle.vectors.specs.Vectors.{addV, subV, mulV, scaleV, negV, dotV, crossV, largerV, smallerV, clampV}
-use Rattle.bounds.specs.Bounds.{AtMost, EachAtMost}
-use Rattle.bounds.specs.BoundsLaws.{neg-at-most, add-at-most, sub-at-most, mul-at-most, larger-at-most, smaller-at-most, clamp-at-most}
+use Rattle.bounds.specs.Bounds.{AtMost, EachAtMost, EachUnder}
+use Rattle.bounds.specs.BoundsLaws.{neg-at-most, add-at-most, sub-at-most, mul-at-most, under-mul, larger-at-most, smaller-at-most, clamp-at-most}
 
 pub neg-each : (a : Vec3) (n k : ℕ) → EachAtMost n k a → EachAtMost n k (negV a)
 unfolding negV
@@ -44,6 +44,15 @@ scale-each a s n j l k N B h g = record {
   x = mul-at-most (a .x) s n j l k N B (h .x) g;
   y = mul-at-most (a .y) s n j l k N B (h .y) g;
   z = mul-at-most (a .z) s n j l k N B (h .z) g;
+}
+
+-- a vector whose components are fractions, by a number
+pub scale-under : (a : Vec3) (s : Float) (n k l d : ℕ) → n * l < 16777216 → n * l * 2 ^ k < 2 ^ 128 → EachUnder l d a → AtMost (n * 2 ^ d) k s → EachAtMost (n * l) k (scaleV a s)
+unfolding scaleV
+scale-under a s n k l d N B h g = record {
+  x = under-mul (a .x) s n k l d N B (h .x) g;
+  y = under-mul (a .y) s n k l d N B (h .y) g;
+  z = under-mul (a .z) s n k l d N B (h .z) g;
 }
 
 pub larger-each : (a b : Vec3) (n k : ℕ) → EachAtMost n k a → EachAtMost n k b → EachAtMost n k (largerV a b)

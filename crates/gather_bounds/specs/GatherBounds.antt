@@ -20,15 +20,16 @@ use Rattle.vectors.specs.declared.Vec3.{Vec3}
 use Rattle.vectors.specs.declared.Ray.{Ray}
 use Rattle.vectors.specs.Vectors.{normalV}
 use Rattle.bounds.specs.Bounds.{AtMost, EachAtMost}
-use Rattle.bounds.specs.BoundsLaws.{at-most-of-value, at-most-up, at-most-finite, at-most-of-test, test-of-at-most, div-at-most, int-at-most, zero-at-most, one-value, point-value, colour-value, light-value, coefficient-value}
+use Rattle.bounds.specs.BoundsLaws.{at-most-of-value, at-most-up, at-most-finite, at-most-of-test, div-at-most, int-at-most, zero-at-most, one-value, point-value, colour-value, light-value, coefficient-value}
 use Rattle.bounds.specs.VectorLaws.{dot-at-most}
 use Rattle.bounds.specs.NormalLaws.{thin-normal-within}
+use Rattle.grid_laws.specs.RowBounds.{within-at-most, at-most-within, within-each}
 use Rattle.directions.specs.Table.{directions}
 use Rattle.directions.specs.Sets.{set-below}
 use Rattle.directions.specs.RuleLaws.{Small, number-small}
 use Rattle.grid.specs.Grid.{xOf, yOf, zOf, floatOf, edgesOf}
 use Rattle.limits.specs.Limits.{within, upTo, wrongScene, tooMany, badPoints, badMaterials, badDirection, badColour, badLight, badAmbient, badSky, badLights, lampAt, badLamps}
-use Rattle.limits.specs.LimitsLaws.{within-between, vector-row, either, any-of-three, points-row, materials-row, transmission-within, colour-within, sound, direction-row, sky-row, lights-row, lamp-row, lamps-row}
+use Rattle.limits.specs.LimitsLaws.{either, any-of-three, points-row, materials-row, transmission-within, colour-within, sound, direction-row, sky-row, lights-row, lamp-row, lamps-row}
 use Rattle.limits.specs.declared.Light.{Light}
 use Rattle.limits.specs.declared.Ambient.{Ambient}
 use Rattle.triangle.specs.Places.{vecAt}
@@ -54,7 +55,7 @@ component-small k c h p =
     let e : 64 * (k / 64) + k % 64 ≡ k = omega arith in
     small-at-most _ (rw e at (number-small (k / 64) (k % 64) c (omega arith) (omega arith) p))
 
-direction-small : (k : ℕ) → k < 576 → EachAtMost 2 0 (directionAt k)
+pub direction-small : (k : ℕ) → k < 576 → EachAtMost 2 0 (directionAt k)
 direction-small k h =
     record { x = rw add-zero at (component-small k 0 h (lit< tt)); y = component-small k 1 h (lit< tt); z = component-small k 2 h (lit< tt) }
 
@@ -115,13 +116,13 @@ and-right true b h = h
 and-right false b h = absurd (false≢true h)
 
 colour-at-most : (x : Float) → within colourLimit x ≡ true → AtMost 1 16 x
-colour-at-most x h = let p = within-between colourLimit x .0 h in at-most-of-test x colourLimit 1 16 colour-value (p .0) (p .1)
+colour-at-most x h = within-at-most colourLimit x 1 16 colour-value h
 
 point-at-most : (x : Float) → within pointLimit x ≡ true → AtMost 1 12 x
-point-at-most x h = let p = within-between pointLimit x .0 h in at-most-of-test x pointLimit 1 12 point-value (p .0) (p .1)
+point-at-most x h = within-at-most pointLimit x 1 12 point-value h
 
 light-at-most : (x : Float) → within lightLimit x ≡ true → AtMost 1 64 x
-light-at-most x h = let p = within-between lightLimit x .0 h in at-most-of-test x lightLimit 1 64 light-value (p .0) (p .1)
+light-at-most x h = within-at-most lightLimit x 1 64 light-value h
 
 minus-one : Ieee.le (Ieee.neg one32) zero32 ≡ true
 unfolding Ieee.le Ieee.lt Ieee.eq Ieee.neg ofBits
@@ -133,11 +134,9 @@ transmission-at-most x h =
     at-most-of-test x one32 1 0 one-value (le-transitive (Ieee.neg one32) zero32 x minus-one (and-left _ _ h)) (and-right (Ieee.le zero32 x) _ h)
 
 each-colour : (v : Vec3) → badColour v ≡ false → EachAtMost 1 16 v
-each-colour v h =
-    let p = vector-row colourLimit v .0 h in
-    record { x = colour-at-most (v .x) (p .0); y = colour-at-most (v .y) (p .1); z = colour-at-most (v .z) (p .2) }
+each-colour v h = within-each colourLimit v 1 16 colour-value h
 
-modest : (g : GatherInput) → Rows g → Modest (g .scene)
+pub modest : (g : GatherInput) → Rows g → Modest (g .scene)
 modest g r =
     let q = sound (g .scene .points) (g .scene .uses) (g .scene .kinds) (g .scene .numbers) (r .lists) (r .many) (r .materials) in
     let n = materials-row (g .scene .uses) (g .scene .kinds) (g .scene .numbers) .0 (r .materials) .1 in
@@ -151,8 +150,7 @@ modest g r =
 toward-small : (d : Vec3) → badDirection d ≡ false → EachAtMost 1 1 (normalV d)
 toward-small d h =
     let p = direction-row d .0 h in
-    let q = vector-row pointLimit d .0 (p .0) in
-    let e : EachAtMost 1 12 d = record { x = point-at-most (d .x) (q .0); y = point-at-most (d .y) (q .1); z = point-at-most (d .z) (q .2) } in
+    let e = within-each pointLimit d 1 12 point-value (p .0) in
     thin-normal-within d (p .1) (at-most-finite _ 3 24 (dot-at-most d d 1 12 1 12 (lit< tt) (lit< tt) e e))
 
 ambient-small : (a : Ambient) → badAmbient a ≡ false → AllAtMost 1 16 (ambientOf a)
@@ -162,7 +160,7 @@ ambient-small a h =
     let q = any-of-three (badColour (a .c0)) (badColour (a .c1)) (badColour (a .c2)) .0 (p .0) in
     record { c0 = each-colour (a .c0) (q .0); c1 = each-colour (a .c1) (q .1); c2 = each-colour (a .c2) (q .2); c3 = each-colour (a .c3) (p .1) }
 
-setting-small : (edges : Vec3) (l : Light) (a : Ambient) → badLight l ≡ false → badAmbient a ≡ false → ModestSetting (settingOf edges l a)
+pub setting-small : (edges : Vec3) (l : Light) (a : Ambient) → badLight l ≡ false → badAmbient a ≡ false → ModestSetting (settingOf edges l a)
 unfolding badLight settingOf
 setting-small edges l a h k =
     let p = either (badDirection (l .direction)) (badColour (l .colour)) .0 h in
@@ -213,5 +211,4 @@ gathered-within g i r h c k =
     let done = floored-all _ (ambientOf (g .ambient)) (raised-all _ 2560 79 (irradiance-all _ sums)) (ambient-small (g .ambient) (r .ambient)) in
     let every = sixteen-small _ (getD (g .lights) i nan) _ done (light-at-most _ (lights-row (g .lights) .0 (r .lights) i h)) (seen-small _ (misses-most g i)) in
     let x = every-at (gatheredOf g i) every c (rw (length-gathered g i) k) in
-    let p = test-of-at-most _ coefficientLimit 1 96 coefficient-value x in
-    within-between coefficientLimit _ .1 p
+    at-most-within coefficientLimit _ 1 96 coefficient-value x

@@ -1,5 +1,6 @@
--- What gather writes stays within ±2^96: the light of a surface, a voxel's sums, and its sixteen numbers.
+-- How large what gather writes can be, and that the departure of its rays' test never shows.
 pub mod Each
 pub mod LightBounds
 pub mod SceneBounds
 pub mod GatherBounds
+pub mod RayBounds

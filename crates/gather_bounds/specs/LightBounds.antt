@@ -22,6 +22,7 @@ use Rattle.vectors.specs.Vectors.{negV, addV, subV, scaleV, divV, dotV, lengthV
 use Rattle.bounds.specs.Bounds.{AtMost, EachAtMost}
 use Rattle.bounds.specs.BoundsLaws.{at-most-up, at-most-finite, at-least-of-test, add-at-most, sub-at-most, mul-at-most, div-at-most, larger-at-most, clamp-at-most, zero-at-most}
 use Rattle.bounds.specs.NormalLaws.{thin-normal-within}
+use Rattle.bounds.specs.WildLaws.{root-wild}
 use Rattle.bounds.specs.VectorLaws.{neg-each, add-each, mul-each, scale-each, larger-each, dot-at-most}
 use Rattle.limits.specs.LimitsLaws.{either}
 use Rattle.harmonics.specs.declared.Coefficients.{Coefficients}
@@ -114,13 +115,6 @@ nothing-over (fin s m e) nan h = tt
 nothing-over (fin s m e) (inf t) h = lit≤ tt
 nothing-over (fin s m e) (fin t n d) h = absurd (false≢true (sym h))
 
-root-of-none : (d : Float) → finite d ≡ false → finite (rootOf d) ≡ false
-unfolding rootOf
-root-of-none nan h = refl
-root-of-none (inf true) h = refl
-root-of-none (inf false) h = refl
-root-of-none (fin s m e) h = absurd (false≢true (sym h))
-
 -- a lamp above a surface stands at a finite distance: from any other, l has no component above 0, and n·l is none
 pub reach-finite : (n v : Vec3) → EachAtMost 1 1 n → Ieee.lt zero32 (dotV n (normalV v)) ≡ true → finite (dotV v v) ≡ true
 unfolding normalV lengthV divV dotV
@@ -131,7 +125,7 @@ reach-finite n v h l = go (finite (dotV v v)) refl
 
     none : finite (dotV v v) ≡ false → Nothing (dotV n (divV v r))
     none e =
-        let f = root-of-none (dotV v v) e in
+        let f = root-wild (dotV v v) e in
         nothing-add _ _ (nothing-add _ _ (nothing-mul (n .x) _ (h .x) (nothing-over (v .x) r f)) (nothing-mul (n .y) _ (h .y) (nothing-over (v .y) r f))) (nothing-mul (n .z) _ (h .z) (nothing-over (v .z) r f))
 
     go : (b : Bool) → finite (dotV v v) ≡ b → finite (dotV v v) ≡ true

@@ -1,2 +1,4 @@
--- What the numbers of an accepted grid are.
+-- What passes the rows, as bounds; what the numbers of an accepted grid are, and how large.
+pub mod RowBounds
 pub mod EdgeLaws
+pub mod GridBounds

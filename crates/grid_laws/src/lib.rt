@@ -1,1 +1,1 @@
-// Laws only: specs/ has what the smallest edge of a grid is, once row 2 has passed.
+// Laws only: specs/ has what the edges of a grid are once row 2 has passed, and how large its numbers get.

@@ -1,2 +1,3 @@
--- The numbers of an accepted test are finite.
+-- How large the numbers of a ray's test are, and where its departure shows.
 pub mod TestBounds
+pub mod Departure

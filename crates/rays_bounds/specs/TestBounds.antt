@@ -1,36 +1,37 @@
--- Within the limits every number of the test is finite: once the determinant has passed, |u| and |v| are at most 204·2^52 and |t| is at most 408·2^63.
--- So the departure that makes a non-finite distance a miss never shows for an accepted call, and a hit's u and v are numbers.
-use mathlib.Core.Path.{_≡_, refl}
+-- How large the numbers of the test are, of a ray that starts within n·2^k: once the determinant has passed, |u| and |v| are at most 12·(n+1)·2^(k+40) and |t| is
+-- at most 24·(n+1)·2^(k+51), and of t that holds whatever the direction, infinite or NaN too. So within the limits every number is finite: the departure that makes
+-- a non-finite distance a miss never shows for an accepted call, and a hit's u and v are numbers.
+use mathlib.Core.Path.{_≡_, refl, sym}
 use mathlib.Core.Bool.{Bool, true, false, _||_, false≢true}
-use Prim.Native.Nat.{ℕ, _*_, _^_, _≤_}
+use mathlib.Core.List.{List}
+use Prim.Native.Nat.{ℕ, _+_, _*_, _^_, _≤_, _<_, zero-le}
+use native.Mathlib.Nat.{le-refl, mul-le-mul, lt-of-le-of-lt}
+use native.Mathlib.Omega.{arith}
 use lib.Dec.{lit<, lit≤}
-use lib.Ieee.{Float, nan, inf, fin, neg, le, lt, eq, isNan, ofBits}
+use lib.ListN.{length, getD}
+use lib.Pow.{pow-mono}
+use lib.Ieee.{Float, nan, inf, fin, binary32, neg, mul, div, le, lt, eq, isNan, ofBits}
 use lib.Ieee.Exact.{HasValue}
 use lib.Ieee.Scale.{finite}
 use Rattle.names.specs.Bits.{lit, one32}
 use Rattle.names.specs.Numbers.{pointLimit, colourLimit, directionLimit}
 use Rattle.floats.specs.Choice.{magnitudeOf}
 use Rattle.floats.specs.OrderLaws.{not-lt-le, le-transitive}
+use Rattle.floats.specs.FiniteLaws.{finite-number}
 use Rattle.vectors.specs.declared.Vec3.{Vec3}
 use Rattle.vectors.specs.declared.Ray.{Ray}
 use Rattle.vectors.specs.declared.Triangle.{Triangle}
-use Rattle.limits.specs.Limits.{outsideV, badTriangle, badRay}
-use Rattle.limits.specs.LimitsLaws.{within-between, vector-row, any-of-three, ray-row}
+use Rattle.vectors.specs.Vectors.{subV, crossV}
+use Rattle.limits.specs.Limits.{badPoints, badTriangle, badRay}
+use Rattle.limits.specs.LimitsLaws.{any-of-three, points-row, ray-row}
 use Rattle.bounds.specs.Bounds.{AtMost, AtLeast, EachAtMost}
 use Rattle.bounds.specs.BoundsLaws.{at-most-up, at-most-of-test, test-of-at-most, at-least-of-test, at-most-finite, magnitude-at-most, mul-at-most, div-at-most, one-value, point-value, colour-value, direction-value}
 use Rattle.bounds.specs.VectorLaws.{sub-each, dot-at-most, cross-each}
+use Rattle.grid_laws.specs.RowBounds.{within-at-most, within-each}
 use Rattle.triangle.specs.Meet.{flatLimit, largest32, solvedOf, meetOf}
+use Rattle.triangle.specs.Places.{vecAt, triangleAt}
 use Rattle.triangle.specs.Laws.{hit-met}
 use Rattle.triangle.specs.declared.Meet.the-variants.{Hit}
-
--- a vector whose components are within a limit that is n·2^k
-each : (b : Float) (n k : ℕ) (v : Vec3) → HasValue b false (n * 2 ^ k) 1 → outsideV b v ≡ false → EachAtMost n k v
-each b n k v h e =
-    let p = vector-row b v .0 e in
-    let x = within-between b (v .x) .0 (p .0) in
-    let y = within-between b (v .y) .0 (p .1) in
-    let z = within-between b (v .z) .0 (p .2) in
-    record { x = at-most-of-test _ b n k h (x .0) (x .1); y = at-most-of-test _ b n k h (y .0) (y .1); z = at-most-of-test _ b n k h (z .0) (z .1) }
 
 wider : (n k l j : ℕ) (v : Vec3) → n * 2 ^ k ≤ l * 2 ^ j → EachAtMost n k v → EachAtMost l j v
 wider n k l j v h e = record { x = at-most-up _ n k l j h (e .x); y = at-most-up _ n k l j h (e .y); z = at-most-up _ n k l j h (e .z) }
@@ -60,7 +61,7 @@ above y n g = le-transitive (lit 0x32000000) flatLimit y smaller (not-lt-le flat
 
 -- what is not at most 1e-8 in magnitude is at least 2^-27
 steep : (x : Float) → finite x ≡ true → le (magnitudeOf x) flatLimit ≡ false → AtLeast 1 27 x
-unfolding AtLeast magnitudeOf finite isNan
+unfolding AtLeast magnitudeOf isNan
 steep nan f h = absurd (false≢true f)
 steep (inf s) f h = absurd (false≢true f)
 steep (fin s m e) f h = at-least-of-test (fin false m e) (lit 0x32000000) 1 27 least refl (above (fin false m e) refl h)
@@ -73,51 +74,130 @@ one-below : le one32 one32 ≡ true
 unfolding le lt eq ofBits
 one-below = refl
 
-pub record Bounded (ray : Ray) (triangle : Triangle) : Type 0 where
-  pub u : AtMost 204 52 (solvedOf ray triangle .u)
-  pub v : AtMost 204 52 (solvedOf ray triangle .v)
-  pub t : AtMost 408 63 (solvedOf ray triangle .t)
+-- ---- a triangle whose points lie within ±4,096
 
-pub test-bounded : (ray : Ray) (triangle : Triangle) → badTriangle triangle ≡ false → badRay ray ≡ false
-    → le (magnitudeOf (solvedOf ray triangle .det)) flatLimit ≡ false → Bounded ray triangle
-unfolding badTriangle solvedOf
-test-bounded ray triangle bt br h =
-    let tri = any-of-three _ _ _ .0 bt in
+pub record NearPoints (triangle : Triangle) : Type 0 where
+  pub p0 : EachAtMost 1 12 (triangle .p0)
+  pub p1 : EachAtMost 1 12 (triangle .p1)
+  pub p2 : EachAtMost 1 12 (triangle .p2)
+
+pub near-points : (triangle : Triangle) → badTriangle triangle ≡ false → NearPoints triangle
+unfolding badTriangle
+near-points triangle h =
+    let t = any-of-three _ _ _ .0 h in
+    record { p0 = within-each pointLimit _ 1 12 point-value (t .0); p1 = within-each pointLimit _ 1 12 point-value (t .1); p2 = within-each pointLimit _ 1 12 point-value (t .2) }
+
+-- the triangle at a place of a list that row 5 accepts
+pub near-place : (points : List Float) (i : ℕ) → badPoints points ≡ false → i * 9 + 8 < length points → NearPoints (triangleAt points i)
+unfolding triangleAt
+near-place points i h l = record { p0 = first; p1 = at 3 (omega arith); p2 = at 6 (omega arith) }
+  where
+    number : (j : ℕ) → j < length points → AtMost 1 12 (getD points j nan)
+    number j q = within-at-most pointLimit _ 1 12 point-value (points-row points .0 h j q)
+
+    first : EachAtMost 1 12 (vecAt points (i * 9))
+    first = record { x = number (i * 9) (omega arith); y = number (i * 9 + 1) (omega arith); z = number (i * 9 + 2) (omega arith) }
+
+    at : (c : ℕ) → c + 2 < 9 → EachAtMost 1 12 (vecAt points (i * 9 + c))
+    at c q = record { x = number (i * 9 + c) (omega arith); y = number (i * 9 + c + 1) (omega arith); z = number (i * 9 + c + 2) (omega arith) }
+
+-- ---- the numbers of the test, of a ray that starts within n·2^k
+
+-- 1 over a determinant that is not flat: over an infinity it is a zero
+inverse-small : (d : Float) → isNan d ≡ false → le (magnitudeOf d) flatLimit ≡ false → AtMost 1 27 (div binary32 one32 d)
+unfolding isNan
+inverse-small nan o h = absurd (false≢true (sym o))
+inverse-small (inf s) o h = unfold div AtMost ofBits in zero-le
+inverse-small (fin s m e) o h =
+    div-at-most one32 (fin s m e) 1 1 0 27 (lit< tt) (lit< tt) (lit< tt) (at-most-of-test one32 one32 1 0 one-value one-above one-below) (steep (fin s m e) refl h)
+
+-- over NaN it is NaN
+number-under : (x d : Float) → isNan (mul binary32 x (div binary32 one32 d)) ≡ false → isNan d ≡ false
+unfolding isNan mul div ofBits
+number-under nan nan h = h
+number-under (inf s) nan h = h
+number-under (fin s m e) nan h = h
+number-under x (inf t) h = refl
+number-under x (fin t n d) h = refl
+
+less : (a b i j : ℕ) → a ≤ b → i ≤ j → b * 2 ^ j < 2 ^ 128 → a * 2 ^ i < 2 ^ 128
+less a b i j h g l = lt-of-le-of-lt (mul-le-mul h (pow-mono g)) l
+
+again : (x : Float) (n l k j : ℕ) → n ≡ l → k ≡ j → AtMost n k x → AtMost l j x
+again x n l k j p q h = rw (sym p, sym q) h
+
+pub record Bounded (n k : ℕ) (ray : Ray) (triangle : Triangle) : Type 0 where
+  pub u : AtMost (12 * (n + 1)) (k + 40) (solvedOf ray triangle .u)
+  pub v : AtMost (12 * (n + 1)) (k + 40) (solvedOf ray triangle .v)
+  pub t : AtMost (24 * (n + 1)) (k + 51) (solvedOf ray triangle .t)
+
+module _ (ray : Ray) (triangle : Triangle) (n k : ℕ) (points : NearPoints triangle) (start : EachAtMost n k (ray .origin)) (wide : 12 ≤ k) (digits : 24 * (n + 1) < 16777216) (room : 24 * (n + 1) * 2 ^ (k + 51) < 2 ^ 128) where
+  e1-small : EachAtMost 2 12 (subV (triangle .p1) (triangle .p0))
+  e1-small = sub-each (triangle .p1) (triangle .p0) 1 1 12 (lit< tt) (lit< tt) (points .p1) (points .p0)
+
+  e2-small : EachAtMost 2 12 (subV (triangle .p2) (triangle .p0))
+  e2-small = sub-each (triangle .p2) (triangle .p0) 1 1 12 (lit< tt) (lit< tt) (points .p2) (points .p0)
+
+  s-small : EachAtMost (n + 1) k (subV (ray .origin) (triangle .p0))
+  s-small =
+      sub-each (ray .origin) (triangle .p0) n 1 k (omega arith) (less (n + 1) (24 * (n + 1)) k (k + 51) (omega arith) (omega arith) room) start
+      (wider 1 12 1 k (triangle .p0) (mul-le-mul (le-refl 1) (pow-mono wide)) (points .p0))
+
+  q-small : EachAtMost ((n + 1) * 2 + (n + 1) * 2) (k + 12) (crossV (subV (ray .origin) (triangle .p0)) (subV (triangle .p1) (triangle .p0)))
+  q-small = cross-each _ _ (n + 1) k 2 12 (omega arith) (less _ (24 * (n + 1)) (k + 12) (k + 51) (omega arith) (omega arith) room) s-small e1-small
+
+  -- whatever the direction: where the determinant is not flat and u is a number, the distance is bounded
+  pub distance-bounded : le (magnitudeOf (solvedOf ray triangle .det)) flatLimit ≡ false → isNan (solvedOf ray triangle .u) ≡ false
+      → AtMost (24 * (n + 1)) (k + 51) (solvedOf ray triangle .t)
+  unfolding solvedOf
+  distance-bounded h o =
+      let m = (n + 1) * 2 + (n + 1) * 2 in
+      let along = dot-at-most _ _ 2 12 m (k + 12) (omega arith) (less _ (24 * (n + 1)) (12 + (k + 12)) (k + 51) (omega arith) (omega arith) room) e2-small q-small in
+      again _ _ (24 * (n + 1)) _ (k + 51) (omega arith) (omega arith)
+      (mul-at-most _ _ (2 * m + 2 * m + 2 * m) (12 + (k + 12)) 1 27 (omega arith) (less _ (24 * (n + 1)) _ (k + 51) (omega arith) (omega arith) room) along (inverse-small _ (number-under _ _ o) h))
+
+  -- along a direction whose components are at most 2, every number is
+  pub numbers-bounded : EachAtMost 1 1 (ray .direction) → le (magnitudeOf (solvedOf ray triangle .det)) flatLimit ≡ false → Bounded n k ray triangle
+  unfolding solvedOf
+  numbers-bounded d h =
+      let m = (n + 1) * 2 + (n + 1) * 2 in
+      let p = cross-each (ray .direction) _ 1 1 2 12 (lit< tt) (lit< tt) d e2-small in
+      let det = dot-at-most _ _ 2 12 4 13 (lit< tt) (lit< tt) e1-small p in
+      let inverse = inverse-small _ (finite-number _ (at-most-finite _ 24 25 det)) h in
+      let sp = dot-at-most _ _ (n + 1) k 4 13 (omega arith) (less _ (24 * (n + 1)) (k + 13) (k + 51) (omega arith) (omega arith) room) s-small p in
+      let dq = dot-at-most _ _ 1 1 m (k + 12) (omega arith) (less _ (24 * (n + 1)) (1 + (k + 12)) (k + 51) (omega arith) (omega arith) room) d q-small in
+      let u = mul-at-most _ _ _ (k + 13) 1 27 (omega arith) (less _ (24 * (n + 1)) _ (k + 51) (omega arith) (omega arith) room) sp inverse in
+      record {
+        u = again _ _ (12 * (n + 1)) _ (k + 40) (omega arith) (omega arith) u;
+        v = again _ _ (12 * (n + 1)) _ (k + 40) (omega arith) (omega arith) (mul-at-most _ _ _ (1 + (k + 12)) 1 27 (omega arith) (less _ (24 * (n + 1)) _ (k + 51) (omega arith) (omega arith) room) dq inverse);
+        t = distance-bounded h (finite-number _ (at-most-finite _ _ _ u));
+      }
+
+-- of a ray that row 8 accepts: |u| and |v| are at most 204·2^52, |t| is at most 408·2^63
+pub test-bounded : (ray : Ray) (triangle : Triangle) → NearPoints triangle → badRay ray ≡ false
+    → le (magnitudeOf (solvedOf ray triangle .det)) flatLimit ≡ false → Bounded 16 12 ray triangle
+test-bounded ray triangle p br h =
     let rows = ray-row ray .0 br in
-    let p0 = each pointLimit 1 12 (triangle .p0) point-value (tri .0) in
-    let p1 = each pointLimit 1 12 (triangle .p1) point-value (tri .1) in
-    let p2 = each pointLimit 1 12 (triangle .p2) point-value (tri .2) in
-    let o = wider 1 16 16 12 (ray .origin) (lit≤ tt) (each colourLimit 1 16 (ray .origin) colour-value (rows .0)) in
-    let d = each directionLimit 1 1 (ray .direction) direction-value (rows .1) in
-    let e1 = sub-each (triangle .p1) (triangle .p0) 1 1 12 (lit< tt) (lit< tt) p1 p0 in
-    let e2 = sub-each (triangle .p2) (triangle .p0) 1 1 12 (lit< tt) (lit< tt) p2 p0 in
-    let p = cross-each (ray .direction) _ 1 1 2 12 (lit< tt) (lit< tt) d e2 in
-    let det = dot-at-most _ _ 2 12 4 13 (lit< tt) (lit< tt) e1 p in
-    let one = at-most-of-test one32 one32 1 0 one-value one-above one-below in
-    let inverse = div-at-most one32 _ 1 1 0 27 (lit< tt) (lit< tt) (lit< tt) one (steep _ (at-most-finite _ 24 25 det) h) in
-    let s = sub-each (ray .origin) (triangle .p0) 16 1 12 (lit< tt) (lit< tt) o p0 in
-    let q = cross-each _ _ 17 12 2 12 (lit< tt) (lit< tt) s e1 in
-    record {
-      u = mul-at-most _ _ 204 25 1 27 (lit< tt) (lit< tt) (dot-at-most _ _ 17 12 4 13 (lit< tt) (lit< tt) s p) inverse;
-      v = mul-at-most _ _ 204 25 1 27 (lit< tt) (lit< tt) (dot-at-most _ _ 1 1 68 24 (lit< tt) (lit< tt) d q) inverse;
-      t = mul-at-most _ _ 408 36 1 27 (lit< tt) (lit< tt) (dot-at-most _ _ 2 12 68 24 (lit< tt) (lit< tt) e2 q) inverse;
-    }
+    let o = wider 1 16 16 12 (ray .origin) (lit≤ tt) (within-each colourLimit (ray .origin) 1 16 colour-value (rows .0)) in
+    let d = within-each directionLimit (ray .direction) 1 1 direction-value (rows .1) in
+    numbers-bounded ray triangle 16 12 p o (lit≤ tt) (lit< tt) (lit< tt) d h
 
 largest-value : HasValue largest32 false (16777215 * 2 ^ 104) 1
 unfolding ofBits
 largest-value = (refl, refl)
 
+pub largest-passes : (t : Float) → AtMost 16777215 104 t → le (magnitudeOf t) largest32 ≡ true
+largest-passes t h = test-of-at-most _ largest32 16777215 104 largest-value (magnitude-at-most _ 16777215 104 h) .1
+
 -- the last test of the definition, that the distance is finite, passes wherever it is reached
-pub last-test-passes : (ray : Ray) (triangle : Triangle) → badTriangle triangle ≡ false → badRay ray ≡ false
+pub last-test-passes : (ray : Ray) (triangle : Triangle) → NearPoints triangle → badRay ray ≡ false
     → le (magnitudeOf (solvedOf ray triangle .det)) flatLimit ≡ false → le (magnitudeOf (solvedOf ray triangle .t)) largest32 ≡ true
-last-test-passes ray triangle bt br h =
-    let t = test-bounded ray triangle bt br h .t in
-    test-of-at-most _ largest32 16777215 104 largest-value (magnitude-at-most _ 16777215 104 (at-most-up _ 408 63 16777215 104 (lit≤ tt) t)) .1
+last-test-passes ray triangle p br h = largest-passes _ (at-most-up _ 408 63 16777215 104 (lit≤ tt) (test-bounded ray triangle p br h .t))
 
 -- a hit's distance, u and v are finite
-pub hit-finite : (ray : Ray) (triangle : Triangle) (t u v : Float) → badTriangle triangle ≡ false → badRay ray ≡ false → meetOf ray triangle ≡ Hit t u v
+pub hit-finite : (ray : Ray) (triangle : Triangle) (t u v : Float) → NearPoints triangle → badRay ray ≡ false → meetOf ray triangle ≡ Hit t u v
     → (finite t ≡ true) × (finite u ≡ true) × (finite v ≡ true)
-hit-finite ray triangle t u v bt br e =
+hit-finite ray triangle t u v p br e =
     let m = hit-met ray triangle t u v e in
-    let b = test-bounded ray triangle bt br (m .steep) in
+    let b = test-bounded ray triangle p br (m .steep) in
     (rw (m .distance) (at-most-finite _ 408 63 (b .t)), rw (m .first) (at-most-finite _ 204 52 (b .u)), rw (m .second) (at-most-finite _ 204 52 (b .v)))
