@@ -152,7 +152,13 @@ pub fn voxel_part<'a>(
 }
 
 // The refusal of `voxel_part` on the same arguments: 1, 3, 11, or 0.
-pub fn voxel_refusal(axes: Axes, volume: &[f32], scratch: &[f32], index: usize, unblurred: bool) -> u32
+pub fn voxel_refusal(
+    axes: Axes,
+    volume: &[f32],
+    scratch: &[f32],
+    index: usize,
+    unblurred: bool,
+) -> u32
     ensures { λ r. ⌜ PartJudged axes (now (volume .entry)) (now (scratch .entry)) index unblurred r ⌝ }
 {
     if limits::inner::bad_axes(axes) {

@@ -1,2 +1,0 @@
--- What the forms on bit patterns promise at the edges.
-pub mod PatternFigures
