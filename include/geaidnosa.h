@@ -1,4 +1,30 @@
-/* The public calls of the light bake, for C and C++ on x86-64: link libexports.a.
+/* Geaidnosa 0.1.0: the public calls of the light bake, for C and C++ on x86-64. Link libgeaidnosa.a.
+ *
+ * A bake, call by call. geaidnosa_masks marks the voxels at and near surfaces; geaidnosa_sun finds how much of the sun each of them sees;
+ * geaidnosa_directions gives the directions along which the caller fills the sky; geaidnosa_bake, called until its progress is the voxel count, fills the
+ * volume; geaidnosa_coefficients_at, geaidnosa_light_at and the frame calls read it; geaidnosa_write_volume and geaidnosa_read_volume store it and bring
+ * it back. tools/host/sky.c is such a program in a page.
+ *
+ * What a volume holds. Voxel (x,y,z) stands x along the width, y along the height and z along the depth; a slice of a hall is the voxels of one z.
+ * Each voxel has four coefficients, c0 to c3, of the irradiance there over the basis 1, y, z, x, in this order, and each is red, green, blue and a fourth
+ * number. The irradiance on a surface with the unit normal n is ((c0 + c1·n.y) + c2·n.z) + c3·n.x, colour by colour; a matt surface of base colour b sends
+ * b·irradiance/π back. The fourth numbers are: how much of the sun is seen, how much of the sky, 0 and 0. Colours are linear everywhere, never sRGB.
+ * A finished volume is blurred, every number of it; a lookup blends eight cells, each cell's numbers standing at its lower corner.
+ *   - In it: the sky where it is seen, and what surfaces send back of sun, sky and lamps and send out themselves. Not in it: what falls straight from the
+ *     sun or from a lamp, so that an open voxel one metre below a lamp holds nothing of that lamp. A caller who wants it adds colour·((n·l)/d²) for each
+ *     lamp, by what geaidnosa_transmittance answers of the way there, and the sun's colour·(n·l) by the light.
+ *   - A light, as geaidnosa_sun fills it and geaidnosa_light_at reads it, is how much of the sun is seen, from 0 to 1, and no brightness. The sun's ray
+ *     starts three voxel diagonals off the voxel's centre: what stands nearer than that casts no shadow on it.
+ *   - Each coefficient that is baked is raised to 0, the last three too: where more light comes from −x than from +x, c3 is 0 and not negative, and so
+ *     c1 with y and c2 with z. A face turned to −x, −y or −z then reads darker than it would in the mirrored hall.
+ *   - Ambient is four coefficients of the same kind, the whole sky's irradiance. Inactive voxels hold it; a surface that is met gets it by the part of the
+ *     sky that the surface sees; and a voxel that comes out darker than 0.005 of it is brought nearer to that.
+ *   - A ray from a voxel ends at a translucent triangle as at an opaque one; rays to the sun, the sky and the lamps pass through it.
+ *
+ * Directions. A direction is a unit vector outward from the voxel: a primary ray goes along it, and where that meets nothing the sky's light comes
+ * from there. There are nine sets of 64, and voxel (x,y,z) looks along set ((x%3) + 3·(y%3) + (z%3))%9, as geaidnosa_set_of_voxel answers. Direction i of
+ * set s is triple 64·s + i of what geaidnosa_directions writes, and triple 64·s + i of the sky is the colour that is seen along it: red, green and blue,
+ * no matter which voxel looks. A hall of 3×3×3 voxels looks along all nine sets, so fill all 576 triples.
  *
  * Ownership. Every list is the caller's, lent for the one call as a pointer and a count of entries; no call keeps a pointer, allocates or frees.
  * A pointer is never null and is aligned for its type, also where the count is 0. No list that a call writes may overlap another list of that call.
@@ -19,7 +45,7 @@
  *    7  a light direction with a component beyond 4,096 or of squared length 1e-12 or less; a light, ambient or sky number not finite or beyond 65,536
  *    8  a ray's origin beyond 65,536, direction beyond 2, shortest distance outside 0..65,536, or longest distance NaN
  *    9  progress above the voxel count
- *   10  an allowance below 384, and 64 more for each lamp
+ *   10  an allowance below 384 + 64·lamps
  *   11  a position not finite or beyond 4,096, or a voxel index past the grid
  *   12  any fault in a volume file
  *   13  a mask's entry not 0 or 1; a light not finite or beyond 2^64 in magnitude; a coefficient not finite or beyond 2^96
@@ -29,9 +55,10 @@
  * Lengths. N is the voxel count, width·height·depth; voxel (x,y,z) has the index x + width·(y + height·z). T is the triangle count.
  *   points      9·T: p0 x y z, p1 x y z, p2 x y z of each triangle       uses     T: the material of each triangle (this list gives T)
  *   kinds       one a material, 0 opaque or 1 translucent                 numbers  7 a material: base RGB, emissive RGB, transmission
- *   occupied, active   N: 0 or 1                                          light, lights, and a light's scratch   N
+ *   occupied, active   N: 0 or 1; every call that takes both takes occupied first
+ *   light (sun, blur, lookups, file), lights (bake), and a light's scratch   N
  *   volume, and its scratch   16·N: the four coefficients of each voxel, x y z w of each in turn
- *   sky         1,728: red, green and blue of direction i of set s from 3·(64·s + i) on
+ *   sky, and the list of directions   1,728: three numbers of direction i of set s from 3·(64·s + i) on
  *   lamps       6 a lamp, none to eight: position x y z, colour RGB; any multiple of 6 is a length
  *   positions   three a position: x y z                                    answers  one a position for light, sixteen for coefficients
  *   distances, places   hit scratch, each at least T
@@ -46,6 +73,14 @@
 #ifdef __cplusplus
 extern "C" {
 #endif
+
+/* ---- the version: below 1.0 a new second number may change a call */
+
+#define GEAIDNOSA_VERSION_MAJOR 0
+#define GEAIDNOSA_VERSION_MINOR 1
+#define GEAIDNOSA_VERSION_PATCH 0
+#define GEAIDNOSA_VERSION "0.1.0"
+#define GEAIDNOSA_VERSION_NUMBER 1000 /* major·1,000,000 + minor·1,000 + patch */
 
 /* ---- what calls take */
 
@@ -82,13 +117,13 @@ typedef struct GeaidnosaTriangle {
     GeaidnosaVec3 p2;
 } GeaidnosaTriangle;
 
-/* The direction towards the light, of any length, and its colour. */
+/* The sun: the direction towards it, components up to 4,096 and squared length above 1e-12 (it need not be a unit vector), and its colour. */
 typedef struct GeaidnosaLight {
     GeaidnosaVec3 direction;
     GeaidnosaVec3 colour;
 } GeaidnosaLight;
 
-/* Four coefficients, each a colour. */
+/* Four coefficients over the basis 1, y, z, x, each a colour: the irradiance of the whole sky. */
 typedef struct GeaidnosaAmbient {
     GeaidnosaVec3 c0;
     GeaidnosaVec3 c1;
@@ -174,6 +209,17 @@ typedef struct GeaidnosaFigures {
     uint64_t zeros;
 } GeaidnosaFigures;
 
+/* ---- the version, and the directions */
+
+/* The archive's version: GEAIDNOSA_VERSION_NUMBER where header and archive are of one version. Refuses nothing. */
+uint32_t geaidnosa_version(void);
+
+/* Writes the directions, x, y and z of each, over a list of 1,728 numbers. Refuses 3. */
+uint32_t geaidnosa_directions(float *out, size_t out_length);
+
+/* Which of the nine sets of directions a voxel uses, 0 to 8. Refuses nothing. */
+size_t geaidnosa_set_of_voxel(size_t x, size_t y, size_t z);
+
 /* ---- rays */
 
 /* Where a ray meets one triangle; place is 0. Refuses 5, 8. */
@@ -221,7 +267,8 @@ uint32_t geaidnosa_coefficient_blur(
     float *scratch, size_t scratch_length);
 
 /* Fills the light with what each voxel sees of the sun, blurred, and scratch with the same before the blur; where no voxel is active the light is all
- * 1.0 and scratch stays as it was. Fires one ray for each active voxel. Refuses 1, 2, 3, 4, 5, 6, 7, 13. */
+ * 1.0 and scratch stays as it was. The direction is that towards the sun, as in GeaidnosaLight. Fires one ray for each active voxel.
+ * Refuses 1, 2, 3, 4, 5, 6, 7, 13. */
 GeaidnosaSunned geaidnosa_sun(
     GeaidnosaAxes axes,
     GeaidnosaCorners corners,
@@ -238,8 +285,10 @@ GeaidnosaSunned geaidnosa_sun(
 
 /* ---- the bake */
 
-/* Bakes the volume from progress on, a voxel while at least 384 rays of the allowance remain, and 64 more for each lamp; call again with the progress answered and the same
- * lists until it is the voxel count. At progress 0 the volume's contents do not matter, scratch's never do: it is written by the last call alone.
+/* Bakes the volume from progress on: an active voxel is taken while at least 384 + 64·lamps rays of the allowance remain. Call again with the progress
+ * answered and the same lists until it is the voxel count. `light` is the sun, its direction and colour; `lights` is the list that geaidnosa_sun filled.
+ * At progress 0 the volume's contents do not matter; scratch's never do. The last call leaves the volume before its 3×3×3 mean in scratch and the mean in
+ * the volume; the others do not touch scratch, and where no voxel is active no call writes it.
  * Refuses 1, 2, 3, 4, 5, 6, 7, 19, 9, 10, 13. */
 GeaidnosaBakeAnswer geaidnosa_bake(
     GeaidnosaAxes axes,
@@ -261,9 +310,6 @@ GeaidnosaBakeAnswer geaidnosa_bake(
     size_t progress,
     uint64_t allowance);
 
-/* Which of the nine sets of directions a voxel uses, 0 to 8. Refuses nothing. */
-size_t geaidnosa_set_of_voxel(size_t x, size_t y, size_t z);
-
 /* ---- lookups */
 
 /* The light at a position. Refuses 1, 2, 3, 11, and 13 among the eight cells read. */
@@ -280,14 +326,14 @@ GeaidnosaCoefficientsAt geaidnosa_coefficients_at(
     const float *volume, size_t volume_length,
     GeaidnosaVec3 position);
 
-/* Where one voxel's sixteen numbers start, 16·index, in the volume or, where second is not 0, in scratch: the caller reads them there, no copy is
- * made. Refuses 1, 3 (either list), 11. */
+/* Where one voxel's sixteen numbers start, 16·index, in the volume or, where unblurred is not 0, in scratch, which holds it unblurred: the caller reads
+ * them there, no copy is made. Refuses 1, 3 (either list), 11. */
 GeaidnosaPartStart geaidnosa_voxel_part(
     GeaidnosaAxes axes,
     const float *volume, size_t volume_length,
     const float *scratch, size_t scratch_length,
     size_t index,
-    uint8_t second);
+    uint8_t unblurred);
 
 /* The refusal of that call on the same arguments: 1, 3, 11 or 0. */
 uint32_t geaidnosa_voxel_refusal(
@@ -295,7 +341,7 @@ uint32_t geaidnosa_voxel_refusal(
     const float *volume, size_t volume_length,
     const float *scratch, size_t scratch_length,
     size_t index,
-    uint8_t second);
+    uint8_t unblurred);
 
 /* The light at each of a list of positions, x y z of each, in answers, one number a position: each the number that geaidnosa_light_at gives there, with
  * the grid tested once. Refuses 1, 2, 3, and the first of what that call refuses at a position (11, 13), with its place. */
@@ -328,8 +374,8 @@ GeaidnosaHead geaidnosa_read_volume(
     const uint8_t *bytes, size_t bytes_length,
     float *light, size_t light_length,
     float *volume, size_t volume_length,
-    uint8_t *active, size_t active_length,
-    uint8_t *occupied, size_t occupied_length);
+    uint8_t *occupied, size_t occupied_length,
+    uint8_t *active, size_t active_length);
 
 /* Writes a file over bytes, which has exactly as many as geaidnosa_volume_bytes answers. Refuses 1, 2, 3, 13. */
 uint32_t geaidnosa_write_volume(
@@ -337,12 +383,32 @@ uint32_t geaidnosa_write_volume(
     GeaidnosaCorners corners,
     const float *light, size_t light_length,
     const float *volume, size_t volume_length,
-    const uint8_t *active, size_t active_length,
     const uint8_t *occupied, size_t occupied_length,
+    const uint8_t *active, size_t active_length,
     uint8_t *bytes, size_t bytes_length);
 
 /* What volstat prints of a file: axes, occupied and active counts, and how many lights are zero. Refuses 14, then 12. */
 GeaidnosaFigures geaidnosa_file_figures(const uint8_t *bytes, size_t bytes_length);
+
+/* ---- the float functions, on the bit patterns of f32; none refuses anything, and whatever is NaN answers 0x7FC00000 */
+
+/* The square root, rounded to the nearest; of a number below 0 (but −0) NaN. */
+uint32_t geaidnosa_root_bits(uint32_t bits);
+
+/* The largest whole number not above. */
+uint32_t geaidnosa_floor_bits(uint32_t bits);
+
+/* The least whole number not below. */
+uint32_t geaidnosa_ceiling_bits(uint32_t bits);
+
+/* The number without its sign. */
+uint32_t geaidnosa_magnitude_bits(uint32_t bits);
+
+/* The larger of two; of two equals the second, so that −0 and +0 give +0. NaN if either is. */
+uint32_t geaidnosa_larger_bits(uint32_t first, uint32_t second);
+
+/* The smaller of two; of two equals the second. NaN if either is. */
+uint32_t geaidnosa_smaller_bits(uint32_t first, uint32_t second);
 
 #ifdef __cplusplus
 }

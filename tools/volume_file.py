@@ -35,7 +35,7 @@ def assemble(axes, bodies):
     return head + contents + after
 
 
-def bodies(corners, light, volume, active, occupied):
+def bodies(corners, light, volume, occupied, active):
     return [
         (1, struct.pack("<%dI" % len(light), *light)),
         (2, struct.pack("<%dI" % len(volume), *volume)),
@@ -45,12 +45,12 @@ def bodies(corners, light, volume, active, occupied):
     ]
 
 
-def write(axes, corners, light, volume, active, occupied):
-    return assemble(axes, bodies(corners, light, volume, active, occupied))
+def write(axes, corners, light, volume, occupied, active):
+    return assemble(axes, bodies(corners, light, volume, occupied, active))
 
 
 def judge(data):
-    """None for a refusal (12), or (axes, corners, light, volume, active, occupied)."""
+    """None for a refusal (12), or (axes, corners, light, volume, occupied, active)."""
     if len(data) < 12 or data[:4] != MARK:
         return None
     *axes, count = struct.unpack_from("<4H", data, 4)
@@ -89,7 +89,7 @@ def judge(data):
     for low, high, axis in zip(at[:3], at[3:], axes):
         if not rounded(rounded(high - low) / axis) >= 2.0 ** -10:
             return None
-    return axes, list(corners), list(light), list(volume), list(body[3]), list(body[4])
+    return axes, list(corners), list(light), list(volume), list(body[4]), list(body[3])
 
 
 def figures(data):
@@ -99,7 +99,7 @@ def figures(data):
     good = judge(data)
     if good is None:
         return "refused 12"
-    axes, _, light, _, active, occupied = good
+    axes, _, light, _, occupied, active = good
     zeros = sum(number(b) == 0 for b in light)
     return " ".join(str(k) for k in [*axes, sum(occupied), sum(active), zeros])
 

@@ -20,9 +20,9 @@ def smallest():
     return write([1, 1, 1], UNIT, [bits(.25)], [0] * 16, [1], [1])
 
 
-def parts(axes=(1, 1, 1), corners=UNIT, light=None, volume=None, active=None, occupied=None):
+def parts(axes=(1, 1, 1), corners=UNIT, light=None, volume=None, occupied=None, active=None):
     n = axes[0] * axes[1] * axes[2]
-    return bodies(corners, light or [bits(.25)] * n, volume or [0] * (16 * n), active or [1] * n, occupied or [1] * n)
+    return bodies(corners, light or [bits(.25)] * n, volume or [0] * (16 * n), occupied or [1] * n, active or [1] * n)
 
 
 def unlike():
@@ -37,7 +37,7 @@ def unlike():
     active = [1 if i % 3 == 0 and i < 21 else 0 for i in range(n)]
     occupied = [1 if i % 5 == 1 else 0 for i in range(n)]
     corners = [bits(x) for x in (-1, -2, -3, 4, 5.5, 6)]
-    return assemble([2, 3, 4], bodies(corners, light, volume, active, occupied) + [(130, b"plate"), (200, b"\x00\x01")])
+    return assemble([2, 3, 4], bodies(corners, light, volume, occupied, active) + [(130, b"plate"), (200, b"\x00\x01")])
 
 
 def good():

@@ -343,20 +343,20 @@ static void check_file(uint64_t occupieds, uint64_t actives) {
     static float l[N], v[16 * N];
     GeaidnosaNeeded needed = geaidnosa_volume_bytes(axes);
     check("volume_bytes: 96 + 70·N", needed.refusal == 0 && needed.bytes == BYTES);
-    check("write_volume: one byte too many, refuses 3", geaidnosa_write_volume(axes, corners, lights, N, volume, 16 * N, active, N, occupied, N, large, BYTES + 1) == 3);
-    check("write_volume: written", geaidnosa_write_volume(axes, corners, lights, N, volume, 16 * N, active, N, occupied, N, bytes, BYTES) == 0 && !memcmp(bytes, "VGRD\5\0\4\0\14\0\5\0", 12));
+    check("write_volume: one byte too many, refuses 3", geaidnosa_write_volume(axes, corners, lights, N, volume, 16 * N, occupied, N, active, N, large, BYTES + 1) == 3);
+    check("write_volume: written", geaidnosa_write_volume(axes, corners, lights, N, volume, 16 * N, occupied, N, active, N, bytes, BYTES) == 0 && !memcmp(bytes, "VGRD\5\0\4\0\14\0\5\0", 12));
     GeaidnosaHead h = geaidnosa_file_axes(bytes, BYTES);
     check("file_axes: axes and corners as written",
           h.refusal == 0 && h.axes.width == W && h.axes.height == H && h.axes.depth == D && !memcmp(&h.corners, &corners, sizeof corners));
     memset(l, 0xff, sizeof l);
-    h = geaidnosa_read_volume(bytes, BYTES, l, N, v, 16 * N - 1, a, N, o, N);
+    h = geaidnosa_read_volume(bytes, BYTES, l, N, v, 16 * N - 1, o, N, a, N);
     int kept = h.refusal == 3 && h.axes.width == 0;
     for (int i = 0; i < N; i++) kept = kept && l[i] != l[i];
     check("read_volume: a volume of 16·N−1, refuses 3 and writes nothing", kept);
-    h = geaidnosa_read_volume(bytes, BYTES, l, N, v, 16 * N, a, N, o, N);
+    h = geaidnosa_read_volume(bytes, BYTES, l, N, v, 16 * N, o, N, a, N);
     check("read_volume: every bit returns",
           h.refusal == 0 && h.axes.depth == D && !memcmp(l, lights, sizeof l) && !memcmp(v, volume, sizeof v) && !memcmp(a, active, N) && !memcmp(o, occupied, N));
-    check("write_volume: what was read gives the same bytes", geaidnosa_write_volume(h.axes, h.corners, l, N, v, 16 * N, a, N, o, N, again, BYTES) == 0 && !memcmp(again, bytes, BYTES));
+    check("write_volume: what was read gives the same bytes", geaidnosa_write_volume(h.axes, h.corners, l, N, v, 16 * N, o, N, a, N, again, BYTES) == 0 && !memcmp(again, bytes, BYTES));
     uint64_t zeros = 0;
     for (int i = 0; i < N; i++) zeros += lights[i] == 0;
     GeaidnosaFigures f = geaidnosa_file_figures(bytes, BYTES);
@@ -365,10 +365,36 @@ static void check_file(uint64_t occupieds, uint64_t actives) {
     check("file_axes: one byte short, refuses 12", geaidnosa_file_axes(bytes, BYTES - 1).refusal == 12);
     bytes[BYTES - 1] = 0x7f;
     bytes[BYTES - 2] = 0x80;
-    check("read_volume: a corner infinite, refuses 12", geaidnosa_read_volume(bytes, BYTES, l, N, v, 16 * N, a, N, o, N).refusal == 12);
+    check("read_volume: a corner infinite, refuses 12", geaidnosa_read_volume(bytes, BYTES, l, N, v, 16 * N, o, N, a, N).refusal == 12);
     check("file_figures: 65,537 bytes, refuses 14", geaidnosa_file_figures(large, sizeof large).refusal == 14);
     check("file_figures: empty, refuses 12", geaidnosa_file_figures(bytes, 0).refusal == 12);
     printf("   file sum %016llx\n", (unsigned long long)sum_of(again, BYTES));
+}
+
+static void check_directions(void) {
+    static float table[SKY + 1];
+    const int offsets[9] = {32, 16, 48, 8, 40, 24, 56, 4, 36};
+    memset(table, 0xff, sizeof table);
+    int kept = geaidnosa_directions(table, SKY - 1) == 3 && geaidnosa_directions(table, SKY + 1) == 3 && geaidnosa_directions(table, 0) == 3;
+    for (int i = 0; i <= SKY; i++) kept = kept && table[i] != table[i];
+    check("directions: 1,727, 1,729 and no numbers, refuses 3 and writes nothing", kept);
+    int good = geaidnosa_directions(table, SKY) == 0 && table[SKY] != table[SKY];
+    for (int k = 0; k < 576; k++) {
+        const float *d = &table[3 * k];
+        double length = (double)d[0] * d[0] + (double)d[1] * d[1] + (double)d[2] * d[2], height = 1 - (k % 64 + offsets[k / 64]) % 64 / 32.0;
+        good = good && fabs(length - 1) <= 1.0 / 1048576 && fabs(d[2] - height) <= 1.0 / 1048576;
+    }
+    check("directions: 576 unit vectors, each at its height, and nothing past them", good);
+    printf("   directions sum %016llx\n", (unsigned long long)sum_of(table, SKY * sizeof(float)));
+}
+
+static void check_floats(void) {
+    check("root_bits: of 4, of −1 and of −0", geaidnosa_root_bits(0x40800000) == 0x40000000 && geaidnosa_root_bits(0xbf800000) == 0x7fc00000 && geaidnosa_root_bits(0x80000000) == 0x80000000);
+    check("floor_bits and ceiling_bits: of −.5", geaidnosa_floor_bits(0xbf000000) == 0xbf800000 && geaidnosa_ceiling_bits(0xbf000000) == 0x80000000);
+    check("magnitude_bits: of −.5 and of a NaN", geaidnosa_magnitude_bits(0xbf000000) == 0x3f000000 && geaidnosa_magnitude_bits(0xffffffff) == 0x7fc00000);
+    check("larger_bits and smaller_bits: of 1 and 2, of −0 and +0",
+          geaidnosa_larger_bits(0x3f800000, 0x40000000) == 0x40000000 && geaidnosa_smaller_bits(0x3f800000, 0x40000000) == 0x3f800000 && geaidnosa_larger_bits(0x80000000, 0) == 0 &&
+              geaidnosa_smaller_bits(0, 0x80000000) == 0x80000000);
 }
 
 static void check_counts(void) {
@@ -384,6 +410,9 @@ static void check_counts(void) {
 
 int main(void) {
     build();
+    check("version: the header's and the archive's", geaidnosa_version() == GEAIDNOSA_VERSION_NUMBER);
+    check_floats();
+    check_directions();
     check_rays();
     check_counts();
     check_masks();

@@ -105,7 +105,7 @@ pub struct CoefficientsAt {
     pub numbers: [f32; 16],
 }
 
-#[link(name = "exports", kind = "static")]
+#[link(name = "geaidnosa", kind = "static")]
 extern "C" {
     pub fn geaidnosa_meet(ray: Ray, triangle: Triangle) -> RayHit;
     pub fn geaidnosa_nearest(points: *const f32, points_length: usize, uses: *const u32, uses_length: usize, kinds: *const u8, kinds_length: usize, numbers: *const f32, numbers_length: usize, ray: Ray) -> RayHit;

@@ -89,21 +89,21 @@ coefficientsAtOf a c volume p =
       numbers = unlessRefused (coefficientRefusal a c volume p) (coefficientBlend volume (cellsOf a c p)) noNumbers;
     }
 
--- ---- one voxel's part, of the volume or, where `second` is true, of scratch
+-- ---- one voxel's part, of the volume or, where `unblurred` is true, of scratch
 
 abbrev pub partRows : Axes → List Float → List Float → ℕ → Bool → List Row
-partRows a volume scratch index second =
+partRows a volume scratch index unblurred =
     row 1 (badAxes a)
     ∷ row 3 (wrongLength (length volume) (voxels a * 16) || wrongLength (length scratch) (voxels a * 16))
     ∷ row 11 (pastGrid index (voxels a))
     ∷ []
 
 abbrev pub partRefusal : Axes → List Float → List Float → ℕ → Bool → ℕ
-partRefusal a volume scratch index second = firstOf (partRows a volume scratch index second)
+partRefusal a volume scratch index unblurred = firstOf (partRows a volume scratch index unblurred)
 
 unfoldable pub partOf : Axes → List Float → List Float → ℕ → Bool → List Float
-partOf a volume scratch index second =
-    unlessRefused (partRefusal a volume scratch index second) (sixteen (cond second scratch volume) index) []
+partOf a volume scratch index unblurred =
+    unlessRefused (partRefusal a volume scratch index unblurred) (sixteen (cond unblurred scratch volume) index) []
 
 -- ---- the contracts
 
@@ -113,11 +113,11 @@ pub record LightLookedUp (a : Axes) (c : Corners) (light : List Float) (p : Vec3
 pub record CoefficientsLookedUp (a : Axes) (c : Corners) (volume : List Float) (p : Vec3) (r : CoefficientsAt) : Type 0 where
   pub answer : r ≡ coefficientsAtOf a c volume p
 
-pub record PartLent (a : Axes) (volume scratch : List Float) (index : ℕ) (second : Bool) (r : List Float) : Type 0 where
-  pub part : r ≡ partOf a volume scratch index second
+pub record PartLent (a : Axes) (volume scratch : List Float) (index : ℕ) (unblurred : Bool) (r : List Float) : Type 0 where
+  pub part : r ≡ partOf a volume scratch index unblurred
 
-pub record PartJudged (a : Axes) (volume scratch : List Float) (index : ℕ) (second : Bool) (r : ℕ) : Type 0 where
-  pub answer : r ≡ partRefusal a volume scratch index second
+pub record PartJudged (a : Axes) (volume scratch : List Float) (index : ℕ) (unblurred : Bool) (r : ℕ) : Type 0 where
+  pub answer : r ≡ partRefusal a volume scratch index unblurred
 
 -- two results that satisfy one are equal
 
@@ -127,8 +127,8 @@ one-light h k = h .answer ∙ sym (k .answer)
 pub one-coefficients : {a : Axes} {c : Corners} {volume : List Float} {p : Vec3} {r s : CoefficientsAt} → CoefficientsLookedUp a c volume p r → CoefficientsLookedUp a c volume p s → r ≡ s
 one-coefficients h k = h .answer ∙ sym (k .answer)
 
-pub one-part : {a : Axes} {volume scratch : List Float} {index : ℕ} {second : Bool} {r s : List Float} → PartLent a volume scratch index second r → PartLent a volume scratch index second s → r ≡ s
+pub one-part : {a : Axes} {volume scratch : List Float} {index : ℕ} {unblurred : Bool} {r s : List Float} → PartLent a volume scratch index unblurred r → PartLent a volume scratch index unblurred s → r ≡ s
 one-part h k = h .part ∙ sym (k .part)
 
-pub one-judgement : {a : Axes} {volume scratch : List Float} {index : ℕ} {second : Bool} {r s : ℕ} → PartJudged a volume scratch index second r → PartJudged a volume scratch index second s → r ≡ s
+pub one-judgement : {a : Axes} {volume scratch : List Float} {index : ℕ} {unblurred : Bool} {r s : ℕ} → PartJudged a volume scratch index unblurred r → PartJudged a volume scratch index unblurred s → r ≡ s
 one-judgement h k = h .answer ∙ sym (k .answer)

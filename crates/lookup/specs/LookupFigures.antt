@@ -80,8 +80,8 @@ coefficient-figures = refl
 
 -- voxel 1 of two, of the volume and of scratch; voxel 2 is past the grid
 abbrev partFigure : ℕ → Bool → List Float
-partFigure index second =
-    partOf figureAxes (replicate 16 zero32 ++ replicate 16 one32) (replicate 16 two32 ++ replicate 16 half32) index second
+partFigure index unblurred =
+    partOf figureAxes (replicate 16 zero32 ++ replicate 16 one32) (replicate 16 two32 ++ replicate 16 half32) index unblurred
 
 pub part-figures : partFigure 1 false ∷ partFigure 1 true ∷ partFigure 2 false ∷ [] ≡ replicate 16 one32 ∷ replicate 16 half32 ∷ [] ∷ []
 unfolding partOf badAxes firstOf unlessRefused

@@ -42,12 +42,12 @@ unfolding coefficientsAtOf
 coefficients-refused-by a c volume p r h =
     refused-by (coefficientRows a c volume p) (r .refusal) (omega arith, (omega arith, (omega arith, (omega arith, (omega arith, tt))))) (ap (λ (x : CoefficientsAt). x .refusal) (h .answer))
 
-numbered : (a : Axes) (volume scratch : List Float) (index : ℕ) (second : Bool) → Numbered (partRows a volume scratch index second)
-numbered a volume scratch index second = (omega arith, (omega arith, (omega arith, tt)))
+numbered : (a : Axes) (volume scratch : List Float) (index : ℕ) (unblurred : Bool) → Numbered (partRows a volume scratch index unblurred)
+numbered a volume scratch index unblurred = (omega arith, (omega arith, (omega arith, tt)))
 
-pub part-refused-by : (a : Axes) (volume scratch : List Float) (index : ℕ) (second : Bool) (r : ℕ)
-    → PartJudged a volume scratch index second r → RefusedBy (partRows a volume scratch index second) r
-part-refused-by a volume scratch index second r h = refused-by (partRows a volume scratch index second) r (numbered a volume scratch index second) (h .answer)
+pub part-refused-by : (a : Axes) (volume scratch : List Float) (index : ℕ) (unblurred : Bool) (r : ℕ)
+    → PartJudged a volume scratch index unblurred r → RefusedBy (partRows a volume scratch index unblurred) r
+part-refused-by a volume scratch index unblurred r h = refused-by (partRows a volume scratch index unblurred) r (numbered a volume scratch index unblurred) (h .answer)
 
 -- ---- no number but those of the eight cells changes an answer
 

@@ -130,30 +130,36 @@ pub fn coefficients_at(
     }
 }
 
-// One voxel's sixteen numbers, as a part of the volume or, where second is true, of scratch: no copy. Empty where `voxel_refusal`, on
+// One voxel's sixteen numbers, as a part of the volume or, where unblurred is true, of scratch: no copy. Empty where `voxel_refusal`, on
 // the same arguments, is not 0.
 pub fn voxel_part<'a>(
     axes: Axes,
     volume: &'a [f32],
     scratch: &'a [f32],
     index: usize,
-    second: bool,
+    unblurred: bool,
 ) -> &'a [f32]
-    ensures { λ r. ⌜ PartLent axes (now (volume .entry)) (now (scratch .entry)) index second (now r) ⌝ }
+    ensures { λ r. ⌜ PartLent axes (now (volume .entry)) (now (scratch .entry)) index unblurred (now r) ⌝ }
 {
-    if voxel_refusal(axes, volume, scratch, index, second) != 0 {
+    if voxel_refusal(axes, volume, scratch, index, unblurred) != 0 {
         return &volume[0..0];
     }
     let at = index * 16;
-    if second {
+    if unblurred {
         return &scratch[at..at + 16];
     }
     &volume[at..at + 16]
 }
 
 // The refusal of `voxel_part` on the same arguments: 1, 3, 11, or 0.
-pub fn voxel_refusal(axes: Axes, volume: &[f32], scratch: &[f32], index: usize, second: bool) -> u32
-    ensures { λ r. ⌜ PartJudged axes (now (volume .entry)) (now (scratch .entry)) index second r ⌝ }
+pub fn voxel_refusal(
+    axes: Axes,
+    volume: &[f32],
+    scratch: &[f32],
+    index: usize,
+    unblurred: bool,
+) -> u32
+    ensures { λ r. ⌜ PartJudged axes (now (volume .entry)) (now (scratch .entry)) index unblurred r ⌝ }
 {
     if limits::inner::bad_axes(axes) {
         return 1;

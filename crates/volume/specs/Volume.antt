@@ -1,5 +1,6 @@
 -- The public calls over a volume file. Each has a list of rows in its own order, an answer that is the first row's number with zeros
--- beside it or 0 with what was asked, and each lent list afterwards. Assumes nothing.
+-- beside it or 0 with what was asked, and each lent list afterwards. The definitions take the four lists in the order of the file's kinds: light,
+-- coefficients, active, occupied; the calls take the masks as every call does, occupied first. Assumes nothing.
 use mathlib.Core.Path.{_≡_}
 use mathlib.Core.Bool.{Bool, cond, not, _||_}
 use mathlib.Core.List.{List, [], _∷_}

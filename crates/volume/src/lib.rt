@@ -77,8 +77,8 @@ pub fn read_volume(
     bytes: &[u8],
     light: &mut [f32],
     volume: &mut [f32],
-    active: &mut [u8],
     occupied: &mut [u8],
+    active: &mut [u8],
 ) -> Head
     ensures { λ r. ⌜ VolumeRead (now (bytes .entry)) (now (light .entry)) (now (volume .entry)) (now (active .entry)) (now (occupied .entry)) r (now (light .exit)) (now (volume .exit)) (now (active .exit)) (now (occupied .exit)) ⌝ }
 {
@@ -99,8 +99,8 @@ pub fn write_volume(
     corners: Corners,
     light: &[f32],
     volume: &[f32],
-    active: &[u8],
     occupied: &[u8],
+    active: &[u8],
     bytes: &mut [u8],
 ) -> u32
     ensures { λ r. ⌜ VolumeWritten axes corners (now (light .entry)) (now (volume .entry)) (now (active .entry)) (now (occupied .entry)) (now (bytes .entry)) r (now (bytes .exit)) ⌝ }

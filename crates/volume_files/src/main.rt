@@ -71,15 +71,15 @@ fn again(bytes: &[u8]) {
     }
     let mut light = [0.0f32; 1024];
     let mut volume = [0.0f32; 16384];
-    let mut active = [0u8; 1024];
     let mut occupied = [0u8; 1024];
+    let mut active = [0u8; 1024];
     let mut out = [0u8; 71845];
     rewrite(
         bytes,
         &mut light[..n],
         &mut volume[..n * 16],
-        &mut active[..n],
         &mut occupied[..n],
+        &mut active[..n],
         &mut out[..long],
     );
 }
@@ -88,11 +88,11 @@ fn rewrite(
     bytes: &[u8],
     light: &mut [f32],
     volume: &mut [f32],
-    active: &mut [u8],
     occupied: &mut [u8],
+    active: &mut [u8],
     out: &mut [u8],
 ) {
-    let head = volume::read_volume(bytes, light, volume, active, occupied);
+    let head = volume::read_volume(bytes, light, volume, occupied, active);
     if head.refusal != 0 {
         io::write_all(1, b"not read\n");
         return;
@@ -102,8 +102,8 @@ fn rewrite(
         head.corners,
         light,
         volume,
-        active,
         occupied,
+        active,
         out,
     )
         != 0

@@ -11,11 +11,11 @@ use Rattle.lookup.proofs.voxel_part.Tie as tie
 
 zero-refusal : (c : tie.Else1)
     → let a = c .before .before .before .before .args in
-    partRefusal (a .axes) (now (a .volume)) (now (a .scratch)) (a .index) (a .second) ≡ 0
+    partRefusal (a .axes) (now (a .volume)) (now (a .scratch)) (a .index) (a .unblurred) ≡ 0
 zero-refusal c = sym (c .before .voxel-refusal .ensures .answer) ∙ c .if1 .left
 
 good : (c : tie.Else1) → let a = c .before .before .before .before .args in Granted (a .axes) (now (a .volume)) (now (a .scratch)) (a .index)
-good c = granted _ _ _ _ (c .before .before .before .before .args .second) (zero-refusal c)
+good c = granted _ _ _ _ (c .before .before .before .before .args .unblurred) (zero-refusal c)
 
 voxel-refusal-requires : tie.Need-voxel-refusal-requires
 voxel-refusal-requires c κs = search needs

@@ -44,14 +44,14 @@ array-borrow-prefix-volume c = search needs
 slice-aggregate-rewrite-2 : tie.Need-slice-aggregate-rewrite-2
 slice-aggregate-rewrite-2 c = simp (length-take, length-replicate) (omega arith)
 
-array-borrow-prefix-active : tie.Need-array-borrow-prefix-active
-array-borrow-prefix-active c = search needs
+array-borrow-prefix-occupied : tie.Need-array-borrow-prefix-occupied
+array-borrow-prefix-occupied c = search needs
 
 slice-aggregate-rewrite-3 : tie.Need-slice-aggregate-rewrite-3
 slice-aggregate-rewrite-3 c = simp (length-take, length-replicate) (omega arith)
 
-array-borrow-prefix-occupied : tie.Need-array-borrow-prefix-occupied
-array-borrow-prefix-occupied c = search needs
+array-borrow-prefix-active : tie.Need-array-borrow-prefix-active
+array-borrow-prefix-active c = search needs
 
 slice-aggregate-rewrite-4 : tie.Need-slice-aggregate-rewrite-4
 slice-aggregate-rewrite-4 c = simp (length-take, length-replicate) (omega arith)
@@ -85,9 +85,9 @@ again-spec =
     mul-volume
     array-borrow-prefix-volume
     slice-aggregate-rewrite-2
-    array-borrow-prefix-active
-    slice-aggregate-rewrite-3
     array-borrow-prefix-occupied
+    slice-aggregate-rewrite-3
+    array-borrow-prefix-active
     slice-aggregate-rewrite-4
     array-borrow-prefix-out
     slice-aggregate-rewrite-5

@@ -1,8 +1,8 @@
--- `exports::geaidnosa_nearest` meets its contract: the struct holds the values of the enum, and those are the paper's.
+-- `geaidnosa::geaidnosa_nearest` meets its contract: the struct holds the values of the enum, and those are the paper's.
 use mathlib.Core.Path.{_∙_}
 use borrow.Author.Needs.{needs}
-use Rattle.exports.proofs.geaidnosa_nearest.Statement.{statement}
-use Rattle.exports.proofs.geaidnosa_nearest.Tie as tie
+use Rattle.geaidnosa.proofs.geaidnosa_nearest.Statement.{statement}
+use Rattle.geaidnosa.proofs.geaidnosa_nearest.Tie as tie
 
 nearest-requires : tie.Need-nearest-requires
 nearest-requires c κs = search needs

@@ -13,8 +13,14 @@ use Rattle.vectors.specs.declared.Triangle.{Triangle}
 use Rattle.grid.specs.declared.Axes.{Axes}
 use Rattle.rays.specs.Rays.{Values, meetValues, nearestValues}
 use Rattle.lookup.specs.Lookup.{partRefusal}
-use Rattle.exports.specs.declared.RayHit.{RayHit}
-use Rattle.exports.specs.declared.PartStart.{PartStart}
+use Rattle.geaidnosa.specs.declared.RayHit.{RayHit}
+use Rattle.geaidnosa.specs.declared.PartStart.{PartStart}
+
+-- ---- the version
+
+-- 0.1.0: major·1,000,000 + minor·1,000 + patch
+abbrev pub versionNumber : ℕ
+versionNumber = 1000
 
 -- ---- a hit
 
@@ -30,11 +36,11 @@ pub record NearestTold (scene : Scene) (ray : Ray) (r : RayHit) : Type 0 where
 
 -- ---- one voxel's part
 
--- a byte that chooses: 0 the volume, any other scratch
+-- a byte that chooses: 0 the volume, any other scratch, which holds it unblurred
 abbrev pub chosen : ℕ → Bool
-chosen second = not (eqb second 0)
+chosen unblurred = not (eqb unblurred 0)
 
 -- the part starts at 16·index; on a refusal at 0
-pub record PartTold (axes : Axes) (volume scratch : List Float) (index second : ℕ) (r : PartStart) : Type 0 where
-  pub refusal : r .refusal ≡ partRefusal axes volume scratch index (chosen second)
+pub record PartTold (axes : Axes) (volume scratch : List Float) (index unblurred : ℕ) (r : PartStart) : Type 0 where
+  pub refusal : r .refusal ≡ partRefusal axes volume scratch index (chosen unblurred)
   pub start : r .start ≡ unlessRefused (r .refusal) (index * 16) 0

@@ -16,9 +16,9 @@ use Rattle.rays.specs.Rays.{Values, metValues, foundValues, MeetAnswered, Neare
 use Rattle.rays.specs.declared.Met.{Met}
 use Rattle.rays.specs.declared.Found.{Found}
 use Rattle.lookup.specs.Lookup.{sixteen, partRefusal, partOf}
-use Rattle.exports.specs.declared.RayHit.{RayHit}
-use Rattle.exports.specs.declared.PartStart.{PartStart}
-use Rattle.exports.specs.Exports.{valuesOf, MeetTold, NearestTold, chosen, PartTold}
+use Rattle.geaidnosa.specs.declared.RayHit.{RayHit}
+use Rattle.geaidnosa.specs.declared.PartStart.{PartStart}
+use Rattle.geaidnosa.specs.Exports.{valuesOf, MeetTold, NearestTold, chosen, PartTold}
 
 -- ---- one answer
 
@@ -35,9 +35,9 @@ meet-told-once ray triangle r s a b = values-once r s (a .values ∙ sym (b .val
 pub nearest-told-once : (scene : Scene) (ray : Ray) (r s : RayHit) → NearestTold scene ray r → NearestTold scene ray s → r ≡ s
 nearest-told-once scene ray r s a b = values-once r s (a .values ∙ sym (b .values))
 
-pub part-told-once : (axes : Axes) (volume scratch : List Float) (index second : ℕ) (r s : PartStart)
-    → PartTold axes volume scratch index second r → PartTold axes volume scratch index second s → r ≡ s
-part-told-once axes volume scratch index second r s a b =
+pub part-told-once : (axes : Axes) (volume scratch : List Float) (index unblurred : ℕ) (r s : PartStart)
+    → PartTold axes volume scratch index unblurred r → PartTold axes volume scratch index unblurred s → r ≡ s
+part-told-once axes volume scratch index unblurred r s a b =
     let f : r .refusal ≡ s .refusal = a .refusal ∙ sym (b .refusal) in
     same r s f (a .start ∙ rw f (sym (b .start)))
   where
@@ -58,13 +58,13 @@ nearest-told-same scene ray f r a b = b .values ∙ sym (a .values)
 -- ---- the part
 
 -- the part that the public call lends is the sixteen numbers from the start on, of the list chosen
-pub part-told : (axes : Axes) (volume scratch : List Float) (index second : ℕ) (r : PartStart) → PartTold axes volume scratch index second r
-    → partOf axes volume scratch index (chosen second)
-    ≡ unlessRefused (r .refusal) (take 16 (drop (r .start) (cond (chosen second) scratch volume))) []
+pub part-told : (axes : Axes) (volume scratch : List Float) (index unblurred : ℕ) (r : PartStart) → PartTold axes volume scratch index unblurred r
+    → partOf axes volume scratch index (chosen unblurred)
+    ≡ unlessRefused (r .refusal) (take 16 (drop (r .start) (cond (chosen unblurred) scratch volume))) []
 unfolding partOf unlessRefused
-part-told axes volume scratch index second r h =
-    let n = partRefusal axes volume scratch index (chosen second) in
-    let l = cond (chosen second) scratch volume in
+part-told axes volume scratch index unblurred r h =
+    let n = partRefusal axes volume scratch index (chosen unblurred) in
+    let l = cond (chosen unblurred) scratch volume in
     rw (h .start, h .refusal) (by (eqb n 0) l)
   where
     by : (b : Bool) (l : List Float) → cond b (sixteen l index) [] ≡ cond b (take 16 (drop (cond b (index * 16) 0) l)) []

@@ -1,8 +1,8 @@
--- `exports::geaidnosa_meet` meets its contract: the struct holds the values of the enum, and those are the paper's.
+-- `geaidnosa::geaidnosa_meet` meets its contract: the struct holds the values of the enum, and those are the paper's.
 use mathlib.Core.Path.{_∙_}
 use borrow.Author.Needs.{needs}
-use Rattle.exports.proofs.geaidnosa_meet.Statement.{statement}
-use Rattle.exports.proofs.geaidnosa_meet.Tie as tie
+use Rattle.geaidnosa.proofs.geaidnosa_meet.Statement.{statement}
+use Rattle.geaidnosa.proofs.geaidnosa_meet.Tie as tie
 
 meet-requires : tie.Need-meet-requires
 meet-requires c κs = search needs

@@ -1,10 +1,15 @@
 // The public calls for C, and for Rust through C's interface: include/geaidnosa.h says each in one sentence. A list is lent as its pointer and its
 // length, a struct goes by value, and no call keeps a pointer. Each hands on the public call's own contract; where that call answers an enum or a
-// part of a list, specs/Exports.antt says what stands for it.
+// part of a list, specs/Exports.antt says what stands for it. The float functions go by bit patterns, since a NaN's pattern is promised too.
 ghost use Rattle.names.specs.Scene.{sceneOf};
 ghost use lib.ListN.{length};
 ghost use mathlib.Core.Path.{_≡_};
+ghost use Rattle.floats.specs.Choice.{magnitudeOf, largerOf, smallerOf};
+ghost use Rattle.floats.specs.Patterns.{onBits, onBoth};
+ghost use Rattle.floats.specs.Root.{rootOf};
+ghost use Rattle.floats.specs.Whole.{floorOf, ceilingOf};
 ghost use Rattle.directions.specs.Sets.{setOf};
+ghost use Rattle.directions.specs.Filled.{DirectionsFilled};
 ghost use Rattle.rays.specs.Rays.{refusedValues, hitValues, metValues, foundValues, TransmittanceAnswered};
 ghost use Rattle.masks.specs.Masks.{MasksFilled};
 ghost use Rattle.blurs.specs.Blurs.{LightBlurred, CoefficientsBlurred};
@@ -15,7 +20,7 @@ ghost use Rattle.bake.specs.Baked.{Baked};
 ghost use Rattle.lookup.specs.Lookup.{LightLookedUp, CoefficientsLookedUp, PartJudged};
 ghost use Rattle.frames.specs.Frames.{LightsFramed, CoefficientsFramed};
 ghost use Rattle.volume.specs.Volume.{FileAxes, VolumeBytes, VolumeRead, VolumeWritten, FileFigures};
-ghost use Rattle.exports.specs.Exports.{valuesOf, chosen, MeetTold, NearestTold, PartTold};
+ghost use Rattle.geaidnosa.specs.Exports.{versionNumber, valuesOf, chosen, MeetTold, NearestTold, PartTold};
 use bake::BakeAnswer;
 use frames::FirstRefusal;
 use grid::Axes;
@@ -52,6 +57,34 @@ pub struct RayHit {
 pub struct PartStart {
     pub refusal: u32,
     pub start: usize,
+}
+
+// ---- the version
+
+// 0.1.0: major·1,000,000 + minor·1,000 + patch, as GEAIDNOSA_VERSION_NUMBER in the header.
+const VERSION: u32 = 1000;
+
+#[no_mangle]
+pub extern "C" fn geaidnosa_version() -> u32
+    ensures { λ r. ⌜ r ≡ versionNumber ⌝ }
+{
+    VERSION
+}
+
+// ---- directions
+
+#[no_mangle]
+pub extern "C" fn geaidnosa_directions(out: &mut [f32]) -> u32
+    ensures { λ r. ⌜ DirectionsFilled (now (out .entry)) r (now (out .exit)) ⌝ }
+{
+    directions::fill(out)
+}
+
+#[no_mangle]
+pub extern "C" fn geaidnosa_set_of_voxel(x: usize, y: usize, z: usize) -> usize
+    ensures { λ r. ⌜ r ≡ setOf x y z ⌝ }
+{
+    directions::set_of_voxel(x, y, z)
 }
 
 // ---- rays
@@ -209,13 +242,6 @@ pub extern "C" fn geaidnosa_bake(
     )
 }
 
-#[no_mangle]
-pub extern "C" fn geaidnosa_set_of_voxel(x: usize, y: usize, z: usize) -> usize
-    ensures { λ r. ⌜ r ≡ setOf x y z ⌝ }
-{
-    directions::set_of_voxel(x, y, z)
-}
-
 // ---- lookups
 
 #[no_mangle]
@@ -249,11 +275,11 @@ pub extern "C" fn geaidnosa_voxel_part(
     volume: &[f32],
     scratch: &[f32],
     index: usize,
-    second: u8,
+    unblurred: u8,
 ) -> PartStart
-    ensures { λ r. ⌜ PartTold axes (now (volume .entry)) (now (scratch .entry)) index second r ⌝ }
+    ensures { λ r. ⌜ PartTold axes (now (volume .entry)) (now (scratch .entry)) index unblurred r ⌝ }
 {
-    let refusal = lookup::voxel_refusal(axes, volume, scratch, index, second != 0);
+    let refusal = lookup::voxel_refusal(axes, volume, scratch, index, unblurred != 0);
     if refusal != 0 {
         return PartStart { refusal, start: 0 };
     }
@@ -269,11 +295,11 @@ pub extern "C" fn geaidnosa_voxel_refusal(
     volume: &[f32],
     scratch: &[f32],
     index: usize,
-    second: u8,
+    unblurred: u8,
 ) -> u32
-    ensures { λ r. ⌜ PartJudged axes (now (volume .entry)) (now (scratch .entry)) index (chosen second) r ⌝ }
+    ensures { λ r. ⌜ PartJudged axes (now (volume .entry)) (now (scratch .entry)) index (chosen unblurred) r ⌝ }
 {
-    lookup::voxel_refusal(axes, volume, scratch, index, second != 0)
+    lookup::voxel_refusal(axes, volume, scratch, index, unblurred != 0)
 }
 
 #[no_mangle]
@@ -323,12 +349,12 @@ pub extern "C" fn geaidnosa_read_volume(
     bytes: &[u8],
     light: &mut [f32],
     volume: &mut [f32],
-    active: &mut [u8],
     occupied: &mut [u8],
+    active: &mut [u8],
 ) -> Head
     ensures { λ r. ⌜ VolumeRead (now (bytes .entry)) (now (light .entry)) (now (volume .entry)) (now (active .entry)) (now (occupied .entry)) r (now (light .exit)) (now (volume .exit)) (now (active .exit)) (now (occupied .exit)) ⌝ }
 {
-    volume::read_volume(bytes, light, volume, active, occupied)
+    volume::read_volume(bytes, light, volume, occupied, active)
 }
 
 #[no_mangle]
@@ -337,13 +363,13 @@ pub extern "C" fn geaidnosa_write_volume(
     corners: Corners,
     light: &[f32],
     volume: &[f32],
-    active: &[u8],
     occupied: &[u8],
+    active: &[u8],
     bytes: &mut [u8],
 ) -> u32
     ensures { λ r. ⌜ VolumeWritten axes corners (now (light .entry)) (now (volume .entry)) (now (active .entry)) (now (occupied .entry)) (now (bytes .entry)) r (now (bytes .exit)) ⌝ }
 {
-    volume::write_volume(axes, corners, light, volume, active, occupied, bytes)
+    volume::write_volume(axes, corners, light, volume, occupied, active, bytes)
 }
 
 #[no_mangle]
@@ -351,6 +377,50 @@ pub extern "C" fn geaidnosa_file_figures(bytes: &[u8]) -> Figures
     ensures { λ r. ⌜ FileFigures (now (bytes .entry)) r ⌝ }
 {
     volume::file_figures(bytes)
+}
+
+// ---- the float functions, on bit patterns
+
+#[no_mangle]
+pub extern "C" fn geaidnosa_root_bits(bits: u32) -> u32
+    ensures { λ r. ⌜ r ≡ onBits rootOf bits ⌝ }
+{
+    floats::root_bits(bits)
+}
+
+#[no_mangle]
+pub extern "C" fn geaidnosa_floor_bits(bits: u32) -> u32
+    ensures { λ r. ⌜ r ≡ onBits floorOf bits ⌝ }
+{
+    floats::floor_bits(bits)
+}
+
+#[no_mangle]
+pub extern "C" fn geaidnosa_ceiling_bits(bits: u32) -> u32
+    ensures { λ r. ⌜ r ≡ onBits ceilingOf bits ⌝ }
+{
+    floats::ceiling_bits(bits)
+}
+
+#[no_mangle]
+pub extern "C" fn geaidnosa_magnitude_bits(bits: u32) -> u32
+    ensures { λ r. ⌜ r ≡ onBits magnitudeOf bits ⌝ }
+{
+    floats::magnitude_bits(bits)
+}
+
+#[no_mangle]
+pub extern "C" fn geaidnosa_larger_bits(first: u32, second: u32) -> u32
+    ensures { λ r. ⌜ r ≡ onBoth largerOf first second ⌝ }
+{
+    floats::larger_bits(first, second)
+}
+
+#[no_mangle]
+pub extern "C" fn geaidnosa_smaller_bits(first: u32, second: u32) -> u32
+    ensures { λ r. ⌜ r ≡ onBoth smallerOf first second ⌝ }
+{
+    floats::smaller_bits(first, second)
 }
 
 // ---- what stands for an enum

@@ -1,12 +1,12 @@
--- `exports::found_told` meets its contract: each arm is a clause of the definition of an enum's values.
+-- `geaidnosa::met_told` meets its contract: each arm is a clause of the definition of an enum's values.
 use mathlib.Core.Path.{_∙_}
-use Rattle.rays.specs.Rays.{foundValues}
+use Rattle.rays.specs.Rays.{metValues}
 use borrow.Author.Needs.{needs}
-use Rattle.exports.proofs.found_told.Statement.{statement}
-use Rattle.exports.proofs.found_told.Tie as tie
+use Rattle.geaidnosa.proofs.met_told.Statement.{statement}
+use Rattle.geaidnosa.proofs.met_told.Tie as tie
 
-enum-known-f : tie.Need-enum-known-f
-enum-known-f c = search needs
+enum-known-m : tie.Need-enum-known-m
+enum-known-m c = search needs
 
 no-hit-requires : tie.Need-no-hit-requires
 no-hit-requires c κs = search needs
@@ -17,33 +17,33 @@ enum-told c = search needs
 no-hit-requires-2 : tie.Need-no-hit-requires-2
 no-hit-requires-2 c κs = search needs
 
-enum-known-f-2 : tie.Need-enum-known-f-2
-enum-known-f-2 c = search needs
+enum-known-m-2 : tie.Need-enum-known-m-2
+enum-known-m-2 c = search needs
 
 hit-at-requires : tie.Need-hit-at-requires
 hit-at-requires c κs = search needs
 
 returns : tie.Need-returns
-unfolding foundValues
+unfolding metValues
 returns c = c .no-hit .ensures ∙ cc
 
 returns-2 : tie.Need-returns-2
-unfolding foundValues
+unfolding metValues
 returns-2 c = c .no-hit2 .ensures ∙ cc
 
 returns-3 : tie.Need-returns-3
-unfolding foundValues
-returns-3 c = rw (c .before .before .f2 .given .1) (c .hit-at .ensures)
+unfolding metValues
+returns-3 c = c .hit-at .ensures ∙ cc
 
-pub found-told-spec : {M : Type 1} → statement M
-found-told-spec =
+pub met-told-spec : {M : Type 1} → statement M
+met-told-spec =
     tie.close
     (tie.spec
-    enum-known-f
+    enum-known-m
     no-hit-requires
     enum-told
     no-hit-requires-2
-    enum-known-f-2
+    enum-known-m-2
     hit-at-requires
     returns
     returns-2
