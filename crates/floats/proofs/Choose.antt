@@ -1,6 +1,6 @@
 -- What a test `x != x` says of `isNan`, the NaN that 0.0 / 0.0 is, and the two choices. Assumes nothing.
 use mathlib.Core.Path.{_≡_, refl, sym, ap, _∙_, subst}
-use Prim.Native.Nat.{ℕ, zero, suc, _+_, _/_, _%_, _^_, _≤_, _<_}
+use Prim.Native.Nat.{ℕ, zero, suc, _+_, _/_, _%_, _^_, _≤_}
 use mathlib.Core.Bool.{Bool, true, false, not, cond, _||_}
 use native.Mathlib.Nat.{mod-lt, mod-mod}
 use lib.Dec.{T, leb, eqb, lit<}

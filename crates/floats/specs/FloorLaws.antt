@@ -3,7 +3,7 @@
 use mathlib.Core.Path.{_≡_, refl, sym, ap, _∙_, subst}
 use Prim.Native.Nat.{ℕ, _+_, _*_, _≤_, _<_}
 use mathlib.Core.Bool.{Bool, true, false}
-use native.Mathlib.Nat.{le-trans, le-of-eq, lt-of-le-of-lt, lt-of-lt-of-le, lt-of-mul-lt-mul-right, add-mul, one-mul, zero-mul}
+use native.Mathlib.Nat.{lt-of-le-of-lt, lt-of-lt-of-le, lt-of-mul-lt-mul-right, add-mul}
 use native.Mathlib.Omega.{arith}
 use borrow.Author.Tests.{ltb-false, le-ltb}
 use lib.IntN.{ℤ}
@@ -12,27 +12,21 @@ use lib.Ieee.{Float, nan, inf, fin, binary32, up, down, unlike, below, fits, isN
 use lib.Ieee.Fits.{down-pos, round-fits}
 use lib.Ieee.Exact.{HasValue}
 use lib.Ieee.Back.{whole-unique}
-use Rattle.floats.specs.Units.{InUnits}
 use Rattle.floats.specs.Whole.{step, toward, floorOf, ceilingOf, onward, FirstWhole, WholeFrom, FloorOf, CeilingOf}
 use Rattle.floats.specs.OrderLaws.{le-not-lt, not-lt-le, lt-values}
 use Rattle.floats.specs.WholeLaws.{step-cut, step-raised, toward-value}
 
 -- ---- the sizes
 
-next : (n c : ℕ) → (n + 1) * c ≡ n * c + c
-next n c = add-mul n 1 c ∙ ap (λ (z : ℕ). n * c + z) (one-mul c)
-
 -- of the whole numbers up to a / c the cut one is the largest, and of those from a / c on the raised one is the smallest
 cut-most : (a c n : ℕ) → 0 < c → n * c ≤ a → n ≤ step false a c
 cut-most a c n p h = let l : n < step false a c + 1 = lt-of-mul-lt-mul-right c (lt-of-le-of-lt h (step-cut a c p .1)) in omega arith
 
 raised-least : (a c n : ℕ) → 0 < c → a ≤ n * c → step true a c ≤ n
-raised-least a c n p h =
-    let l : step true a c < n + 1 = lt-of-mul-lt-mul-right c (lt-of-lt-of-le (step-raised a c p .1) (le-trans (omega arith) (le-of-eq (sym (next n c))))) in
-    omega arith
+raised-least a c n p h = let l : step true a c < n + 1 = lt-of-mul-lt-mul-right c (lt-of-lt-of-le (step-raised a c p .1) (omega (arith, add-mul n 1 c))) in omega arith
 
 none : (n c : ℕ) → 0 < c → n * c ≤ 0 → n ≤ 0
-none n c p h = let l : n < 1 = lt-of-mul-lt-mul-right c (lt-of-le-of-lt h (lt-of-lt-of-le p (le-of-eq (sym (one-mul c))))) in omega arith
+none n c p h = let l : n < 1 = lt-of-mul-lt-mul-right c (omega arith) in omega arith
 
 -- ±b lies on the side of ±a that `u` does not go to
 abbrev behind : Bool → Bool → ℕ → Bool → ℕ → Bool

@@ -1,6 +1,6 @@
 -- What the six functions on patterns answer at zeros and halves, by computation. At every NaN and every negative specs/PatternLaws.antt says it.
 use mathlib.Core.Path.{_≡_, refl}
-use mathlib.Core.List.{List, [], _∷_, map}
+use mathlib.Core.List.{[], _∷_, map}
 use lib.Ieee as Ieee
 use Rattle.floats.specs.Choice.{largerOf, smallerOf}
 use Rattle.floats.specs.Patterns.{onBits, onBoth}
