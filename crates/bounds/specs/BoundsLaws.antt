@@ -18,7 +18,7 @@ use lib.Ieee.Order.{drop, kept}
 use lib.Ieee.Back.{round-whole}
 use lib.Ieee.Scale.{finite}
 use lib.Ieee.Positive.{first-pos}
-use Rattle.names.specs.Bits.{zero32, one32}
+use Rattle.names.specs.Bits.{zero32, half32, one32}
 use Rattle.names.specs.Numbers.{pointLimit, edgeLimit, colourLimit, directionLimit, lightLimit, coefficientLimit}
 use Rattle.floats.specs.Choice.{magnitudeOf, largerOf, smallerOf}
 use Rattle.floats.specs.OrderLaws.{lt-asymmetric, lt-irreflexive, lt-transitive, not-lt-le, lt-le}
@@ -297,10 +297,18 @@ magnitude-at-most nan n k h = h
 magnitude-at-most (inf s) n k h = h
 magnitude-at-most (fin s m e) n k h = h
 
--- 0 and 1
+-- 0, 1/2 and 1
 pub zero-at-most : (n k : ℕ) → AtMost n k zero32
 unfolding AtMost ofBits
 zero-at-most n k = zero-le
+
+pub half-at-most : AtMost 1 0 half32
+unfolding AtMost ofBits
+half-at-most = lit≤ tt
+
+pub one-at-most : AtMost 1 0 one32
+unfolding AtMost ofBits
+one-at-most = lit≤ tt
 
 pub one-value : HasValue one32 false (1 * 2 ^ 0) 1
 unfolding ofBits

@@ -1,8 +1,8 @@
 -- A vector's length is at most a bound whose square the dot of the vector with itself keeps: the root is the nearest f32, and the bound is one. Assumes nothing.
 use mathlib.Core.Path.{_≡_, sym, ap, _∙_, subst}
-use mathlib.Core.Bool.{Bool, true, false, false≢true}
+use mathlib.Core.Bool.{true, false, false≢true}
 use Prim.Native.Nat.{ℕ, zero, suc, _+_, _*_, _^_, _≤_, _<_, zero-le}
-use native.Mathlib.Nat.{le-trans, le-of-eq, le-of-lt, lt-of-not-le, mul-one, zero-mul, mul-comm, mul-assoc, mul-left-comm, mul-right-comm, mul-le-mul, mul-le-mul-right, le-of-mul-le-mul-right, le-refl}
+use native.Mathlib.Nat.{le-trans, le-of-eq, lt-of-not-le, mul-one, zero-mul, mul-comm, mul-assoc, mul-left-comm, mul-right-comm, mul-le-mul, mul-le-mul-right, le-of-mul-le-mul-right}
 use native.Mathlib.Decide.{decLe}
 use native.Mathlib.Omega.{arith}
 use lib.IntN.{ℤ}
@@ -11,7 +11,6 @@ use lib.Pow.{pow-add}
 use lib.Ieee.{Float, nan, inf, fin, binary32, up, down, fits}
 use lib.Ieee.Fits.{down-pos, add-fits}
 use lib.Ieee.Exact.{HasValue}
-use lib.Ieee.Scale.{finite}
 use Rattle.floats.specs.Root.{count, Nearer, NearestRoot, RootOf, rootOf}
 use Rattle.floats.specs.RootLaws.{root-is-nearest, root-square}
 use Rattle.floats.specs.RootLaws.Units.{counted}

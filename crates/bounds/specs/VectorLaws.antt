@@ -8,7 +8,11 @@ use lib.Ieee.{Float, isNan}
 use Rattle.vectors.specs.declared.Vec3.{Vec3}
 use Rattle.vectors.specs.Vectors.{addV, subV, mulV, scaleV, negV, dotV, crossV, largerV, smallerV, clampV}
 use Rattle.bounds.specs.Bounds.{AtMost, EachAtMost, EachUnder}
-use Rattle.bounds.specs.BoundsLaws.{neg-at-most, add-at-most, sub-at-most, mul-at-most, under-mul, larger-at-most, smaller-at-most, clamp-at-most}
+use Rattle.bounds.specs.BoundsLaws.{at-most-up, neg-at-most, add-at-most, sub-at-most, mul-at-most, under-mul, larger-at-most, smaller-at-most, clamp-at-most}
+
+pub each-up : (a : Vec3) (n k l j : ℕ) → n * 2 ^ k ≤ l * 2 ^ j → EachAtMost n k a → EachAtMost l j a
+each-up a n k l j h b =
+    record { x = at-most-up (a .x) n k l j h (b .x); y = at-most-up (a .y) n k l j h (b .y); z = at-most-up (a .z) n k l j h (b .z) }
 
 pub neg-each : (a : Vec3) (n k : ℕ) → EachAtMost n k a → EachAtMost n k (negV a)
 unfolding negV

@@ -1,15 +1,14 @@
 -- No sample of an accepted call of the masks has a coordinate that is NaN: with iu and iv below a side n of at most 64, u and v are at most 2 in size and w at most 5, so that
 -- a point (p0·w + p1·u) + p2·v lies within 9·2^12.
 use mathlib.Core.Path.{_≡_}
-use mathlib.Core.Bool.{false}
 use mathlib.Core.List.{List}
 use Prim.Native.Nat.{ℕ, _+_, _*_, _/_, _^_, _≤_, _<_}
 use native.Mathlib.Nat.{mul-le-mul-right, lt-of-le-of-lt}
 use native.Mathlib.Omega.{arith}
-use lib.Dec.{lit<, lit≤}
+use lib.Dec.{lit<}
 use lib.ListN.{length}
 use lib.Ieee as Ieee
-use lib.Ieee.{Float, binary32, ofBits}
+use lib.Ieee.{Float, binary32}
 use Rattle.names.specs.Bits.{half32, one32}
 use Rattle.names.specs.Passed.{passed}
 use Rattle.vectors.specs.declared.Vec3.{Vec3}
@@ -18,7 +17,7 @@ use Rattle.grid.specs.declared.Axes.{Axes}
 use Rattle.grid.specs.declared.Corners.{Corners}
 use Rattle.grid.specs.Grid.{floatOf, edgesOf, smallestEdgeOf}
 use Rattle.bounds.specs.Bounds.{AtMost, EachAtMost}
-use Rattle.bounds.specs.BoundsLaws.{at-most-up, add-at-most, sub-at-most, div-at-most, int-at-most, int-at-least}
+use Rattle.bounds.specs.BoundsLaws.{at-most-up, add-at-most, sub-at-most, div-at-most, int-at-most, int-at-least, half-at-most, one-at-most}
 use Rattle.bounds.specs.VectorLaws.{add-each, scale-each}
 use Rattle.triangle.specs.Places.{triangleAt}
 use Rattle.rays_bounds.specs.TestBounds.{NearPoints, near-place}
@@ -36,19 +35,11 @@ samplePoint t n iu iv =
 abbrev pub sideAt : Axes → Corners → List Float → ℕ → ℕ
 sideAt axes corners points k = sideOf (sampleCount (triangleAt points k) (smallestEdgeOf (edgesOf corners axes)))
 
-one-small : AtMost 1 0 one32
-unfolding AtMost ofBits
-one-small = lit≤ tt
-
-half-small : AtMost 1 0 half32
-unfolding AtMost ofBits
-half-small = lit≤ tt
-
 -- (i + 1/2) / n
 share-small : (i n : ℕ) → i < n → n ≤ 64 → AtMost 2 0 (shareOf i n)
 unfolding shareOf
 share-small i n h g =
-    let a = add-at-most (floatOf i) half32 i 1 0 (omega arith) (lt-of-le-of-lt (mul-le-mul-right {m = i + 1} {n = 64} (2 ^ 0) (omega arith)) (lit< tt)) (int-at-most i (omega arith)) half-small in
+    let a = add-at-most (floatOf i) half32 i 1 0 (omega arith) (lt-of-le-of-lt (mul-le-mul-right {m = i + 1} {n = 64} (2 ^ 0) (omega arith)) (lit< tt)) (int-at-most i (omega arith)) half-at-most in
     div-at-most _ (floatOf n) 2 n 0 0 (omega arith) (lit< tt) (lit< tt) (at-most-up _ (i + 1) 0 (2 * n) 0 (omega arith) a) (int-at-least n (omega arith))
 
 point-small : (t : Triangle) (n iu iv : ℕ) → NearPoints t → iu < n → iv < n → n ≤ 64 → EachAtMost 9 12 (samplePoint t n iu iv)
@@ -56,7 +47,7 @@ unfolding pointOf
 point-small t n iu iv p hu hv g =
     let u = share-small iu n hu g in
     let v = share-small iv n hv g in
-    let w = sub-at-most _ _ 3 2 0 (lit< tt) (lit< tt) (sub-at-most one32 _ 1 2 0 (lit< tt) (lit< tt) one-small u) v in
+    let w = sub-at-most _ _ 3 2 0 (lit< tt) (lit< tt) (sub-at-most one32 _ 1 2 0 (lit< tt) (lit< tt) one-at-most u) v in
     add-each _ _ 7 2 12 (lit< tt) (lit< tt)
     (add-each _ _ 5 2 12 (lit< tt) (lit< tt) (scale-each (t .p0) _ 1 12 5 0 (lit< tt) (lit< tt) (p .p0) w) (scale-each (t .p1) _ 1 12 2 0 (lit< tt) (lit< tt) (p .p1) u))
     (scale-each (t .p2) _ 1 12 2 0 (lit< tt) (lit< tt) (p .p2) v)

@@ -3,17 +3,14 @@ use mathlib.Core.Bool.{Bool, true, false, cond}
 use Prim.Native.Nat.{ℕ, _+_, _*_, _^_, _<_, _≤_}
 use lib.Dec.{lit≤}
 use lib.Ieee.{Float, ofBits}
-use Rattle.names.specs.Bits.{lit, one32}
+use Rattle.names.specs.Bits.{lit}
 use Rattle.vectors.specs.declared.Vec3.{Vec3}
 use Rattle.vectors.specs.Vectors.{divV}
 use Rattle.bounds.specs.Bounds.{AtMost, AtLeast, EachAtMost}
-use Rattle.bounds.specs.BoundsLaws.{at-most-up, div-at-most, zero-at-most}
+use Rattle.bounds.specs.BoundsLaws.{div-at-most, zero-at-most}
+use Rattle.bounds.specs.VectorLaws.{each-up}
 use Rattle.harmonics.specs.declared.Coefficients.{Coefficients}
 use Rattle.harmonics.specs.Harmonics.{zeroV}
-
-pub each-up : (a : Vec3) (n k l j : ℕ) → n * 2 ^ k ≤ l * 2 ^ j → EachAtMost n k a → EachAtMost l j a
-each-up a n k l j h b =
-    record { x = at-most-up (a .x) n k l j h (b .x); y = at-most-up (a .y) n k l j h (b .y); z = at-most-up (a .z) n k l j h (b .z) }
 
 pub div-each : (a : Vec3) (s : Float) (n l j k : ℕ) → 0 < l → n < 16777216 → n * 2 ^ (j + k) < 2 ^ 128 → EachAtMost (n * l) j a → AtLeast l k s → EachAtMost n (j + k) (divV a s)
 unfolding divV
@@ -84,10 +81,6 @@ blue-small = lit≤ tt
 pub quarter-small : AtMost 1 0 (lit 0x3e800000)
 unfolding AtMost ofBits
 quarter-small = lit≤ tt
-
-pub one-small : AtMost 1 0 one32
-unfolding AtMost ofBits
-one-small = lit≤ tt
 
 pub pi-least : AtLeast 1 0 (lit 0x40490fdb)
 unfolding AtLeast ofBits

@@ -21,7 +21,7 @@ use Rattle.vectors.specs.declared.Ray.{Ray}
 use Rattle.vectors.specs.Vectors.{normalV}
 use Rattle.bounds.specs.Bounds.{AtMost, EachAtMost}
 use Rattle.bounds.specs.BoundsLaws.{at-most-of-value, at-most-up, at-most-finite, at-most-of-test, div-at-most, int-at-most, zero-at-most, one-value, point-value, colour-value, light-value, coefficient-value}
-use Rattle.bounds.specs.VectorLaws.{dot-at-most}
+use Rattle.bounds.specs.VectorLaws.{each-up, dot-at-most}
 use Rattle.bounds.specs.NormalLaws.{thin-normal-within}
 use Rattle.grid_laws.specs.RowBounds.{within-at-most, at-most-within, within-each}
 use Rattle.directions.specs.Table.{directions}
@@ -41,7 +41,7 @@ use Rattle.surface.specs.declared.Setting.{Setting}
 use Rattle.gather.specs.declared.Gathering.{Gathering}
 use Rattle.gather.specs.Gather.{GatherInput, ambientOf, settingOf, directionAt, primaryRay, incomingBy, gatheredAlong, alongFrom, nothingGathered, gatheringOf, setAt, voxelOf, finishedOf, sixteenOf, skySeen, gatheredOf}
 use Rattle.gather.specs.GatherLaws.{misses-most, length-gathered}
-use Rattle.gather_bounds.specs.Each.{each-up, zero-each, AllAtMost, sixty-four}
+use Rattle.gather_bounds.specs.Each.{zero-each, AllAtMost, sixty-four}
 use Rattle.gather_bounds.specs.LightBounds.{added-all, irradiance-all, raised-all, floored-all}
 use Rattle.gather_bounds.specs.SceneBounds.{Modest, ModestSetting, ModestLamps, FoundAt, nearest-found, surface-small, bounced-small}
 

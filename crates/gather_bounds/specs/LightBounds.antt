@@ -18,18 +18,18 @@ use Rattle.floats.specs.Root.{rootOf}
 use Rattle.floats.specs.FiniteLaws.{finite-number}
 use Rattle.floats.specs.OrderLaws.{not-lt-le}
 use Rattle.vectors.specs.declared.Vec3.{Vec3}
-use Rattle.vectors.specs.Vectors.{negV, addV, subV, scaleV, divV, dotV, lengthV, normalV, lerpV}
+use Rattle.vectors.specs.Vectors.{negV, subV, scaleV, divV, dotV, lengthV, normalV, lerpV}
 use Rattle.bounds.specs.Bounds.{AtMost, EachAtMost}
-use Rattle.bounds.specs.BoundsLaws.{at-most-up, at-most-finite, at-least-of-test, add-at-most, sub-at-most, mul-at-most, div-at-most, larger-at-most, clamp-at-most, zero-at-most}
+use Rattle.bounds.specs.BoundsLaws.{at-most-up, at-most-finite, at-least-of-test, add-at-most, sub-at-most, mul-at-most, div-at-most, larger-at-most, clamp-at-most, zero-at-most, one-at-most}
 use Rattle.bounds.specs.NormalLaws.{thin-normal-within}
 use Rattle.bounds.specs.WildLaws.{root-wild}
-use Rattle.bounds.specs.VectorLaws.{neg-each, add-each, mul-each, scale-each, larger-each, dot-at-most}
+use Rattle.bounds.specs.VectorLaws.{each-up, neg-each, add-each, mul-each, scale-each, larger-each, dot-at-most}
 use Rattle.limits.specs.LimitsLaws.{either}
 use Rattle.harmonics.specs.declared.Coefficients.{Coefficients}
 use Rattle.harmonics.specs.Harmonics.{zeroV, linearBasis, primaryWeight, addWeighted, projected, addedTo, irradianceOf, evaluatedAt, raisedV, raisedOf, floor32, luminanceOf, blendedV, blendedEach, shortfallOf, flooredOf}
 use Rattle.bounce.specs.Light.{facingOf, slantOf, sunlightOf, skylightOf, bouncedOf, reflectedOf}
 use Rattle.bounce.specs.Lamps.{wayTo, unlitBy, lamplightOf}
-use Rattle.gather_bounds.specs.Each.{each-up, div-each, zero-each, taken-each, AllAtMost, all-up, taken-all, constant-basis-small, linear-basis-small, primary-weight-small, constant-irradiance-small, linear-irradiance-small, floor-small, red-small, green-small, blue-small, quarter-small, one-small, pi-least}
+use Rattle.gather_bounds.specs.Each.{div-each, zero-each, taken-each, AllAtMost, all-up, taken-all, constant-basis-small, linear-basis-small, primary-weight-small, constant-irradiance-small, linear-irradiance-small, floor-small, red-small, green-small, blue-small, quarter-small, pi-least}
 
 -- ---- light on a surface
 
@@ -276,7 +276,7 @@ shortfall-small least present f g h = clamp-at-most _ (quotient-number _ least g
 blended-each : (c a : Vec3) (t : Float) → EachAtMost 2560 79 c → EachAtMost 1 16 a → AtMost 1 0 t → EachAtMost 5121 79 (blendedV c a t)
 unfolding blendedV lerpV
 blended-each c a t h g k =
-    let r = sub-at-most one32 t 1 1 0 (lit< tt) (lit< tt) one-small k in
+    let r = sub-at-most one32 t 1 1 0 (lit< tt) (lit< tt) one-at-most k in
     let p = scale-each c _ 2560 79 2 0 (lit< tt) (lit< tt) h r in
     let q = scale-each _ t 1 16 1 0 (lit< tt) (lit< tt) (scale-each a floor32 1 16 1 0 (lit< tt) (lit< tt) g floor-small) k in
     add-each _ _ 5120 1 79 (lit< tt) (lit< tt) p (each-up _ 1 16 1 79 (lit≤ tt) q)

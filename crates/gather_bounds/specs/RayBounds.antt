@@ -1,30 +1,27 @@
 -- The departure that makes a non-finite distance a miss never shows in an accepted bake (`NoDepartures`). A primary ray starts within 11·2^12, so that what it meets lies within
 -- 288·2^63 along it and the surface's point within 578·2^63. A ray from there starts within 579·2^63, so that no distance passes 13920·2^114, which is finite. That holds in
 -- whatever direction; but a ray to the sky starts moved along its own direction, which is not shown to be finite. Where it is not, u is NaN and the ray meets nothing.
-use mathlib.Core.Path.{_≡_, refl, sym}
-use mathlib.Core.Logic.{_⊎_, inl, inr, ⊎-elim}
-use mathlib.Core.Bool.{true, false}
-use mathlib.Core.List.{List}
-use Prim.Native.Nat.{ℕ, _+_, _*_, _<_}
+use mathlib.Core.Path.{_≡_}
+use mathlib.Core.Logic.{⊎-elim}
+use mathlib.Core.Bool.{false}
+use Prim.Native.Nat.{ℕ, _<_}
 use native.Mathlib.Omega.{arith}
 use lib.Dec.{lit<, lit≤}
 use lib.ListN.{length}
 use lib.Ieee.{Float, binary32, mul, ofBits}
 use Rattle.names.specs.Bits.{lit, zero32, half32}
-use Rattle.names.specs.Scene.{Scene}
 use Rattle.floats.specs.Choice.{largerOf}
 use Rattle.floats.specs.OrderLaws.{le-numbers}
 use Rattle.vectors.specs.declared.Vec3.{Vec3}
 use Rattle.vectors.specs.declared.Ray.{Ray}
-use Rattle.vectors.specs.Vectors.{normalV}
 use Rattle.vectors.specs.Rays.{pointAt, rayFrom}
-use Rattle.grid.specs.Grid.{voxels, xOf, yOf, zOf, edgesOf, diagonalOf, smallestEdgeOf}
+use Rattle.grid.specs.Grid.{voxels, xOf, yOf, zOf, edgesOf}
 use Rattle.grid.specs.GridLaws.{x-within, y-within, z-within}
 use Rattle.limits.specs.Limits.{badAxes, badGrid, lampAt}
 use Rattle.limits.specs.LimitsLaws.{axes-row}
 use Rattle.bounds.specs.Bounds.{AtMost, EachAtMost}
-use Rattle.bounds.specs.BoundsLaws.{at-most-up, mul-at-most, larger-at-most}
-use Rattle.bounds.specs.VectorLaws.{add-each, scale-each}
+use Rattle.bounds.specs.BoundsLaws.{at-most-up, mul-at-most, larger-at-most, half-at-most}
+use Rattle.bounds.specs.VectorLaws.{each-up, add-each, scale-each}
 use Rattle.bounds.specs.WildLaws.{Wild}
 use Rattle.bounds.specs.NormalLaws.{normal-spread}
 use Rattle.grid_laws.specs.GridBounds.{diagonal-bounded, centre-bounded}
@@ -33,19 +30,17 @@ use Rattle.triangle.specs.Laws.{hit-met}
 use Rattle.triangle.specs.declared.Meet.the-variants.{Hit}
 use Rattle.rays_bounds.specs.TestBounds.{NearPoints, near-place, distance-bounded}
 use Rattle.rays_bounds.specs.Departure.{NoDeparture, far-same, wild-same}
-use Rattle.scan.specs.Nearest.{nearestOf, nearestTo, meetAt}
-use Rattle.scan.specs.declared.Nearest.{Nearest}
+use Rattle.scan.specs.Nearest.{nearestOf, meetAt}
 use Rattle.scan.specs.declared.Nearest.the-variants.{At}
 use Rattle.bounce.specs.declared.Biases.{Biases}
 use Rattle.bounce.specs.Biases.{biasesOf}
-use Rattle.bounce.specs.Hemisphere.{frameOf, turnedBy, skyDirection}
+use Rattle.bounce.specs.Hemisphere.{turnedBy}
 use Rattle.bounce.specs.Lamps.{wayTo, lampRayFrom}
 use Rattle.surface.specs.declared.Setting.{Setting}
 use Rattle.surface.specs.declared.Surface.{Surface}
 use Rattle.surface.specs.Surface.{surfaceOf, skyRayIn, shadowRay, skyRay, lampRay}
 use Rattle.gather.specs.Gather.{GatherInput, settingOf, directionAt, primaryRay, centreAt}
-use Rattle.gather_bounds.specs.Each.{each-up}
-use Rattle.gather_bounds.specs.SceneBounds.{FoundAt, nearest-found, ModestSurface, surface-small}
+use Rattle.gather_bounds.specs.SceneBounds.{nearest-found, surface-small}
 use Rattle.gather_bounds.specs.GatherBounds.{Rows, modest, setting-small, direction-small}
 
 -- ---- the biases, from a diagonal of at most 7·2^11
@@ -58,10 +53,6 @@ record SmallBiases (b : Biases) : Type 0 where
 -- a part of it, or a floor
 part-small : (d part floor : Float) → AtMost 7 11 d → AtMost 1 0 part → AtMost 1 0 floor → AtMost 7 11 (largerOf (mul binary32 d part) floor)
 part-small d part floor h p q = larger-at-most _ floor 7 11 (mul-at-most d part 7 11 1 0 (lit< tt) (lit< tt) h p) (at-most-up floor 1 0 7 11 (lit≤ tt) q)
-
-half-small : AtMost 1 0 half32
-unfolding AtMost ofBits
-half-small = lit≤ tt
 
 -- .35 and 4·1e-4, .05 and 8·1e-4
 primary-parts : AtMost 1 0 (lit 0x3eb33333) × AtMost 1 0 (lit 0x39d1b717)
@@ -76,7 +67,7 @@ biases-small : (d e : Float) → AtMost 7 11 d → SmallBiases (biasesOf d e)
 unfolding biasesOf
 biases-small d e h =
     let hit = part-small d _ _ h (hit-parts .0) (hit-parts .1) in
-    record { primary = part-small d _ _ h (primary-parts .0) (primary-parts .1); hit = hit; step = mul-at-most _ half32 7 11 1 0 (lit< tt) (lit< tt) hit half-small }
+    record { primary = part-small d _ _ h (primary-parts .0) (primary-parts .1); hit = hit; step = mul-at-most _ half32 7 11 1 0 (lit< tt) (lit< tt) hit half-at-most }
 
 -- ---- the rays of voxel i
 

@@ -1,6 +1,6 @@
 -- How large what a scene's surfaces send back is, where its numbers lie within document 01's limits.
-use mathlib.Core.Path.{_≡_, refl, sym, _∙_}
-use mathlib.Core.Bool.{Bool, true, false, cond, false≢true}
+use mathlib.Core.Path.{_≡_, refl}
+use mathlib.Core.Bool.{Bool, true, false, cond}
 use mathlib.Core.List.{List, [], _∷_}
 use Prim.Native.Nat.{ℕ, zero, suc, _+_, _*_, _^_, _<_, _≤_}
 use native.Mathlib.Nat.{add-zero, mul-le-mul-right, lt-of-le-of-lt}
@@ -8,7 +8,7 @@ use native.Mathlib.Omega.{arith}
 use lib.Dec.{lit<, lit≤, eqb}
 use lib.ListN.{length, getD}
 use lib.Ieee as Ieee
-use lib.Ieee.{Float, nan, isNan, binary32, ofBits}
+use lib.Ieee.{Float, nan, isNan, binary32}
 use Rattle.names.specs.Bits.{zero32, one32}
 use Rattle.names.specs.Numbers.{lampLimit, thinLimit}
 use Rattle.names.specs.Scene.{Scene, Sound}
@@ -18,8 +18,8 @@ use Rattle.vectors.specs.declared.Vec3.{Vec3}
 use Rattle.vectors.specs.declared.Ray.{Ray}
 use Rattle.vectors.specs.Vectors.{addV}
 use Rattle.bounds.specs.Bounds.{AtMost, EachAtMost}
-use Rattle.bounds.specs.BoundsLaws.{at-most-finite, add-at-most, mul-at-most, zero-at-most}
-use Rattle.bounds.specs.VectorLaws.{add-each, sub-each, cross-each, dot-at-most, clamp-each}
+use Rattle.bounds.specs.BoundsLaws.{at-most-finite, add-at-most, mul-at-most, zero-at-most, one-at-most}
+use Rattle.bounds.specs.VectorLaws.{each-up, add-each, sub-each, cross-each, dot-at-most, clamp-each}
 use Rattle.bounds.specs.NormalLaws.{thin-normal-within}
 use Rattle.limits.specs.declared.Lamp.{Lamp}
 use Rattle.limits.specs.Limits.{lampCount, lampAt}
@@ -41,7 +41,7 @@ use Rattle.surface.specs.declared.Setting.{Setting}
 use Rattle.surface.specs.declared.Surface.{Surface}
 use Rattle.surface.specs.declared.Traced.{Traced}
 use Rattle.surface.specs.Surface.{surfaceOf, seenBy, seenOf, sunOf, skyOf, daylightOf, litBy, litAfter, fallenOn, bouncedBy, skyRay, shadowRay, lampRay}
-use Rattle.gather_bounds.specs.Each.{each-up, zero-each, AllAtMost, one-small}
+use Rattle.gather_bounds.specs.Each.{zero-each, AllAtMost}
 use Rattle.gather_bounds.specs.LightBounds.{raised-each, facing-each, skylight-each, sunlight-each, above, thin-number, lamplight-each, reflected-each}
 
 -- the numbers of a scene lie within the limits
@@ -96,7 +96,7 @@ module _ (s : Scene) (m : Modest s) where
 
   pub transmittance-small : (ray : Ray) → AtMost 1 0 (transmittanceOf s ray)
   unfolding transmittanceOf
-  transmittance-small ray = pass-small one32 _ one-small (below (length (s .uses)) (placesOf (hitsOf (s .points) ray (length (s .uses)))) (places-below (s .points) ray (length (s .uses))))
+  transmittance-small ray = pass-small one32 _ one-at-most (below (length (s .uses)) (placesOf (hitsOf (s .points) ray (length (s .uses)))) (places-below (s .points) ray (length (s .uses))))
 
   -- ---- the normal of a triangle that is met
 

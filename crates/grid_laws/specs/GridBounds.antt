@@ -18,7 +18,7 @@ use Rattle.grid.specs.Grid.{AxesWithin, floatOf, edgesOf, centreFrom, centreOf,
 use Rattle.limits.specs.Limits.{badAxes, badGrid}
 use Rattle.limits.specs.LimitsLaws.{axes-row, grid-row}
 use Rattle.bounds.specs.Bounds.{AtMost, AtLeast, EachAtMost}
-use Rattle.bounds.specs.BoundsLaws.{at-most-up, at-least-of-test, at-most-finite, add-at-most, sub-at-most, mul-at-most, div-at-most, int-at-most, int-at-least, point-value, edge-value}
+use Rattle.bounds.specs.BoundsLaws.{at-most-up, at-least-of-test, at-most-finite, add-at-most, sub-at-most, mul-at-most, div-at-most, int-at-most, int-at-least, half-at-most, point-value, edge-value}
 use Rattle.bounds.specs.VectorLaws.{dot-at-most}
 use Rattle.bounds.specs.LengthLaws.{length-at-most}
 use Rattle.grid_laws.specs.RowBounds.{within-each}
@@ -50,14 +50,11 @@ along low e w x p q h g =
     let t = mul-le-mul-right (most w) p in
     let o : x * most w ≤ 8224 = omega arith in
     let a = at-most-up low 1 12 4096 0 (lit≤ tt) h in
-    let b = mul-at-most e half32 (most w) 0 1 0 (omega arith) (lt-of-le-of-lt {n = most w * 1 * 1} {m = 8193} (omega arith) (lit< tt)) g half-small in
+    let b = mul-at-most e half32 (most w) 0 1 0 (omega arith) (lt-of-le-of-lt {n = most w * 1 * 1} {m = 8193} (omega arith) (lit< tt)) g half-at-most in
     let c = mul-at-most (floatOf x) e x 0 (most w) 0 (omega arith) (lt-of-le-of-lt {n = x * most w * 1} {m = 8224} (omega arith) (lit< tt)) (int-at-most x (omega arith)) g in
     let d = add-at-most low _ 4096 (most w * 1) 0 (omega arith) (lt-of-le-of-lt {n = (4096 + most w * 1) * 1} {m = 16777216} (omega arith) (lit< tt)) a b in
     at-most-up _ (4096 + most w * 1 + x * most w) 0 12320 0 (omega arith)
     (add-at-most _ _ (4096 + most w * 1) (x * most w) 0 (omega arith) (lt-of-le-of-lt {n = (4096 + most w * 1 + x * most w) * 1} {m = 16777216} (omega arith) (lit< tt)) d c)
-  where
-    half-small : AtMost 1 0 half32
-    half-small = unfold AtMost ofBits in lit≤ tt
 
 -- ---- the grid
 

@@ -7,11 +7,12 @@ use native.Mathlib.Nat.{lt-of-le-of-lt}
 use lib.Dec.{lit<}
 use lib.ListN.{length}
 use lib.Ieee as Ieee
-use lib.Ieee.{Float, binary32, isNan}
-use Rattle.names.specs.Bits.{zero32, one32}
+use lib.Ieee.{Float, nan, binary32, isNan}
+use Rattle.names.specs.Bits.{lit, zero32, quarter32, one32, two32, inf32}
 use Rattle.names.specs.Scene.{Scene}
 use Rattle.floats.specs.Choice.{magnitudeOf}
 use Rattle.floats.specs.OrderLaws.{le-numbers}
+use Rattle.vectors.specs.Vectors.{vec, subV, dotV, crossV}
 use Rattle.vectors.specs.declared.Ray.{Ray}
 use Rattle.vectors.specs.declared.Triangle.{Triangle}
 use Rattle.limits.specs.Limits.{badRay}
@@ -95,3 +96,16 @@ wild-same ray triangle w = idle ray triangle (λ h g. absurd (not-nan _ (wild-na
 -- a ray that row 8 accepts
 pub accepted-same : (ray : Ray) (triangle : Triangle) → NearPoints triangle → badRay ray ≡ false → meetOf ray triangle ≡ meetWithout ray triangle
 accepted-same ray triangle p br = idle ray triangle (λ h g. last-test-passes ray triangle p br h)
+
+-- ---- far beyond the limits it does show: from 2^127 up, down on (0,0,0), (2,0,0), (0,2,0)
+
+abbrev beyond : Ray
+beyond =
+    record { origin = vec quarter32 quarter32 (lit 0x7f000000); direction = vec zero32 zero32 (lit 0xbf800000); shortest = zero32; longest = inf32 }
+
+abbrev below : Triangle
+below = record { p0 = vec zero32 zero32 zero32; p1 = vec two32 zero32 zero32; p2 = vec zero32 two32 zero32 }
+
+pub departure-shows : (meetOf beyond below ≡ Miss) × (meetWithout beyond below ≡ Hit inf32 (lit 0x3e000000) nan)
+unfolding meetOf meetWithout judgedOf judgedWithout solvedOf absentOf magnitudeOf subV crossV dotV Ieee.ofBits Ieee.ofFields Ieee.odd Ieee.neg Ieee.le Ieee.lt Ieee.eq Ieee.add Ieee.sub Ieee.mul Ieee.div Ieee.round Ieee.sum Ieee.units Ieee.size Ieee.span Ieee.climb
+departure-shows = (refl, refl)

@@ -10,7 +10,7 @@ use native.Mathlib.Omega.{arith}
 use lib.Dec.{lit<, lit≤}
 use lib.ListN.{length, getD}
 use lib.Pow.{pow-mono}
-use lib.Ieee.{Float, nan, inf, fin, binary32, neg, mul, div, le, lt, eq, isNan, ofBits}
+use lib.Ieee.{Float, nan, inf, fin, binary32, mul, div, le, lt, eq, isNan, ofBits}
 use lib.Ieee.Exact.{HasValue}
 use lib.Ieee.Scale.{finite}
 use Rattle.names.specs.Bits.{lit, one32}
@@ -18,23 +18,19 @@ use Rattle.names.specs.Numbers.{pointLimit, colourLimit, directionLimit}
 use Rattle.floats.specs.Choice.{magnitudeOf}
 use Rattle.floats.specs.OrderLaws.{not-lt-le, le-transitive}
 use Rattle.floats.specs.FiniteLaws.{finite-number}
-use Rattle.vectors.specs.declared.Vec3.{Vec3}
 use Rattle.vectors.specs.declared.Ray.{Ray}
 use Rattle.vectors.specs.declared.Triangle.{Triangle}
 use Rattle.vectors.specs.Vectors.{subV, crossV}
 use Rattle.limits.specs.Limits.{badPoints, badTriangle, badRay}
 use Rattle.limits.specs.LimitsLaws.{any-of-three, points-row, ray-row}
 use Rattle.bounds.specs.Bounds.{AtMost, AtLeast, EachAtMost}
-use Rattle.bounds.specs.BoundsLaws.{at-most-up, at-most-of-test, test-of-at-most, at-least-of-test, at-most-finite, magnitude-at-most, mul-at-most, div-at-most, one-value, point-value, colour-value, direction-value}
-use Rattle.bounds.specs.VectorLaws.{sub-each, dot-at-most, cross-each}
+use Rattle.bounds.specs.BoundsLaws.{at-most-up, test-of-at-most, at-least-of-test, at-most-finite, magnitude-at-most, mul-at-most, div-at-most, one-at-most, point-value, colour-value, direction-value}
+use Rattle.bounds.specs.VectorLaws.{each-up, sub-each, dot-at-most, cross-each}
 use Rattle.grid_laws.specs.RowBounds.{within-at-most, within-each}
 use Rattle.triangle.specs.Meet.{flatLimit, largest32, solvedOf, meetOf}
 use Rattle.triangle.specs.Places.{vecAt, triangleAt}
 use Rattle.triangle.specs.Laws.{hit-met}
 use Rattle.triangle.specs.declared.Meet.the-variants.{Hit}
-
-wider : (n k l j : ℕ) (v : Vec3) → n * 2 ^ k ≤ l * 2 ^ j → EachAtMost n k v → EachAtMost l j v
-wider n k l j v h e = record { x = at-most-up _ n k l j h (e .x); y = at-most-up _ n k l j h (e .y); z = at-most-up _ n k l j h (e .z) }
 
 least : HasValue (lit 0x32000000) false 1 (2 ^ 27)
 unfolding ofBits
@@ -65,14 +61,6 @@ unfolding AtLeast magnitudeOf isNan
 steep nan f h = absurd (false≢true f)
 steep (inf s) f h = absurd (false≢true f)
 steep (fin s m e) f h = at-least-of-test (fin false m e) (lit 0x32000000) 1 27 least refl (above (fin false m e) refl h)
-
-one-above : le (neg one32) one32 ≡ true
-unfolding le lt eq neg ofBits
-one-above = refl
-
-one-below : le one32 one32 ≡ true
-unfolding le lt eq ofBits
-one-below = refl
 
 -- ---- a triangle whose points lie within ±4,096
 
@@ -109,7 +97,7 @@ unfolding isNan
 inverse-small nan o h = absurd (false≢true (sym o))
 inverse-small (inf s) o h = unfold div AtMost ofBits in zero-le
 inverse-small (fin s m e) o h =
-    div-at-most one32 (fin s m e) 1 1 0 27 (lit< tt) (lit< tt) (lit< tt) (at-most-of-test one32 one32 1 0 one-value one-above one-below) (steep (fin s m e) refl h)
+    div-at-most one32 (fin s m e) 1 1 0 27 (lit< tt) (lit< tt) (lit< tt) one-at-most (steep (fin s m e) refl h)
 
 -- over NaN it is NaN
 number-under : (x d : Float) → isNan (mul binary32 x (div binary32 one32 d)) ≡ false → isNan d ≡ false
@@ -141,7 +129,7 @@ module _ (ray : Ray) (triangle : Triangle) (n k : ℕ) (points : NearPoints tria
   s-small : EachAtMost (n + 1) k (subV (ray .origin) (triangle .p0))
   s-small =
       sub-each (ray .origin) (triangle .p0) n 1 k (omega arith) (less (n + 1) (24 * (n + 1)) k (k + 51) (omega arith) (omega arith) room) start
-      (wider 1 12 1 k (triangle .p0) (mul-le-mul (le-refl 1) (pow-mono wide)) (points .p0))
+      (each-up (triangle .p0) 1 12 1 k (mul-le-mul (le-refl 1) (pow-mono wide)) (points .p0))
 
   q-small : EachAtMost ((n + 1) * 2 + (n + 1) * 2) (k + 12) (crossV (subV (ray .origin) (triangle .p0)) (subV (triangle .p1) (triangle .p0)))
   q-small = cross-each _ _ (n + 1) k 2 12 (omega arith) (less _ (24 * (n + 1)) (k + 12) (k + 51) (omega arith) (omega arith) room) s-small e1-small
@@ -178,7 +166,7 @@ pub test-bounded : (ray : Ray) (triangle : Triangle) → NearPoints triangle →
     → le (magnitudeOf (solvedOf ray triangle .det)) flatLimit ≡ false → Bounded 16 12 ray triangle
 test-bounded ray triangle p br h =
     let rows = ray-row ray .0 br in
-    let o = wider 1 16 16 12 (ray .origin) (lit≤ tt) (within-each colourLimit (ray .origin) 1 16 colour-value (rows .0)) in
+    let o = each-up (ray .origin) 1 16 16 12 (lit≤ tt) (within-each colourLimit (ray .origin) 1 16 colour-value (rows .0)) in
     let d = within-each directionLimit (ray .direction) 1 1 direction-value (rows .1) in
     numbers-bounded ray triangle 16 12 p o (lit≤ tt) (lit< tt) (lit< tt) d h
 

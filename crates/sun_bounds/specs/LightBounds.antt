@@ -17,9 +17,10 @@ use Rattle.grid.specs.Grid.{voxels}
 use Rattle.grid.specs.declared.Axes.{Axes}
 use Rattle.grid.specs.declared.Corners.{Corners}
 use Rattle.limits.specs.Limits.{within, upTo, badLights}
-use Rattle.limits.specs.LimitsLaws.{within-between, lights-row}
+use Rattle.limits.specs.LimitsLaws.{lights-row}
 use Rattle.bounds.specs.Bounds.{AtMost}
-use Rattle.bounds.specs.BoundsLaws.{at-most-up, at-most-of-test, test-of-at-most, one-value, light-value}
+use Rattle.bounds.specs.BoundsLaws.{at-most-up, at-most-of-test, one-value, light-value}
+use Rattle.grid_laws.specs.RowBounds.{at-most-within}
 use Rattle.means.specs.Box.{lightBlurOf, squareAt}
 use Rattle.scan_laws.specs.TransmittanceLaws.{one-is-within}
 use Rattle.sun.specs.Sun.{sunBefore, sunLight, sunRefusal, noneActive, allOnes}
@@ -40,9 +41,7 @@ unit-at-most x h =
 
 -- within ±1, so within the light's limit
 at-most-light : (x : Float) → AtMost 1 0 x → within lightLimit x ≡ true
-at-most-light x h =
-    let t = test-of-at-most x lightLimit 1 64 light-value (at-most-up x 1 0 1 64 (lit≤ tt) h) in
-    within-between lightLimit x .1 t
+at-most-light x h = at-most-within lightLimit x 1 64 light-value (at-most-up x 1 0 1 64 (lit≤ tt) h)
 
 units-accepted : (l : List Float) → ((i : ℕ) → i < length l → AtMost 1 0 (getD l i nan)) → badLights l ≡ false
 units-accepted l h = lights-row l .1 (λ i p. at-most-light _ (h i p))

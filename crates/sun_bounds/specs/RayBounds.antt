@@ -1,13 +1,13 @@
 -- Row 8 would accept every ray of an accepted sun pass: a centre lies within ±12,320, three diagonals are at most 43,008, and a component of the light's direction is at
 -- most 19/16, so that a ray starts within ±63,392. So every number of its test is finite (`Bounded`), and the departure that makes a non-finite distance a miss never shows.
 use mathlib.Core.Path.{_≡_, refl}
-use mathlib.Core.Bool.{Bool, true, false, _&&_}
+use mathlib.Core.Bool.{true, false}
 use mathlib.Core.List.{List}
-use Prim.Native.Nat.{ℕ, _*_, _+_, _<_}
+use Prim.Native.Nat.{ℕ, _<_}
 use native.Mathlib.Omega.{arith}
 use lib.Dec.{lit<, lit≤}
 use lib.ListN.{length}
-use lib.Ieee.{Float, isNan, le, lt, eq, ofBits}
+use lib.Ieee.{isNan, le, lt, eq, ofBits}
 use Rattle.names.specs.Bits.{lit, inf32}
 use Rattle.names.specs.Numbers.{pointLimit, colourLimit, directionLimit}
 use Rattle.names.specs.Scene.{Scene}
@@ -23,9 +23,9 @@ use Rattle.grid.specs.declared.Axes.{Axes}
 use Rattle.grid.specs.declared.Corners.{Corners}
 use Rattle.limits.specs.Limits.{upTo, badRay}
 use Rattle.limits.specs.LimitsLaws.{axes-row, direction-row, ray-row}
-use Rattle.bounds.specs.Bounds.{AtMost, EachAtMost, EachUnder}
+use Rattle.bounds.specs.Bounds.{AtMost}
 use Rattle.bounds.specs.BoundsLaws.{at-most-up, at-most-finite, mul-at-most, point-value, colour-value, direction-value}
-use Rattle.bounds.specs.VectorLaws.{add-each, scale-under, dot-at-most}
+use Rattle.bounds.specs.VectorLaws.{each-up, add-each, scale-under, dot-at-most}
 use Rattle.bounds.specs.NormalLaws.{thin-normal-within, thin-normal-under}
 use Rattle.grid_laws.specs.RowBounds.{within-each, each-within}
 use Rattle.grid_laws.specs.GridBounds.{diagonal-bounded, centre-bounded}
@@ -64,7 +64,7 @@ module _ (axes : Axes) (corners : Corners) (scene : Scene) (direction : Vec3) (a
       let moved = scale-under (normalV direction) _ 2688 0 19 4 (lit< tt) (lit< tt) (thin-normal-under direction (d .1) f) (at-most-up _ 21 11 43008 0 (lit≤ tt) ahead) in
       let start = add-each _ _ 12320 51072 0 (lit< tt) (lit< tt) centre moved in
       ray-row (sunRayAt axes corners direction i) .1 (
-        each-within colourLimit _ 1 16 colour-value (record { x = at-most-up _ 63392 0 1 16 (lit≤ tt) (start .x); y = at-most-up _ 63392 0 1 16 (lit≤ tt) (start .y); z = at-most-up _ 63392 0 1 16 (lit≤ tt) (start .z) }),
+        each-within colourLimit _ 1 16 colour-value (each-up _ 63392 0 1 16 (lit≤ tt) start),
         each-within directionLimit _ 1 1 direction-value (thin-normal-within direction (d .1) f),
         shortest-passes,
         longest-passes,
