@@ -2,7 +2,7 @@
 ghost use mathlib.Core.Path.{_≡_};
 ghost use Prim.Native.Nat.{_<_, _≤_, min};
 ghost use Rattle.grid.specs.Grid.{AxesWithin};
-ghost use Rattle.samples.specs.Samples.{targetOf, countOf, sampleCount, sideOf, shareOf, pointOf, cellOn, indexWithin, cellOf, sampleCell};
+ghost use Rattle.samples.specs.Samples.{targetOf, countOf, sampleCount, sideOf, shareOf, restOf, pointOf, cellOn, indexWithin, cellOf, sampleCell};
 use grid::Axes;
 use vectors::Triangle;
 use vectors::Vec3;
@@ -70,7 +70,7 @@ pub fn sample_cell(
 {
     let u = share(iu, n);
     let v = share(iv, n);
-    let w = 1.0 - u - v;
+    let w = rest(u, v);
     if w < 0.0 {
         return grid::inner::voxel_count(axes);
     }
@@ -82,6 +82,13 @@ fn share(i: usize, n: usize) -> f32
     ensures { λ r. ⌜ r ≡ shareOf i n ⌝ }
 {
     (grid::inner::float(i) + 0.5) / grid::inner::float(n)
+}
+
+// What two weights leave to the third.
+fn rest(u: f32, v: f32) -> f32
+    ensures { λ r. ⌜ r ≡ restOf u v ⌝ }
+{
+    1.0 - u - v
 }
 
 fn point(t: Triangle, u: f32, v: f32, w: f32) -> Vec3
@@ -118,7 +125,7 @@ fn index_within(axes: Axes, x: usize, y: usize, z: usize) -> usize
     if axes.depth <= z {
         return n;
     }
-    (z * axes.height + y) * axes.width + x
+    grid::inner::index(axes, x, y, z)
 }
 
 // The floored cell on an axis of n, or n where that lies outside.
