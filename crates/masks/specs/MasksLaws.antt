@@ -24,7 +24,7 @@ use Rattle.limits.specs.Limits.{within, outsideV, badAxes, badCorners, badEdges
 use Rattle.limits.specs.Some.{some}
 use Rattle.triangle.specs.Meet.{absentOf}
 use Rattle.triangle.specs.Places.{triangleAt}
-use Rattle.samples.specs.Samples.{targetOf, countOf, sideFrom, sideOf, shareOf, pointOf, cellOn, indexWithin, cellOf, sampleCell}
+use Rattle.samples.specs.Samples.{densityOf, countOf, sideFrom, sideOf, shareOf, pointOf, cellOn, indexWithin, cellOf, sampleCell}
 use Rattle.limits.specs.LimitsLaws.{axes-row, any-of-three}
 use Rattle.names.specs.Passed.{passed}
 use Rattle.marks.specs.Marks.{isMarked, markedCount}
@@ -154,5 +154,5 @@ unfolding masksRefusal firstOf badAxes badCorners badEdges outsideV within edges
 q-accepted = refl
 
 pub q-occupied : occupiedOf (axesOf 1 1 1) unitCorners pointsQ ≡ 1 ∷ []
-unfolding occupiedOf occupiedEntry occupiedIn touches sampledIn any tab absentOf triangleAt edgesOf smallestEdgeOf largerOf smallerOf countOf targetOf sideOf sideFrom shareOf pointOf cellOn indexWithin cellOf sampleCell lengthV crossV subV addV scaleV dotV rootOf toward Ieee.sub Ieee.add Ieee.neg Ieee.mul Ieee.div Ieee.le Ieee.lt Ieee.eq Ieee.isNan Ieee.toUnsigned Ieee.ofInt Ieee.round Ieee.sum Ieee.units Ieee.odd Ieee.size Ieee.climb Ieee.span Ieee.ofBits Ieee.ofFields
+unfolding occupiedOf occupiedEntry occupiedIn touches sampledIn any tab absentOf triangleAt edgesOf smallestEdgeOf largerOf smallerOf countOf densityOf sideOf sideFrom shareOf pointOf cellOn indexWithin cellOf sampleCell lengthV crossV subV addV scaleV dotV rootOf toward Ieee.sub Ieee.add Ieee.neg Ieee.mul Ieee.div Ieee.le Ieee.lt Ieee.eq Ieee.isNan Ieee.toUnsigned Ieee.ofInt Ieee.round Ieee.sum Ieee.units Ieee.odd Ieee.size Ieee.climb Ieee.span Ieee.ofBits Ieee.ofFields
 q-occupied = refl

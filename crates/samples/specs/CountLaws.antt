@@ -22,7 +22,7 @@ use Rattle.floats.specs.WholeLaws.{step-raised}
 use Rattle.floats.specs.WholeLaws.Steps.{round-neg}
 use Rattle.vectors.specs.declared.Triangle.{Triangle}
 use Rattle.grid.specs.Grid.{floatOf}
-use Rattle.samples.specs.Samples.{densityOf, targetOf, mostSamples, mostTarget, countOf, sampleCount}
+use Rattle.samples.specs.Samples.{densityOf, mostSamples, mostTarget, countOf, sampleCount}
 use Rattle.samples.specs.WholeOrder.{float-value, not-infinite, below-whole, above-whole}
 
 -- s is the ceiling of x, clamped to 1..4096. k + 1 is the ceiling of x where k < x ≤ k + 1; what is not above 1, NaN too, gives 1
@@ -186,5 +186,4 @@ count-ceiling (fin false m e) = rw (ceiling-float m e) (positive-ceiling m e)
 -- ---- so the number of samples is the ceiling of area/(smallest edge squared)·2, clamped to 1..4096
 
 pub sample-count-ceiling : (t : Triangle) (e : Float) → ClampedCeiling (densityOf t e) (sampleCount t e)
-unfolding targetOf
 sample-count-ceiling t e = count-ceiling (densityOf t e)

@@ -21,11 +21,11 @@ abbrev pub areaOf : Triangle → Float
 areaOf t = Ieee.mul binary32 half32 (lengthV (crossV (subV (t .p1) (t .p0)) (subV (t .p2) (t .p0))))
 
 -- (area / (e·e))·2, where e is the smallest edge of a voxel
-abbrev pub densityOf : Triangle → Float → Float
+unfoldable pub densityOf : Triangle → Float → Float
 densityOf t e = Ieee.mul binary32 (Ieee.div binary32 (areaOf t) (Ieee.mul binary32 e e)) two32
 
 -- its ceiling
-unfoldable pub targetOf : Triangle → Float → Float
+abbrev pub targetOf : Triangle → Float → Float
 targetOf t e = ceilingOf (densityOf t e)
 
 -- "clamped to 1..4096"

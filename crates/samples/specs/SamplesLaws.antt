@@ -20,7 +20,7 @@ use Rattle.vectors.specs.Vectors.{vec, addV, scaleV, subV, dotV, crossV, length
 use Rattle.grid.specs.declared.Axes.{Axes}
 use Rattle.grid.specs.Grid.{voxels, indexOf}
 use Rattle.grid.specs.GridLaws.{index-within}
-use Rattle.samples.specs.Samples.{targetOf, mostSamples, mostTarget, countOf, sampleCount, sideFrom, sideOf, shareOf, pointOf, cellOn, indexWithin, cellOf, sampleCell}
+use Rattle.samples.specs.Samples.{densityOf, mostSamples, mostTarget, countOf, sampleCount, sideFrom, sideOf, shareOf, pointOf, cellOn, indexWithin, cellOf, sampleCell}
 use Rattle.samples.specs.CastLaws.{cast-least, cast-most}
 
 -- ---- the least side
@@ -147,7 +147,7 @@ abbrev triangleQ : Triangle
 triangleQ = record { p0 = vec zero32 zero32 zero32; p1 = vec one32 zero32 zero32; p2 = vec zero32 one32 zero32 }
 
 pub q-count : sampleCount triangleQ one32 ≡ 1
-unfolding countOf targetOf lengthV crossV subV dotV rootOf toward Ieee.add Ieee.sub Ieee.neg Ieee.mul Ieee.div Ieee.lt Ieee.round Ieee.sum Ieee.units odd Ieee.size Ieee.climb Ieee.span ofBits ofFields
+unfolding countOf densityOf lengthV crossV subV dotV rootOf toward Ieee.add Ieee.sub Ieee.neg Ieee.mul Ieee.div Ieee.lt Ieee.round Ieee.sum Ieee.units odd Ieee.size Ieee.climb Ieee.span ofBits ofFields
 q-count = refl
 
 -- its weights are .5, .5 and 0, so that it is not skipped

@@ -1,8 +1,9 @@
 // How many samples a triangle has, where they lie, and into which voxel each falls.
 ghost use mathlib.Core.Path.{_≡_};
 ghost use Prim.Native.Nat.{_<_, _≤_, min};
+ghost use Rattle.floats.specs.Whole.{ceilingOf};
 ghost use Rattle.grid.specs.Grid.{AxesWithin};
-ghost use Rattle.samples.specs.Samples.{targetOf, countOf, sampleCount, sideOf, shareOf, restOf, pointOf, cellOn, indexWithin, cellOf, sampleCell};
+ghost use Rattle.samples.specs.Samples.{densityOf, countOf, sampleCount, sideOf, shareOf, restOf, pointOf, cellOn, indexWithin, cellOf, sampleCell};
 use grid::Axes;
 use vectors::Triangle;
 use vectors::Vec3;
@@ -18,16 +19,23 @@ const FAR: f32 = 4294967296.0;
 pub fn sample_count(t: Triangle, e: f32) -> usize
     ensures { λ r. ⌜ r ≡ sampleCount t e ⌝ }
 {
-    count(target(t, e))
+    count(target(density(t, e)))
 }
 
-// Area over the edge squared, times 2, ceiling.
-fn target(t: Triangle, e: f32) -> f32
-    ensures { λ r. ⌜ r ≡ targetOf t e ⌝ }
+// Area over the edge squared, times 2.
+fn density(t: Triangle, e: f32) -> f32
+    ensures { λ r. ⌜ r ≡ densityOf t e ⌝ }
 {
     let cross = vectors::cross(vectors::sub(t.p1, t.p0), vectors::sub(t.p2, t.p0));
     let area = 0.5 * vectors::length(cross);
-    floats::ceiling(area / (e * e) * 2.0)
+    area / (e * e) * 2.0
+}
+
+// That, raised to a whole number.
+fn target(density: f32) -> f32
+    ensures { λ r. ⌜ r ≡ ceilingOf density ⌝ }
+{
+    floats::ceiling(density)
 }
 
 // A number clamped to 1..4096, as a whole number.
