@@ -8,7 +8,7 @@ use native.Mathlib.Omega.{arith}
 use native.Mathlib.Nat.{zero-add}
 use lib.Dec.{eqb}
 use lib.ListN.{getD, length}
-use borrow.Author.Tests.{eqb-true, eq-eqb, leb-true, le-leb}
+use borrow.Author.Tests.{leb-true, le-leb}
 use Rattle.lists.specs.Fold.{length-tab, getD-tab}
 use Rattle.lists.specs.Any.{any-in, any-out}
 use Rattle.grid.specs.declared.Axes.{Axes}
@@ -24,7 +24,7 @@ pub record NearOccupied (axes : Axes) (occupied : List ℕ) (x y z : ℕ) : Type
   pub in-y : (j < axes .height) × (j ≤ y + 2) × (y ≤ j + 2)
   pub k : ℕ
   pub in-z : (k < axes .depth) × (k ≤ z + 2) × (z ≤ k + 2)
-  pub occupied-there : getD occupied (indexOf axes i j k) 0 ≡ 1
+  pub occupied-there : isMarked occupied (indexOf axes i j k) ≡ true
 
 both : {a b : Bool} → a && b ≡ true → (a ≡ true) × (b ≡ true)
 both {a} {b} e = and-eq-true-iff a b .0 e
@@ -60,7 +60,7 @@ module _ (axes : Axes) (occupied : List ℕ) where
         in-y = omega (arith, within-out j y (r .0));
         k = k;
         in-z = omega (arith, within-out k z (r .1));
-        occupied-there = eqb-true _ _ (p .0);
+        occupied-there = p .0;
       }
 
   pub active-near : (x y z : ℕ) → activeIn axes occupied x y z ≡ true → NearOccupied axes occupied x y z
@@ -77,7 +77,7 @@ module _ (axes : Axes) (occupied : List ℕ) where
       any-in _ _ _ (o .k) (omega arith) (omega (arith, o .in-z))
       (any-in _ _ _ (o .j) (omega arith) (omega (arith, o .in-y))
       (any-in _ _ _ (o .i) (omega arith) (omega (arith, o .in-x))
-      (and-both (eq-eqb _ _ (o .occupied-there))
+      (and-both (o .occupied-there)
       (and-both (within-in _ _ (o .in-x .1) (o .in-x .2))
       (and-both (within-in _ _ (o .in-y .1) (o .in-y .2)) (within-in _ _ (o .in-z .1) (o .in-z .2)))))))
 

@@ -1,5 +1,5 @@
--- How the code finds the active mask: the marks of the occupied mask are spread along x, what came of it along y, and what came of that along z.
--- A list of voxels is a grid in three ways, whose middle axis is x, y or z; one definition spreads along a middle axis, line by line. Assumes nothing.
+-- How the code finds the active mask: the occupied mask is dilated along x, what came of it along y, and what came of that along z.
+-- A list of voxels is a grid in three ways, whose middle axis is x, y or z; one definition dilates along a middle axis, line by line. Assumes nothing.
 use mathlib.Core.Bool.{Bool, cond, _&&_}
 use mathlib.Core.List.{List}
 use Prim.Native.Nat.{ℕ, _+_, _*_, _/_, _%_}
@@ -23,20 +23,20 @@ lineHas mask start stride n k = any (λ j. isMarked mask (placeOn start stride j
 abbrev pub setOn : List ℕ → ℕ → ℕ → ℕ → ℕ → List ℕ → List ℕ
 setOn mask start stride n k l = set l (placeOn start stride k) (cond (lineHas mask start stride n k) 1 0)
 
--- the marks of a line spread
-unfoldable pub lineSpread : ℕ → ℕ → ℕ → List ℕ → List ℕ
-lineSpread start stride n mask = fold (setOn mask start stride n) n 0 mask
+-- a line dilated: each of its places set to that
+unfoldable pub lineDilated : ℕ → ℕ → ℕ → List ℕ → List ℕ
+lineDilated start stride n mask = fold (setOn mask start stride n) n 0 mask
 
 -- the first place of line t along a grid's middle axis
 abbrev pub lineStart : Axes → ℕ → ℕ
 lineStart view t = t / view .width * view .height * view .width + t % view .width
 
-abbrev pub spreadLine : Axes → ℕ → List ℕ → List ℕ
-spreadLine view t mask = lineSpread (lineStart view t) (view .width) (view .height) mask
+abbrev pub dilateLine : Axes → ℕ → List ℕ → List ℕ
+dilateLine view t mask = lineDilated (lineStart view t) (view .width) (view .height) mask
 
--- the marks of a grid spread along its middle axis
-unfoldable pub spreadMiddle : Axes → List ℕ → List ℕ
-spreadMiddle view mask = fold (spreadLine view) (view .depth * view .width) 0 mask
+-- a grid dilated along its middle axis
+unfoldable pub dilateMiddle : Axes → List ℕ → List ℕ
+dilateMiddle view mask = fold (dilateLine view) (view .depth * view .width) 0 mask
 
 -- the same voxels as a grid whose middle axis is x; as they are, it is y; and as one whose middle axis is z
 abbrev pub middleX : Axes → Axes
@@ -46,8 +46,8 @@ abbrev pub middleZ : Axes → Axes
 middleZ axes = record { width = axes .height * axes .width; height = axes .depth; depth = 1 }
 
 -- along x, then y, then z
-unfoldable pub spreadByAxes : Axes → List ℕ → List ℕ
-spreadByAxes axes occupied = spreadMiddle (middleZ axes) (spreadMiddle axes (spreadMiddle (middleX axes) occupied))
+unfoldable pub dilateByAxes : Axes → List ℕ → List ℕ
+dilateByAxes axes occupied = dilateMiddle (middleZ axes) (dilateMiddle axes (dilateMiddle (middleX axes) occupied))
 
 -- A walk along a line keeps the place past the reach of the last mark that it read.
 abbrev pub pastReach : List ℕ → ℕ → ℕ → ℕ → ℕ → ℕ → ℕ

@@ -1,4 +1,4 @@
--- Spreading along x, then y, then z gives the active mask: the lines of a grid do not touch each other, and the box round a voxel is the product of
+-- Dilating along x, then y, then z gives the active mask: the lines of a grid do not touch each other, and the box round a voxel is the product of
 -- what lies within 2 on each axis.
 use mathlib.Core.Path.{_≡_, refl, sym, ap, _∙_}
 use mathlib.Core.Bool.{Bool, true, false, cond, _&&_}
@@ -10,7 +10,6 @@ use native.Mathlib.Nat.{mul-assoc, add-mul, mul-pos, mul-one, zero-mul, mod-lt, 
 use lib.Dec.{eqb}
 use lib.ListN.{length, getD}
 use lib.Seq.{ext-getD}
-use borrow.Author.Tests.{eqb-true, eq-eqb}
 use Rattle.lists.specs.Fold.{fold, place, inside}
 use Rattle.lists.specs.Any.{any, any-same, any-in, any-out}
 use Rattle.grid.specs.declared.Axes.{Axes}
@@ -19,7 +18,7 @@ use Rattle.grid.specs.GridLaws.{index-within, x-of-index, z-of-index, index-of-
 use Rattle.marks.specs.Marks.{isMarked}
 use Rattle.dilate.specs.Active.{withinReach, activeIn, activeOf}
 use Rattle.dilate.specs.ActiveLaws.{NearOccupied, active-near, near-active, active-length, active-value, near-out, near-in}
-use Rattle.dilate.specs.ByAxes.{placeOn, lineHas, lineStart, spreadLine, spreadMiddle, middleX, middleZ, spreadByAxes}
+use Rattle.dilate.specs.ByAxes.{placeOn, lineHas, lineStart, dilateLine, dilateMiddle, middleX, middleZ, dilateByAxes}
 use Rattle.dilate.specs.LineLaws.{alike, line-length, line-elsewhere, line-there}
 
 -- ---- the lines of a grid along its middle axis
@@ -49,7 +48,7 @@ module _ (view : Axes) (pw : 0 < view .width) where
   place-of-voxel r k o h = place-on-line (o * view .width + r) k ∙ rw (first-of-line r o h, last-of-line r o h) refl
 
   other-line : (t : ℕ) (mask : List ℕ) (r c o : ℕ) → r < view .width → c < view .height → t ≢ o * view .width + r
-      → getD (spreadLine view t mask) (indexOf view r c o) 0 ≡ getD mask (indexOf view r c o) 0
+      → getD (dilateLine view t mask) (indexOf view r c o) 0 ≡ getD mask (indexOf view r c o) 0
   other-line t mask r c o hr hc n =
       line-elsewhere (lineStart view t) (view .width) (view .height) mask (indexOf view r c o)
       (λ j hj e.
@@ -61,7 +60,7 @@ module _ (view : Axes) (pw : 0 < view .width) where
       n (sym (div-add-mod' t (view .width)) ∙ rw (← x, ← z) refl))
 
   own-line : (mask : List ℕ) (r c o : ℕ) → r < view .width → c < view .height → indexOf view r c o < length mask
-      → getD (spreadLine view (o * view .width + r) mask) (indexOf view r c o) 0 ≡ cond (middleHas mask r c o) 1 0
+      → getD (dilateLine view (o * view .width + r) mask) (indexOf view r c o) 0 ≡ cond (middleHas mask r c o) 1 0
   unfolding lineHas
   own-line mask r c o hr hc h =
       rw (← place-of-voxel r c o hr)
@@ -70,48 +69,48 @@ module _ (view : Axes) (pw : 0 < view .width) where
       (any-same _ _ (view .height) 0 (λ j p q. rw (place-of-voxel r j o hr) refl)))
 
   lines-before : (k t : ℕ) (mask : List ℕ) (r c o : ℕ) → r < view .width → c < view .height → o * view .width + r < t
-      → getD (fold (spreadLine view) k t mask) (indexOf view r c o) 0 ≡ getD mask (indexOf view r c o) 0
+      → getD (fold (dilateLine view) k t mask) (indexOf view r c o) 0 ≡ getD mask (indexOf view r c o) 0
   unfolding fold
   lines-before zero t mask r c o hr hc h = refl
   lines-before (suc k) t mask r c o hr hc h =
-      lines-before k (t + 1) (spreadLine view t mask) r c o hr hc (omega arith) ∙ other-line t mask r c o hr hc (λ e. omega arith)
+      lines-before k (t + 1) (dilateLine view t mask) r c o hr hc (omega arith) ∙ other-line t mask r c o hr hc (λ e. omega arith)
 
   lines-there : (k t : ℕ) (mask : List ℕ) (r c o : ℕ) → r < view .width → c < view .height → t ≤ o * view .width + r → o * view .width + r < t + k
       → indexOf view r c o < length mask
-      → getD (fold (spreadLine view) k t mask) (indexOf view r c o) 0 ≡ cond (middleHas mask r c o) 1 0
+      → getD (fold (dilateLine view) k t mask) (indexOf view r c o) 0 ≡ cond (middleHas mask r c o) 1 0
   unfolding fold
   lines-there zero t mask r c o hr hc p q h = absurd (omega arith)
   lines-there (suc k) t mask r c o hr hc p q h =
       ⊎-elim
-      (λ e. lines-before k (t + 1) (spreadLine view t mask) r c o hr hc (omega arith) ∙ rw e (own-line mask r c o hr hc h))
+      (λ e. lines-before k (t + 1) (dilateLine view t mask) r c o hr hc (omega arith) ∙ rw e (own-line mask r c o hr hc h))
       (λ e.
-      lines-there k (t + 1) (spreadLine view t mask) r c o hr hc (omega arith) (omega arith)
+      lines-there k (t + 1) (dilateLine view t mask) r c o hr hc (omega arith) (omega arith)
       (rw (line-length (lineStart view t) (view .width) (view .height) mask) h)
       ∙ ap (λ (b : Bool). cond {A = ℕ} b 1 0)
       (any-same _ _ (view .height) 0 (λ j a b. rw (other-line t mask r j o hr (omega arith) (λ x. omega arith)) refl)))
       (eq-or-lt-of-le p)
 
-  lines-length : (k t : ℕ) (mask : List ℕ) → length (fold (spreadLine view) k t mask) ≡ length mask
+  lines-length : (k t : ℕ) (mask : List ℕ) → length (fold (dilateLine view) k t mask) ≡ length mask
   unfolding fold
   lines-length zero t mask = refl
   lines-length (suc k) t mask =
-      lines-length k (t + 1) (spreadLine view t mask) ∙ line-length (lineStart view t) (view .width) (view .height) mask
+      lines-length k (t + 1) (dilateLine view t mask) ∙ line-length (lineStart view t) (view .width) (view .height) mask
 
-  pub middle-length : (mask : List ℕ) → length (spreadMiddle view mask) ≡ length mask
-  unfolding spreadMiddle
+  pub middle-length : (mask : List ℕ) → length (dilateMiddle view mask) ≡ length mask
+  unfolding dilateMiddle
   middle-length mask = lines-length (view .depth * view .width) 0 mask
 
   pub middle-entry : (mask : List ℕ) → voxels view ≡ length mask → (r c o : ℕ) → r < view .width → c < view .height → o < view .depth
-      → getD (spreadMiddle view mask) (indexOf view r c o) 0 ≡ cond (middleHas mask r c o) 1 0
-  unfolding spreadMiddle
+      → getD (dilateMiddle view mask) (indexOf view r c o) 0 ≡ cond (middleHas mask r c o) 1 0
+  unfolding dilateMiddle
   middle-entry mask fits r c o hr hc ho =
       lines-there (view .depth * view .width) 0 mask r c o hr hc (omega arith) (omega (arith, place {a = o} {m = view .depth} {b = r} {n = view .width} ho hr))
       (rw (← fits) (index-within view r c o hr hc ho))
 
   -- along a line whose places are given in another way
   module _ (mask : List ℕ) (fits : voxels view ≡ length mask) (r o : ℕ) (at : ℕ → ℕ) (e : (j : ℕ) → indexOf view r j o ≡ at j) (hr : r < view .width) (ho : o < view .depth) where
-    pub spread-on : (c : ℕ) → c < view .height → isMarked (spreadMiddle view mask) (at c) ≡ any (λ j. isMarked mask (at j) && withinReach j c) (view .height) 0
-    spread-on c hc =
+    pub dilated-on : (c : ℕ) → c < view .height → isMarked (dilateMiddle view mask) (at c) ≡ any (λ j. isMarked mask (at j) && withinReach j c) (view .height) 0
+    dilated-on c hc =
         rw (← e c, middle-entry mask fits r c o hr hc ho) (bit (middleHas mask r c o) ∙ any-same _ _ (view .height) 0 (λ j p q. rw (e j) refl))
       where
         bit : (b : Bool) → eqb (cond {A = ℕ} b 1 0) 1 ≡ b
@@ -119,8 +118,8 @@ module _ (view : Axes) (pw : 0 < view .width) where
         bit false = refl
 
     -- an entry is 0 or 1
-    pub spread-bit : (c : ℕ) → c < view .height → getD (spreadMiddle view mask) (at c) 0 ≡ cond (isMarked (spreadMiddle view mask) (at c)) 1 0
-    spread-bit c hc = rw (← e c, middle-entry mask fits r c o hr hc ho) (bits (middleHas mask r c o))
+    pub dilated-bit : (c : ℕ) → c < view .height → getD (dilateMiddle view mask) (at c) 0 ≡ cond (isMarked (dilateMiddle view mask) (at c)) 1 0
+    dilated-bit c hc = rw (← e c, middle-entry mask fits r c o hr hc ho) (bits (middleHas mask r c o))
       where
         bits : (b : Bool) → cond {A = ℕ} b 1 0 ≡ cond (eqb (cond {A = ℕ} b 1 0) 1) 1 0
         bits true = refl
@@ -134,10 +133,10 @@ fits-middle-z axes e = omega (arith, e, mul-assoc (axes .depth) (axes .height) (
 
 module _ (axes : Axes) (occupied : List ℕ) (pw : 0 < axes .width) (ph : 0 < axes .height) (pd : 0 < axes .depth) (fits : voxels axes ≡ length occupied) where
   abbrev alongX : List ℕ
-  alongX = spreadMiddle (middleX axes) occupied
+  alongX = dilateMiddle (middleX axes) occupied
 
   abbrev alongY : List ℕ
-  alongY = spreadMiddle axes alongX
+  alongY = dilateMiddle axes alongX
 
   pz : 0 < middleZ axes .width
   pz = mul-pos ph pw
@@ -165,22 +164,22 @@ module _ (axes : Axes) (occupied : List ℕ) (pw : 0 < axes .width) (ph : 0 < ax
   marked-x : (x y z : ℕ) → x < axes .width → y < axes .height → z < axes .depth
       → isMarked alongX (indexOf axes x y z) ≡ any (λ i. isMarked occupied (indexOf axes i y z) && withinReach i x) (axes .width) 0
   marked-x x y z hx hy hz =
-      spread-on (middleX axes) (omega arith) occupied fits-x 0 (z * axes .height + y) (λ i. indexOf axes i y z) (λ i. index-x i y z) (omega arith) (place hz hy) x hx
+      dilated-on (middleX axes) (omega arith) occupied fits-x 0 (z * axes .height + y) (λ i. indexOf axes i y z) (λ i. index-x i y z) (omega arith) (place hz hy) x hx
 
   marked-y : (x y z : ℕ) → x < axes .width → y < axes .height → z < axes .depth
       → isMarked alongY (indexOf axes x y z) ≡ any (λ j. isMarked alongX (indexOf axes x j z) && withinReach j y) (axes .height) 0
-  marked-y x y z hx hy hz = spread-on axes pw alongX (fits ∙ sym length-x) x z (λ j. indexOf axes x j z) (λ j. refl) hx hz y hy
+  marked-y x y z hx hy hz = dilated-on axes pw alongX (fits ∙ sym length-x) x z (λ j. indexOf axes x j z) (λ j. refl) hx hz y hy
 
   marked-z : (x y z : ℕ) → x < axes .width → y < axes .height → z < axes .depth
-      → isMarked (spreadByAxes axes occupied) (indexOf axes x y z) ≡ any (λ k. isMarked alongY (indexOf axes x y k) && withinReach k z) (axes .depth) 0
-  unfolding spreadByAxes
+      → isMarked (dilateByAxes axes occupied) (indexOf axes x y z) ≡ any (λ k. isMarked alongY (indexOf axes x y k) && withinReach k z) (axes .depth) 0
+  unfolding dilateByAxes
   marked-z x y z hx hy hz =
-      spread-on (middleZ axes) pz alongY fits-z (y * axes .width + x) 0 (λ k. indexOf axes x y k) (λ k. index-z x y k) (place hy hx) (omega arith) z hz
+      dilated-on (middleZ axes) pz alongY fits-z (y * axes .width + x) 0 (λ k. indexOf axes x y k) (λ k. index-z x y k) (place hy hx) (omega arith) z hz
 
   -- any over the box is any over z of any over y of any over x
-  spread-near : (x y z : ℕ) → x < axes .width → y < axes .height → z < axes .depth
-      → isMarked (spreadByAxes axes occupied) (indexOf axes x y z) ≡ true → NearOccupied axes occupied x y z
-  spread-near x y z hx hy hz e =
+  dilated-near : (x y z : ℕ) → x < axes .width → y < axes .height → z < axes .depth
+      → isMarked (dilateByAxes axes occupied) (indexOf axes x y z) ≡ true → NearOccupied axes occupied x y z
+  dilated-near x y z hx hy hz e =
       let c = any-out _ _ _ (sym (marked-z x y z hx hy hz) ∙ e) in
       let lk : c .0 < axes .depth = omega (arith, c .2) in
       let p = near-out (c .0) z (c .3) in
@@ -197,49 +196,43 @@ module _ (axes : Axes) (occupied : List ℕ) (pw : 0 < axes .width) (ph : 0 < ax
         in-y = (lj, q .1, q .2);
         k = c .0;
         in-z = (lk, p .1, p .2);
-        occupied-there = eqb-true _ _ (r .0);
+        occupied-there = r .0;
       }
 
-  near-spread : (x y z : ℕ) → x < axes .width → y < axes .height → z < axes .depth
-      → NearOccupied axes occupied x y z → isMarked (spreadByAxes axes occupied) (indexOf axes x y z) ≡ true
-  near-spread x y z hx hy hz o =
+  near-dilated : (x y z : ℕ) → x < axes .width → y < axes .height → z < axes .depth
+      → NearOccupied axes occupied x y z → isMarked (dilateByAxes axes occupied) (indexOf axes x y z) ≡ true
+  near-dilated x y z hx hy hz o =
       let a =
       marked-x x (o .j) (o .k) hx (o .in-y .0) (o .in-z .0)
-      ∙ any-in _ _ _ (o .i) (omega arith) (omega (arith, o .in-x)) (near-in _ _ (eq-eqb _ _ (o .occupied-there)) (o .in-x .1) (o .in-x .2))
+      ∙ any-in _ _ _ (o .i) (omega arith) (omega (arith, o .in-x)) (near-in _ _ (o .occupied-there) (o .in-x .1) (o .in-x .2))
       in
       let b = marked-y x y (o .k) hx hy (o .in-z .0) ∙ any-in _ _ _ (o .j) (omega arith) (omega (arith, o .in-y)) (near-in _ _ a (o .in-y .1) (o .in-y .2)) in
       marked-z x y z hx hy hz ∙ any-in _ _ _ (o .k) (omega arith) (omega (arith, o .in-z)) (near-in _ _ b (o .in-z .1) (o .in-z .2))
 
-  pub spread-active : (x y z : ℕ) → x < axes .width → y < axes .height → z < axes .depth
-      → isMarked (spreadByAxes axes occupied) (indexOf axes x y z) ≡ activeIn axes occupied x y z
-  spread-active x y z hx hy hz =
-      alike _ _ (λ e. near-active axes occupied x y z (spread-near x y z hx hy hz e)) (λ e. near-spread x y z hx hy hz (active-near axes occupied x y z e))
+  pub dilated-active : (x y z : ℕ) → x < axes .width → y < axes .height → z < axes .depth
+      → isMarked (dilateByAxes axes occupied) (indexOf axes x y z) ≡ activeIn axes occupied x y z
+  dilated-active x y z hx hy hz =
+      alike _ _ (λ e. near-active axes occupied x y z (dilated-near x y z hx hy hz e)) (λ e. near-dilated x y z hx hy hz (active-near axes occupied x y z e))
 
   entry-bit : (x y z : ℕ) → x < axes .width → y < axes .height → z < axes .depth
-      → getD (spreadByAxes axes occupied) (indexOf axes x y z) 0 ≡ cond (isMarked (spreadByAxes axes occupied) (indexOf axes x y z)) 1 0
-  unfolding spreadByAxes
+      → getD (dilateByAxes axes occupied) (indexOf axes x y z) 0 ≡ cond (isMarked (dilateByAxes axes occupied) (indexOf axes x y z)) 1 0
+  unfolding dilateByAxes
   entry-bit x y z hx hy hz =
-      spread-bit (middleZ axes) pz alongY fits-z (y * axes .width + x) 0 (λ k. indexOf axes x y k) (λ k. index-z x y k) (place hy hx) (omega arith) z hz
+      dilated-bit (middleZ axes) pz alongY fits-z (y * axes .width + x) 0 (λ k. indexOf axes x y k) (λ k. index-z x y k) (place hy hx) (omega arith) z hz
 
-  spread-length : length (spreadByAxes axes occupied) ≡ voxels axes
-  unfolding spreadByAxes
-  spread-length = middle-length (middleZ axes) pz alongY ∙ length-y ∙ sym fits
+  dilated-length : length (dilateByAxes axes occupied) ≡ voxels axes
+  unfolding dilateByAxes
+  dilated-length = middle-length (middleZ axes) pz alongY ∙ length-y ∙ sym fits
 
-  pub spread-mask : spreadByAxes axes occupied ≡ activeOf axes occupied
-  spread-mask =
-      ext-getD 0 _ _ (spread-length ∙ sym (active-length axes occupied))
+  pub dilated-mask : dilateByAxes axes occupied ≡ activeOf axes occupied
+  dilated-mask =
+      ext-getD 0 _ _ (dilated-length ∙ sym (active-length axes occupied))
       (λ i h.
-      let v : i < voxels axes = omega (arith, spread-length) in
+      let v : i < voxels axes = omega (arith, dilated-length) in
       let hx = x-within axes i pw in
       let hy = y-within axes i ph in
       let hz = z-within axes i pw ph v in
-      ap (λ (j : ℕ). getD (spreadByAxes axes occupied) j 0) (sym (index-of-coordinates axes i))
+      ap (λ (j : ℕ). getD (dilateByAxes axes occupied) j 0) (sym (index-of-coordinates axes i))
       ∙ entry-bit (xOf axes i) (yOf axes i) (zOf axes i) hx hy hz
-      ∙ ap (λ (b : Bool). cond {A = ℕ} b 1 0) (spread-active (xOf axes i) (yOf axes i) (zOf axes i) hx hy hz)
+      ∙ ap (λ (b : Bool). cond {A = ℕ} b 1 0) (dilated-active (xOf axes i) (yOf axes i) (zOf axes i) hx hy hz)
       ∙ sym (active-value axes occupied i v))
-
--- a grid without depth has no entry
-pub no-depth : (axes : Axes) (occupied l : List ℕ) → axes .depth ≡ 0 → length l ≡ voxels axes → l ≡ activeOf axes occupied
-no-depth axes occupied l e n =
-    let z : voxels axes ≡ 0 = rw (e, zero-mul (axes .height)) (zero-mul (axes .width)) in
-    ext-getD 0 _ _ (n ∙ sym (active-length axes occupied)) (λ i h. absurd (omega arith))

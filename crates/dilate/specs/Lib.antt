@@ -1,4 +1,4 @@
--- The active mask: what it is, what it means, and how spreading along the axes gives it.
+-- The active mask: what it is, what it means, and how dilating along the axes gives it.
 pub mod Active
 pub mod ActiveLaws
 pub mod ByAxes

@@ -1,4 +1,4 @@
--- A line, spread: its places take what the line has within 2, no other entry changes; and what a walk along it keeps tells what the line has.
+-- A line, dilated: its places take what the line has within 2, no other entry changes; and what a walk along it keeps tells what the line has.
 use mathlib.Core.Path.{_≡_, refl, sym, _∙_}
 use mathlib.Core.Bool.{Bool, true, false, cond, _&&_, and-eq-true-iff, false≢true}
 use mathlib.Core.Logic.{_≢_, ⊎-elim}
@@ -14,7 +14,7 @@ use Rattle.lists.specs.Fold.{fold}
 use Rattle.lists.specs.Any.{any-in, any-out}
 use Rattle.marks.specs.Marks.{isMarked}
 use Rattle.dilate.specs.ActiveLaws.{near-out, near-in}
-use Rattle.dilate.specs.ByAxes.{placeOn, lineHas, lineSpread, pastReach}
+use Rattle.dilate.specs.ByAxes.{placeOn, lineHas, lineDilated, pastReach}
 
 -- ---- entries set one after the other, each at its own place
 
@@ -52,18 +52,18 @@ places-differ start stride i j p h e = omega (arith, suc-mul i stride, mul-le-mu
 pub place-in : (start stride n k : ℕ) {l : ℕ} → start + n * stride < l + stride → k < n → placeOn start stride k < l
 place-in start stride n k p h = omega (arith, suc-mul k stride, mul-le-mul-right stride h)
 
-pub line-length : (start stride n : ℕ) (mask : List ℕ) → length (lineSpread start stride n mask) ≡ length mask
-unfolding lineSpread
+pub line-length : (start stride n : ℕ) (mask : List ℕ) → length (lineDilated start stride n mask) ≡ length mask
+unfolding lineDilated
 line-length start stride n mask = sets-length _ _ n 0 mask
 
 pub line-elsewhere : (start stride n : ℕ) (mask : List ℕ) (i : ℕ) → ((j : ℕ) → j < n → i ≢ placeOn start stride j)
-    → getD (lineSpread start stride n mask) i 0 ≡ getD mask i 0
-unfolding lineSpread
+    → getD (lineDilated start stride n mask) i 0 ≡ getD mask i 0
+unfolding lineDilated
 line-elsewhere start stride n mask i e = sets-elsewhere _ _ n 0 mask i (λ j p q. e j (omega arith))
 
 pub line-there : (start stride n : ℕ) (mask : List ℕ) (k : ℕ) → 0 < stride → k < n → placeOn start stride k < length mask
-    → getD (lineSpread start stride n mask) (placeOn start stride k) 0 ≡ cond (lineHas mask start stride n k) 1 0
-unfolding lineSpread
+    → getD (lineDilated start stride n mask) (placeOn start stride k) 0 ≡ cond (lineHas mask start stride n k) 1 0
+unfolding lineDilated
 line-there start stride n mask k p h q =
     sets-there (placeOn start stride) (λ j. cond (lineHas mask start stride n j) 1 0) (λ i j e. places-differ start stride i j p e) n 0 mask k (omega arith) (omega arith) q
 

@@ -1,7 +1,8 @@
 -- The contract leaves one result, a call is refused by row k exactly when that row holds and none before it, an accepted call has masks that fit its
--- grid, what its entries mean, and a good call is accepted.
+-- grid, its entries say which voxels are occupied and which active, and a good call is accepted.
 use mathlib.Core.Path.{_≡_, refl, sym, ap, _∙_}
 use mathlib.Core.Bool.{true}
+use mathlib.Core.Logic.{_↔_}
 use mathlib.Core.List.{List, [], _∷_}
 use Prim.Native.Nat.{ℕ, _%_, _<_}
 use native.Mathlib.Omega.{arith}
@@ -24,12 +25,12 @@ use Rattle.limits.specs.Limits.{within, outsideV, badAxes, badCorners, badEdges
 use Rattle.limits.specs.Some.{some}
 use Rattle.triangle.specs.Meet.{absentOf}
 use Rattle.triangle.specs.Places.{triangleAt}
-use Rattle.samples.specs.Samples.{targetOf, countOf, sideFrom, sideOf, shareOf, pointOf, cellOn, indexWithin, cellOf, sampleCell}
+use Rattle.samples.specs.Samples.{densityOf, countOf, sideFrom, sideOf, shareOf, pointOf, cellOn, indexWithin, cellOf, sampleCell}
 use Rattle.limits.specs.LimitsLaws.{axes-row, any-of-three}
 use Rattle.names.specs.Passed.{passed}
 use Rattle.marks.specs.Marks.{isMarked, markedCount}
 use Rattle.occupy.specs.Occupied.{sampledIn, touches, occupiedIn, occupiedEntry, occupiedOf}
-use Rattle.occupy.specs.OccupiedLaws.{Sampled, occupied-at, occupied-sampled, sampled-occupied}
+use Rattle.occupy.specs.OccupiedLaws.{Sampled, occupied-at, occupied-exactly}
 use Rattle.dilate.specs.Active.{activeIn, activeEntry, activeOf}
 use Rattle.dilate.specs.ActiveLaws.{NearOccupied, active-at, active-near, near-active}
 use Rattle.masks.specs.declared.Marked.{Marked}
@@ -88,22 +89,29 @@ masks-fitting axes corners points occupied active e =
 
 -- ---- what the entries of an accepted call mean
 
-module _ (axes : Axes) (corners : Corners) (points : List Float) (i : ℕ) (h : i < voxels axes) where
-  -- an occupied voxel has a sample of a present triangle in it, and such a voxel is occupied
-  pub mask-sampled : isMarked (occupiedOf axes corners points) i ≡ true → Sampled axes corners points i
-  mask-sampled e = occupied-sampled axes corners points i (sym (occupied-at axes corners points i h) ∙ e)
+module _ (axes : Axes) (corners : Corners) (points : List Float) (occupied active : List ℕ) (r : Marked) (occupied' active' : List ℕ)
+    (p : MasksFilled axes corners points occupied active r occupied' active') (e : r .refusal ≡ 0) (i : ℕ) (h : i < voxels axes) where
+  accepted : masksRefusal axes corners points occupied active ≡ 0
+  accepted = sym (ap (λ (m : Marked). m .refusal) (p .answer)) ∙ e
 
-  pub sampled-mask : Sampled axes corners points i → isMarked (occupiedOf axes corners points) i ≡ true
-  sampled-mask s = occupied-at axes corners points i h ∙ sampled-occupied axes corners points i s
+  occupied-is : occupied' ≡ occupiedOf axes corners points
+  occupied-is = p .occupied-after ∙ rw accepted (sym (given 0 _ occupied refl))
 
-  -- an active voxel has an occupied one within 2 on every axis, and such a voxel is active
-  pub mask-near : isMarked (activeMaskOf axes corners points) i ≡ true
-      → NearOccupied axes (occupiedOf axes corners points) (xOf axes i) (yOf axes i) (zOf axes i)
-  mask-near e = active-near axes (occupiedOf axes corners points) _ _ _ (sym (active-at axes (occupiedOf axes corners points) i h) ∙ e)
+  active-is : active' ≡ activeOf axes occupied'
+  active-is = p .active-after ∙ rw (accepted, occupied-is) (sym (given 0 _ active refl))
 
-  pub near-mask : NearOccupied axes (occupiedOf axes corners points) (xOf axes i) (yOf axes i) (zOf axes i)
-      → isMarked (activeMaskOf axes corners points) i ≡ true
-  near-mask n = active-at axes (occupiedOf axes corners points) i h ∙ near-active axes (occupiedOf axes corners points) _ _ _ n
+  -- voxel i is occupied exactly when a sample of a present triangle falls into it
+  pub occupied-means : (isMarked occupied' i ≡ true) ↔ Sampled axes corners points i
+  occupied-means =
+      let q = occupied-exactly axes corners points i (masks-fitting axes corners points occupied active accepted .axes-within) h in
+      let o = occupied-at axes corners points i h in
+      (λ m. q .0 (sym o ∙ rw occupied-is at m), λ s. rw occupied-is (o ∙ q .1 s))
+
+  -- and active exactly when some occupied voxel lies within 2 of it on every axis
+  pub active-means : (isMarked active' i ≡ true) ↔ NearOccupied axes occupied' (xOf axes i) (yOf axes i) (zOf axes i)
+  active-means =
+      let a = active-at axes occupied' i h in
+      (λ m. active-near axes occupied' _ _ _ (sym a ∙ rw active-is at m), λ n. rw active-is (a ∙ near-active axes occupied' _ _ _ n))
 
 -- ---- how a call meets its contract
 
@@ -154,5 +162,5 @@ unfolding masksRefusal firstOf badAxes badCorners badEdges outsideV within edges
 q-accepted = refl
 
 pub q-occupied : occupiedOf (axesOf 1 1 1) unitCorners pointsQ ≡ 1 ∷ []
-unfolding occupiedOf occupiedEntry occupiedIn touches sampledIn any tab absentOf triangleAt edgesOf smallestEdgeOf largerOf smallerOf countOf targetOf sideOf sideFrom shareOf pointOf cellOn indexWithin cellOf sampleCell lengthV crossV subV addV scaleV dotV rootOf toward Ieee.sub Ieee.add Ieee.neg Ieee.mul Ieee.div Ieee.le Ieee.lt Ieee.eq Ieee.isNan Ieee.toUnsigned Ieee.ofInt Ieee.round Ieee.sum Ieee.units Ieee.odd Ieee.size Ieee.climb Ieee.span Ieee.ofBits Ieee.ofFields
+unfolding occupiedOf occupiedEntry occupiedIn touches sampledIn any tab absentOf triangleAt edgesOf smallestEdgeOf largerOf smallerOf countOf densityOf sideOf sideFrom shareOf pointOf cellOn indexWithin cellOf sampleCell lengthV crossV subV addV scaleV dotV rootOf toward Ieee.sub Ieee.add Ieee.neg Ieee.mul Ieee.div Ieee.le Ieee.lt Ieee.eq Ieee.isNan Ieee.toUnsigned Ieee.ofInt Ieee.round Ieee.sum Ieee.units Ieee.odd Ieee.size Ieee.climb Ieee.span Ieee.ofBits Ieee.ofFields
 q-occupied = refl

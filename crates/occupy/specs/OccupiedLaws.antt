@@ -1,7 +1,7 @@
--- What occupied means, in both directions: a sample of a present triangle falls into the voxel. And marking sample by sample gives the mask.
+-- A voxel of the grid is occupied exactly when a sample of a present triangle falls into it. And marking sample by sample gives the mask.
 use mathlib.Core.Path.{_≡_, refl, sym, _∙_}
 use mathlib.Core.Bool.{Bool, true, false, cond, not, _&&_, _||_, and-eq-true-iff}
-use mathlib.Core.Logic.{_⊎_, inl, inr}
+use mathlib.Core.Logic.{_↔_, _⊎_, inl, inr}
 use mathlib.Core.List.{List}
 use Prim.Native.Nat.{ℕ, zero, suc, _+_, _-_, _*_, _/_, _<_}
 use native.Mathlib.Omega.{arith}
@@ -17,29 +17,31 @@ use Rattle.vectors.specs.declared.Vec3.{Vec3}
 use Rattle.vectors.specs.declared.Triangle.{Triangle}
 use Rattle.grid.specs.declared.Axes.{Axes}
 use Rattle.grid.specs.declared.Corners.{Corners}
-use Rattle.grid.specs.Grid.{voxels, edgesOf, smallestEdgeOf}
+use Rattle.grid.specs.Grid.{voxels, AxesWithin, edgesOf, smallestEdgeOf}
 use Rattle.triangle.specs.Meet.{absentOf}
 use Rattle.triangle.specs.Places.{triangleAt}
 use Rattle.samples.specs.Samples.{sampleCount, sideOf, sampleCell}
+use Rattle.samples.specs.FallsLaws.{FallsInto, sample-falls}
 use Rattle.marks.specs.Marks.{isMarked}
 use Rattle.occupy.specs.Occupied.{sampledIn, touches, occupiedIn, occupiedEntry, occupiedOf}
 use Rattle.occupy.specs.Marking.{unmarked, markSample, markRow, markRows, markTriangle, markPlace, markAll}
 
 -- ---- what it means
 
--- Sample (iu, iv) of the triangle at place k, which is not absent, falls into voxel i
+-- n: how many samples a side the triangle at place k has
+abbrev pub sideAt : Axes → Corners → List Float → ℕ → ℕ
+sideAt axes corners points k = sideOf (sampleCount (triangleAt points k) (smallestEdgeOf (edgesOf corners axes)))
+
+-- The triangle at place k is not absent, and its sample (iu, iv), iu < n and iv < n − iu, falls into voxel i
 pub record Sampled (axes : Axes) (corners : Corners) (points : List Float) (i : ℕ) : Type 0 where
   pub k : ℕ
   pub in-list : k < length points / 9
   pub present : absentOf (triangleAt points k) ≡ false
   pub iu : ℕ
-  pub first : iu < sideOf (sampleCount (triangleAt points k) (smallestEdgeOf (edgesOf corners axes)))
+  pub first : iu < sideAt axes corners points k
   pub iv : ℕ
-  pub second : iv < sideOf (sampleCount (triangleAt points k) (smallestEdgeOf (edgesOf corners axes))) - iu
-  pub falls
-      : sampleCell axes (corners .min) (edgesOf corners axes) (triangleAt points k)
-      (sideOf (sampleCount (triangleAt points k) (smallestEdgeOf (edgesOf corners axes)))) iu iv
-      ≡ i
+  pub second : iv < sideAt axes corners points k - iu
+  pub falls : FallsInto axes (corners .min) (edgesOf corners axes) (triangleAt points k) (sideAt axes corners points k) iu iv i
 
 -- its nine numbers stand in the list
 pub points-within : (points : List Float) (k : ℕ) → k < length points / 9 → k * 9 + 8 < length points
@@ -48,8 +50,8 @@ points-within points k h = omega arith
 not-in : (b : Bool) → b ≡ false → not b ≡ true
 not-in b e = rw e refl
 
-module _ (axes : Axes) (corners : Corners) (points : List Float) (i : ℕ) where
-  pub occupied-sampled : occupiedIn axes corners points i ≡ true → Sampled axes corners points i
+module _ (axes : Axes) (corners : Corners) (points : List Float) (i : ℕ) (w : AxesWithin axes) (h : i < voxels axes) where
+  occupied-sampled : occupiedIn axes corners points i ≡ true → Sampled axes corners points i
   unfolding occupiedIn touches sampledIn
   occupied-sampled e =
       let a = any-out _ _ _ e in
@@ -64,18 +66,22 @@ module _ (axes : Axes) (corners : Corners) (points : List Float) (i : ℕ) where
         first = omega (arith, b .2);
         iv = c .0;
         second = omega (arith, c .2);
-        falls = eqb-true _ _ (c .3);
+        falls = sample-falls axes _ _ _ _ _ _ i w h .0 (eqb-true _ _ (c .3));
       }
 
-  pub sampled-occupied : Sampled axes corners points i → occupiedIn axes corners points i ≡ true
+  sampled-occupied : Sampled axes corners points i → occupiedIn axes corners points i ≡ true
   unfolding occupiedIn touches sampledIn
   sampled-occupied s =
       any-in _ _ _ (s .k) (omega arith) (omega (arith, s .in-list))
       (and-eq-true-iff _ _ .1 (
         not-in _ (s .present),
         any-in _ _ _ (s .iu) (omega arith) (omega (arith, s .first))
-            (any-in _ _ _ (s .iv) (omega arith) (omega (arith, s .second)) (eq-eqb _ _ (s .falls))),
+            (any-in _ _ _ (s .iv) (omega arith) (omega (arith, s .second)) (eq-eqb _ _ (sample-falls axes _ _ _ _ _ _ i w h .1 (s .falls)))),
       ))
+
+  -- voxel i is occupied exactly when a sample of a present triangle falls into it
+  pub occupied-exactly : (occupiedIn axes corners points i ≡ true) ↔ Sampled axes corners points i
+  occupied-exactly = (occupied-sampled, sampled-occupied)
 
 -- the mask: an entry for each voxel, 1 where it is occupied and else 0
 module _ (axes : Axes) (corners : Corners) (points : List Float) where

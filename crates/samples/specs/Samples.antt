@@ -16,11 +16,17 @@ use Rattle.grid.specs.Grid.{voxels, indexOf, floatOf}
 
 -- ---- how many
 
--- ((0.5·length of the cross) / (e·e))·2, ceiling, where e is the smallest edge of a voxel
-unfoldable pub targetOf : Triangle → Float → Float
-targetOf t e =
-    let area = Ieee.mul binary32 half32 (lengthV (crossV (subV (t .p1) (t .p0)) (subV (t .p2) (t .p0)))) in
-    ceilingOf (Ieee.mul binary32 (Ieee.div binary32 area (Ieee.mul binary32 e e)) two32)
+-- 0.5·length of the cross
+abbrev pub areaOf : Triangle → Float
+areaOf t = Ieee.mul binary32 half32 (lengthV (crossV (subV (t .p1) (t .p0)) (subV (t .p2) (t .p0))))
+
+-- (area / (e·e))·2, where e is the smallest edge of a voxel
+unfoldable pub densityOf : Triangle → Float → Float
+densityOf t e = Ieee.mul binary32 (Ieee.div binary32 (areaOf t) (Ieee.mul binary32 e e)) two32
+
+-- its ceiling
+abbrev pub targetOf : Triangle → Float → Float
+targetOf t e = ceilingOf (densityOf t e)
 
 -- "clamped to 1..4096"
 abbrev pub mostSamples : ℕ
@@ -52,9 +58,20 @@ sideOf s = sideFrom s s 0
 unfoldable pub shareOf : ℕ → ℕ → Float
 shareOf i n = Ieee.div binary32 (Ieee.add binary32 (floatOf i) half32) (floatOf n)
 
+-- (1 − u) − v
+abbrev pub restOf : Float → Float → Float
+restOf u v = Ieee.sub binary32 (Ieee.sub binary32 one32 u) v
+
 -- (p0·w + p1·u) + p2·v
 unfoldable pub pointOf : Triangle → Float → Float → Float → Vec3
 pointOf t u v w = addV (addV (scaleV (t .p0) w) (scaleV (t .p1) u)) (scaleV (t .p2) v)
+
+-- the third weight of sample (iu, iv) of n a side, and where the sample lies
+abbrev pub sampleRest : ℕ → ℕ → ℕ → Float
+sampleRest n iu iv = restOf (shareOf iu n) (shareOf iv n)
+
+abbrev pub samplePoint : Triangle → ℕ → ℕ → ℕ → Vec3
+samplePoint t n iu iv = pointOf t (shareOf iu n) (shareOf iv n) (sampleRest n iu iv)
 
 -- ---- into which voxel
 
@@ -67,17 +84,17 @@ unfoldable pub indexWithin : Axes → ℕ → ℕ → ℕ → ℕ
 indexWithin axes x y z =
     cond (leb (axes .width) x) (voxels axes) (cond (leb (axes .height) y) (voxels axes) (cond (leb (axes .depth) z) (voxels axes) (indexOf axes x y z)))
 
--- (p − min) / edge by component, floored
+-- (p − min) / edge, on one axis
+abbrev pub edgesAbove : Float → Float → Float → Float
+edgesAbove low edge p = Ieee.div binary32 (Ieee.sub binary32 p low) edge
+
+-- that by component, floored
 unfoldable pub cellOf : Axes → Vec3 → Vec3 → Vec3 → ℕ
 cellOf axes low edges p =
-    indexWithin axes (cellOn (Ieee.div binary32 (Ieee.sub binary32 (p .x) (low .x)) (edges .x)) (axes .width))
-    (cellOn (Ieee.div binary32 (Ieee.sub binary32 (p .y) (low .y)) (edges .y)) (axes .height))
-    (cellOn (Ieee.div binary32 (Ieee.sub binary32 (p .z) (low .z)) (edges .z)) (axes .depth))
+    indexWithin axes (cellOn (edgesAbove (low .x) (edges .x) (p .x)) (axes .width))
+    (cellOn (edgesAbove (low .y) (edges .y) (p .y)) (axes .height))
+    (cellOn (edgesAbove (low .z) (edges .z) (p .z)) (axes .depth))
 
 -- the voxel into which sample (iu, iv) of n a side falls, or the number of voxels where it is skipped or falls outside the grid
 unfoldable pub sampleCell : Axes → Vec3 → Vec3 → Triangle → ℕ → ℕ → ℕ → ℕ
-sampleCell axes low edges t n iu iv =
-    let u = shareOf iu n in
-    let v = shareOf iv n in
-    let w = Ieee.sub binary32 (Ieee.sub binary32 one32 u) v in
-    cond (Ieee.lt w zero32) (voxels axes) (cellOf axes low edges (pointOf t u v w))
+sampleCell axes low edges t n iu iv = cond (Ieee.lt (sampleRest n iu iv) zero32) (voxels axes) (cellOf axes low edges (samplePoint t n iu iv))

@@ -1,16 +1,15 @@
--- What the definitions mean: the count lies in 1..4096, the side is the least whole number whose square is at least the count, and a cell on an axis is
--- the floor of its number.
+-- What the definitions mean: the count lies in 1..4096, the side is the least whole number whose square is at least the count, and a sample's cell is at
+-- most the number of voxels. (That the count is a ceiling stands in CountLaws, that a cell is a floor in FallsLaws.)
 use mathlib.Core.Path.{_≡_, refl, ap}
 use mathlib.Core.Bool.{Bool, true, false, cond}
 use mathlib.Core.Logic.{_⊎_, inl, inr, ⊎-elim}
-use Prim.Native.Nat.{ℕ, zero, suc, _+_, _-_, _*_, _/_, _^_, _≤_, _<_, min}
+use Prim.Native.Nat.{ℕ, zero, suc, _+_, _*_, _≤_, _<_}
 use native.Mathlib.Omega.{arith}
-use native.Mathlib.Nat.{mul-le-mul, eq-or-lt-of-le, le-of-lt, div-mul-le-self, div-lt-iff-lt-mul, le-div-iff-mul-le}
+use native.Mathlib.Nat.{mul-le-mul, eq-or-lt-of-le, le-of-lt}
 use lib.Dec.{ltb, leb}
-use lib.IntN.{ℤ, pos}
+use lib.IntN.{pos}
 use lib.Ieee as Ieee
-use lib.Ieee.{Float, fin, binary32, ofBits, ofFields, odd, up, down, toUnsigned}
-use lib.Ieee.Positive.{den-pos}
+use lib.Ieee.{Float, fin, binary32, ofBits, ofFields, odd, toUnsigned}
 use borrow.Author.Tests.{ltb-true, ltb-false, leb-false}
 use Rattle.names.specs.Bits.{zero32, half32, one32}
 use Rattle.floats.specs.Root.{rootOf}
@@ -21,7 +20,7 @@ use Rattle.vectors.specs.Vectors.{vec, addV, scaleV, subV, dotV, crossV, length
 use Rattle.grid.specs.declared.Axes.{Axes}
 use Rattle.grid.specs.Grid.{voxels, indexOf}
 use Rattle.grid.specs.GridLaws.{index-within}
-use Rattle.samples.specs.Samples.{targetOf, mostSamples, mostTarget, countOf, sampleCount, sideFrom, sideOf, shareOf, pointOf, cellOn, indexWithin, cellOf, sampleCell}
+use Rattle.samples.specs.Samples.{densityOf, mostSamples, mostTarget, countOf, sampleCount, sideFrom, sideOf, shareOf, pointOf, cellOn, indexWithin, cellOf, sampleCell}
 use Rattle.samples.specs.CastLaws.{cast-least, cast-most}
 
 -- ---- the least side
@@ -96,32 +95,6 @@ side-most x = side-least (countOf x) 64 (omega (arith, samples-most x))
 
 -- ---- the cell
 
--- a cell on the axis is the floor: k ≤ f < k + 1, where f is m·up / down
-pub cell-floor : (m : ℕ) (e : ℤ) (n : ℕ) → n < 2 ^ 64 → cellOn (fin false m e) n < n
-    → (cellOn (fin false m e) n * down e ≤ m * up e) × (m * up e < (cellOn (fin false m e) n + 1) * down e)
-unfolding cellOn toUnsigned
-cell-floor m e n h l = go (Ieee.le zero32 (fin false m e)) l
-  where
-    go : (b : Bool) → cond b (min (min (m * up e / down e) (2 ^ 64 - 1)) n) n < n
-        → (cond b (min (min (m * up e / down e) (2 ^ 64 - 1)) n) n * down e ≤ m * up e)
-        × (m * up e < (cond b (min (min (m * up e / down e) (2 ^ 64 - 1)) n) n + 1) * down e)
-    go true k =
-        let q : min (min (m * up e / down e) (2 ^ 64 - 1)) n ≡ m * up e / down e = omega arith in
-        rw q (div-mul-le-self (m * up e) (down e), div-lt-iff-lt-mul (den-pos (fin false m e)) .0 (omega arith))
-    go false k = absurd (omega arith)
-
--- and a number that has no cell on the axis, and is not below 0, is n or more
-pub cell-on-past : (m : ℕ) (e : ℤ) (n : ℕ) → n < 2 ^ 64 → Ieee.le zero32 (fin false m e) ≡ true → cellOn (fin false m e) n ≡ n → n * down e ≤ m * up e
-unfolding cellOn toUnsigned
-cell-on-past m e n h l c =
-    let k : min (min (m * up e / down e) (2 ^ 64 - 1)) n ≡ n = rw l at c in
-    le-div-iff-mul-le (den-pos (fin false m e)) .0 (omega arith)
-
--- what falls below 0 is outside
-pub cell-on-below : (f : Float) (n : ℕ) → Ieee.le zero32 f ≡ false → cellOn f n ≡ n
-unfolding cellOn
-cell-on-below f n e = rw e refl
-
 -- −0 is cell 0
 pub cell-of-minus-zero : (n : ℕ) → cellOn (fin true 0 (pos 0)) (suc n) ≡ 0
 unfolding cellOn ofBits ofFields odd Ieee.le Ieee.lt Ieee.eq toUnsigned
@@ -174,7 +147,7 @@ abbrev triangleQ : Triangle
 triangleQ = record { p0 = vec zero32 zero32 zero32; p1 = vec one32 zero32 zero32; p2 = vec zero32 one32 zero32 }
 
 pub q-count : sampleCount triangleQ one32 ≡ 1
-unfolding countOf targetOf lengthV crossV subV dotV rootOf toward Ieee.add Ieee.sub Ieee.neg Ieee.mul Ieee.div Ieee.lt Ieee.round Ieee.sum Ieee.units odd Ieee.size Ieee.climb Ieee.span ofBits ofFields
+unfolding countOf densityOf lengthV crossV subV dotV rootOf toward Ieee.add Ieee.sub Ieee.neg Ieee.mul Ieee.div Ieee.lt Ieee.round Ieee.sum Ieee.units odd Ieee.size Ieee.climb Ieee.span ofBits ofFields
 q-count = refl
 
 -- its weights are .5, .5 and 0, so that it is not skipped

@@ -1,8 +1,9 @@
 // How many samples a triangle has, where they lie, and into which voxel each falls.
 ghost use mathlib.Core.Path.{_≡_};
 ghost use Prim.Native.Nat.{_<_, _≤_, min};
+ghost use Rattle.floats.specs.Whole.{ceilingOf};
 ghost use Rattle.grid.specs.Grid.{AxesWithin};
-ghost use Rattle.samples.specs.Samples.{targetOf, countOf, sampleCount, sideOf, shareOf, pointOf, cellOn, indexWithin, cellOf, sampleCell};
+ghost use Rattle.samples.specs.Samples.{densityOf, countOf, sampleCount, sideOf, shareOf, restOf, pointOf, cellOn, indexWithin, cellOf, sampleCell};
 use grid::Axes;
 use vectors::Triangle;
 use vectors::Vec3;
@@ -18,16 +19,23 @@ const FAR: f32 = 4294967296.0;
 pub fn sample_count(t: Triangle, e: f32) -> usize
     ensures { λ r. ⌜ r ≡ sampleCount t e ⌝ }
 {
-    count(target(t, e))
+    count(target(density(t, e)))
 }
 
-// Area over the edge squared, times 2, ceiling.
-fn target(t: Triangle, e: f32) -> f32
-    ensures { λ r. ⌜ r ≡ targetOf t e ⌝ }
+// Area over the edge squared, times 2.
+fn density(t: Triangle, e: f32) -> f32
+    ensures { λ r. ⌜ r ≡ densityOf t e ⌝ }
 {
     let cross = vectors::cross(vectors::sub(t.p1, t.p0), vectors::sub(t.p2, t.p0));
     let area = 0.5 * vectors::length(cross);
-    floats::ceiling(area / (e * e) * 2.0)
+    area / (e * e) * 2.0
+}
+
+// That, raised to a whole number.
+fn target(density: f32) -> f32
+    ensures { λ r. ⌜ r ≡ ceilingOf density ⌝ }
+{
+    floats::ceiling(density)
 }
 
 // A number clamped to 1..4096, as a whole number.
@@ -70,7 +78,7 @@ pub fn sample_cell(
 {
     let u = share(iu, n);
     let v = share(iv, n);
-    let w = 1.0 - u - v;
+    let w = rest(u, v);
     if w < 0.0 {
         return grid::inner::voxel_count(axes);
     }
@@ -82,6 +90,13 @@ fn share(i: usize, n: usize) -> f32
     ensures { λ r. ⌜ r ≡ shareOf i n ⌝ }
 {
     (grid::inner::float(i) + 0.5) / grid::inner::float(n)
+}
+
+// What two weights leave to the third.
+fn rest(u: f32, v: f32) -> f32
+    ensures { λ r. ⌜ r ≡ restOf u v ⌝ }
+{
+    1.0 - u - v
 }
 
 fn point(t: Triangle, u: f32, v: f32, w: f32) -> Vec3
@@ -118,7 +133,7 @@ fn index_within(axes: Axes, x: usize, y: usize, z: usize) -> usize
     if axes.depth <= z {
         return n;
     }
-    (z * axes.height + y) * axes.width + x
+    grid::inner::index(axes, x, y, z)
 }
 
 // The floored cell on an axis of n, or n where that lies outside.

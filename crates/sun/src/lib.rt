@@ -213,7 +213,7 @@ fn figure(
     requires { ⌜ i < voxels axes ⌝ }
     ensures { λ r. ⌜ r ≡ figureOf axes low edges l ahead (sceneOf (now (points .entry)) (now (uses .entry)) (now (kinds .entry)) (now (numbers .entry))) (now (active .entry)) i ⌝ }
 {
-    if active[i] == 1 {
+    if marks::inner::is_marked(active, i) {
         let row = i / axes.width;
         let centre = grid::inner::centre(
             low,

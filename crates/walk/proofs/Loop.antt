@@ -1,13 +1,14 @@
 -- The loop's invariant: with r rays fired and voxel i next, the whole walk is the rest of it, from the volume as it is, with r rays more. And how
 -- each way through the loop keeps it or ends it, by the walk's own steps.
 use mathlib.Core.Path.{_≡_, refl, sym, ap, _∙_}
+use mathlib.Core.Bool.{true, false}
 use mathlib.Core.List.{List}
 use Prim.Native.Nat.{ℕ, _+_, _-_, _≤_, _<_}
 use native.Mathlib.Omega.{arith}
 use native.Mathlib.Nat.{sub-zero, zero-add}
-use borrow.Author.Tests.{eq-eqb, ne-eqb}
-use lib.ListN.{length, getD}
+use lib.ListN.{length}
 use lib.Ieee.{Float}
+use Rattle.marks.specs.Marks.{isMarked}
 use Rattle.spread.specs.Spread.{Walked, walked, more, walk}
 use Rattle.spread.specs.Walks.{so-far-stop, so-far-end, so-far-skip, so-far-take}
 use Rattle.spread.specs.Contents.{length-replaced}
@@ -51,15 +52,15 @@ module _ {b : BakeInput} {v₀ d₀ : List Float} {p₀ : List ℕ} {progress al
       }
 
   module _ {v d : List Float} {p : List ℕ} {i r : ℕ} (s : SoFar b v₀ d₀ p₀ progress allowance v d p i r) where
-    pub stops : i < length (b .active) → getD (b .active) i 0 ≡ 1 → allowance - r < bakeCost b
+    pub stops : i < length (b .active) → isMarked (b .active) i ≡ true → allowance - r < bakeCost b
         → Reports (walk (bakeOf b) (length (b .active) - progress) progress allowance v₀) (record { progress = i; rays = r }) v d₀ d p₀ p
-    stops h t f = reports (so-far-stop (bakeOf b) i r allowance (length (b .active)) v (s .goes) h (eq-eqb _ _ t) f) (s .hits)
+    stops h t f = reports (so-far-stop (bakeOf b) i r allowance (length (b .active)) v (s .goes) h t f) (s .hits)
 
     pub ends : length (b .active) ≤ i
         → Reports (walk (bakeOf b) (length (b .active) - progress) progress allowance v₀) (record { progress = i; rays = r }) v d₀ d p₀ p
     ends h = reports (so-far-end (bakeOf b) i r allowance (length (b .active)) v (s .goes) h) (s .hits)
 
-    pub skips : i < length (b .active) → (getD (b .active) i 0 ≡ 1 → ⊥) → SoFar b v₀ d₀ p₀ progress allowance v d p (i + 1) r
+    pub skips : i < length (b .active) → isMarked (b .active) i ≡ false → SoFar b v₀ d₀ p₀ progress allowance v d p (i + 1) r
     skips h t =
         record {
           before = omega arith;
@@ -68,7 +69,7 @@ module _ {b : BakeInput} {v₀ d₀ : List Float} {p₀ : List ℕ} {progress al
           distances = s .distances;
           places = s .places;
           hits = s .hits;
-          goes = so-far-skip (bakeOf b) i r allowance (length (b .active)) v (s .goes) h (ne-eqb _ _ t);
+          goes = so-far-skip (bakeOf b) i r allowance (length (b .active)) v (s .goes) h t;
         }
 
     -- voxel i may be taken
@@ -94,7 +95,7 @@ module _ {b : BakeInput} {v₀ d₀ : List Float} {p₀ : List ℕ} {progress al
     pub fits-rays : {c : ℕ} {v' : List Float} → Taken (gatherInput b) i c v v' → bakeCost b ≤ allowance - r → r + c ≤ allowance
     fits-rays t h = omega (arith, t .rays, cost-most (gatherInput b) i, s .within)
 
-    pub takes : {c : ℕ} {v' d' : List Float} {p' : List ℕ} → Walkable b (length v₀) progress → i < length (b .active) → getD (b .active) i 0 ≡ 1
+    pub takes : {c : ℕ} {v' d' : List Float} {p' : List ℕ} → Walkable b (length v₀) progress → i < length (b .active) → isMarked (b .active) i ≡ true
         → bakeCost b ≤ allowance - r
         → Taken (gatherInput b) i c v v'
         → length d' ≡ length d
@@ -111,6 +112,6 @@ module _ {b : BakeInput} {v₀ d₀ : List Float} {p₀ : List ℕ} {progress al
           places = y ∙ s .places;
           hits = record { distances = λ z. absurd (omega arith); places = λ z. absurd (omega arith) };
           goes =
-              so-far-take (bakeOf b) i r allowance (length (b .active)) v (s .goes) h (eq-eqb _ _ t) g
+              so-far-take (bakeOf b) i r allowance (length (b .active)) v (s .goes) h t g
               ∙ rw (k .rays, k .volume) refl;
         }

@@ -55,7 +55,7 @@ pub fn walk(
     while i < active.len() {
         let at = i;
         i += 1;
-        if active[at] == 1 {
+        if marks::inner::is_marked(active, at) {
             if allowance - rays < cost {
                 return Reached { progress: at, rays };
             }

@@ -17,7 +17,7 @@ dilate-requires : tie.Need-dilate-requires
 dilate-requires c κs =
     let f = masks-fitting _ _ _ _ _ (sym (c .before .before .before .before .before .before .before .masks-refusal .ensures) ∙ c .before .before .before .before .before .before .if1 .taken) in
     let k = c .before .before .before .before .occupy .kept .1 .1 .1 .0 ∙ f .occupied-fits in
-    (f .axes-within .width, f .axes-within .height, sym k, f .active-fits ∙ sym k)
+    (f .axes-within .width, f .axes-within .height, f .axes-within .depth, sym k, f .active-fits ∙ sym k)
 
 count-requires : tie.Need-count-requires
 count-requires c κs = search needs

@@ -1,14 +1,14 @@
 -- `sun::figure` meets its contract: an active voxel's ray is the definition's, operation for operation, and any other voxel sees 1.0.
 use native.Mathlib.Omega.{arith}
-use borrow.Author.Tests.{eq-eqb, ne-eqb}
+use mathlib.Core.Path.{sym, _∙_}
 use Rattle.grid.specs.GridLaws.{x-within, y-within, z-within}
 use Rattle.sun.specs.Sun.{figureOf}
 use borrow.Author.Needs.{needs}
 use Rattle.sun.proofs.figure.Statement.{statement}
 use Rattle.sun.proofs.figure.Tie as tie
 
-shared-slice-read-if1 : tie.Need-shared-slice-read-if1
-shared-slice-read-if1 c = omega arith
+is-marked-requires : tie.Need-is-marked-requires
+is-marked-requires c κs = omega arith
 
 div-row : tie.Need-div-row
 div-row c = search needs
@@ -48,18 +48,19 @@ unfolding figureOf
 returns c =
     let t = c .before .before .before .before in
     let f = t .before .before .before in
-    rw (eq-eqb _ 1 (c .before .before .before .before .before .before .before .before .before .before .before .before .before .if1 .taken), ← f .before .centre .ensures, ← f .ray-from .ensures)
+    let m = f .before .before .before .before .before .before in
+    rw (sym (m .before .is-marked .ensures) ∙ m .if1 .taken, ← f .before .centre .ensures, ← f .ray-from .ensures)
     (t .transmittance .ensures)
 
 returns-2 : tie.Need-returns-2
 unfolding figureOf
-returns-2 c = rw (ne-eqb _ 1 (c .if1 .left))
+returns-2 c = rw (sym (c .before .is-marked .ensures) ∙ c .if1 .left)
 
 pub figure-spec : {M : Type 1} → statement M
 figure-spec =
     tie.close
     (tie.spec
-    shared-slice-read-if1
+    is-marked-requires
     div-row
     rem-centre
     rem-centre-2

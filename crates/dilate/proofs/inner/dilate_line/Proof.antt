@@ -1,4 +1,4 @@
--- `dilate::inner::spread_line` gives the definition's fold: what is left of the places, set in the mask so far, is the whole; the places from k on are
+-- `dilate::inner::dilate_line` gives the definition's fold: what is left of the places, set in the mask so far, is the whole; the places from k on are
 -- still as they were; and past is where the marks read so far reach. Assumes nothing.
 use mathlib.Core.Path.{_≡_, refl, sym, ap, _∙_}
 use mathlib.Core.Bool.{Bool, cond}
@@ -8,10 +8,10 @@ use native.Mathlib.Nat.{sub-zero, le-mul-of-pos-right}
 use lib.ListN.{length, getD, length-set}
 use lib.Seq.{getD-set-other}
 use Rattle.lists.specs.Fold.{fold, fold-step, fold-end}
-use Rattle.dilate.specs.ByAxes.{placeOn, setOn, lineHas, lineSpread}
+use Rattle.dilate.specs.ByAxes.{placeOn, setOn, lineHas, lineDilated}
 use Rattle.dilate.specs.LineLaws.{ReachKept, reached-none, reached-next, reached-in, reached-has, place-in, places-differ}
-use Rattle.dilate.proofs.inner.spread_line.Statement.{statement}
-use Rattle.dilate.proofs.inner.spread_line.Tie as tie
+use Rattle.dilate.proofs.inner.dilate_line.Statement.{statement}
+use Rattle.dilate.proofs.inner.dilate_line.Tie as tie
 
 abbrev Inv-loop : tie.InvT-loop
 Inv-loop mask₀ start stride n first past₀ k₀ mask past k =
@@ -19,7 +19,7 @@ Inv-loop mask₀ start stride n first past₀ k₀ mask past k =
     × (length mask ≡ length mask₀)
     × ReachKept mask₀ start stride n (k + 2) past
     × ((j : ℕ) → k ≤ j → getD mask (placeOn start stride j) 0 ≡ getD mask₀ (placeOn start stride j) 0)
-    × (lineSpread start stride n mask₀ ≡ fold (setOn mask₀ start stride n) (n - k) k mask)
+    × (lineDilated start stride n mask₀ ≡ fold (setOn mask₀ start stride n) (n - k) k mask)
 
 abbrev μ-loop : tie.MeasureT-loop
 μ-loop mask₀ start stride n first past₀ k₀ mask past k = n - k
@@ -31,7 +31,7 @@ past-reach-requires-2 : tie.Need-past-reach-requires-2 Inv-loop μ-loop
 past-reach-requires-2 c κs = c .before .before .before .before .pre
 
 loop-holds : tie.Need-loop-holds Inv-loop μ-loop
-unfolding lineSpread
+unfolding lineDilated
 loop-holds c =
     let a = c .before .before .before .before .before .args in
     let r : ReachKept (a .mask .now) (a .start) (a .stride) (a .n) 1 (c .before .before .past-reach .result) =
@@ -112,8 +112,8 @@ returns c =
     let l = c .before .loop in
     sym (l .inv .4 ∙ fold-end _ (l .k) (c .before .before .before .before .before .before .before .args .n) _ (omega arith))
 
-pub spread-line-spec : {M : Type 1} → statement M
-spread-line-spec =
+pub dilate-line-spec : {M : Type 1} → statement M
+dilate-line-spec =
     tie.close
     (tie.spec
     Inv-loop
