@@ -1,6 +1,8 @@
--- The public bake: what a call comes to, that its contract leaves one answer, which wrong bakes it shuts out, and that calls handed on are a run.
+-- The public bake: what a call comes to, what is demanded of successive calls, that its contract leaves one answer, which wrong bakes it shuts out, and
+-- that results of calls do what is demanded.
 pub mod Baked
+pub mod Results
 pub mod BakedLaws
 pub mod ShutOut
 pub mod GoesOn
-pub mod Successive
+pub mod ResultsLaws
