@@ -17,7 +17,6 @@ use Rattle.intake.specs.IntakeLaws.{fits, none-refused}
 use Rattle.demand.specs.Bake.{gatherInput, bakeOf, bakeCall}
 use Rattle.demand.specs.Calls.{answers-refusal}
 use Rattle.demand.specs.Demanded.{bake-demand}
-use Rattle.bake.specs.declared.BakeAnswer.{BakeAnswer}
 use Rattle.bake.specs.Baked.{Baked}
 use Rattle.bake.specs.Results.{Result, handedOn, lending, Successive, leftBy, allowancesOf, refusalsOf, reportedBy, OneCall, EachCall, DemandOfResults}
 use Rattle.bake.specs.GoesOn.{never-refused}
