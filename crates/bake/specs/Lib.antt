@@ -1,7 +1,9 @@
--- The public bake: what a call comes to, that its contract leaves one answer, which wrong bakes it shuts out, that calls handed on are a run, and that its rays' test never departs.
+-- The public bake: what a call comes to, what is demanded of successive calls, that its contract leaves one answer, which wrong bakes it shuts out, that
+-- its rays' test never departs, and that results of calls do what is demanded.
 pub mod Baked
+pub mod Results
 pub mod BakedLaws
 pub mod ShutOut
 pub mod GoesOn
 pub mod Undeparted
-pub mod Successive
+pub mod ResultsLaws

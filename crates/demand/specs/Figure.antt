@@ -21,7 +21,7 @@ use Rattle.floats.specs.Choice.{largerOf, smallerOf}
 use Rattle.scan.specs.Nearest.{nearestOf, nearestTo}
 use Rattle.harmonics.specs.Harmonics.{addedTo, irradianceOf, raisedOf, raisedV, flooredOf, luminanceOf, shortfallOf, blendedEach, blendedV}
 use Rattle.gather.specs.Gather.{settingOf, incomingBy, gatheredAlong, gatheringOf, voxelOf, finishedOf, sixteenOf, gatheredOf}
-use Rattle.gather.specs.GatherLaws.{cost-of-nothing}
+use Rattle.gather.specs.CostLaws.{cost-of-nothing}
 use Rattle.names.specs.Bits.{one32}
 use Rattle.marks.specs.Marks.{isMarked}
 use Rattle.ends.specs.Ends.{ambientVoxel, ambientAt}

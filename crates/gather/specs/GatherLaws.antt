@@ -1,7 +1,7 @@
 -- What a voxel's gathering means: sixteen numbers, and with L lamps from 64 to 384+64L rays: one for each direction, and up to 5+L more
--- where it meets a surface. With no triangle there are 64 rays, all of which miss.
+-- where it meets a surface.
 use mathlib.Core.Path.{_≡_, refl, sym, _∙_}
-use mathlib.Core.List.{List, []}
+use mathlib.Core.List.{List}
 use Prim.Native.Nat.{ℕ, zero, suc, _+_, _*_, _<_, _≤_}
 use native.Mathlib.Nat.{suc-mul}
 use native.Mathlib.Omega.{arith}
@@ -124,20 +124,3 @@ nearest-below scene ray (suc n) = nearer-below n (nearestTo scene ray n) (meetAt
 pub place-below : (scene : Scene) (ray : Ray) (place : ℕ) (t u v : Float) → nearestOf scene ray ≡ At place t u v → place < length (scene .uses)
 unfolding nearestOf PlaceBelow
 place-below scene ray place t u v e = rw e at (nearest-below scene ray (length (scene .uses)))
-
--- ---- with no triangle every ray misses
-
-pub nothing-met : (scene : Scene) (ray : Ray) → scene .uses ≡ [] → nearestOf scene ray ≡ Nothing
-unfolding nearestOf nearestTo
-nothing-met scene ray e = rw e
-
-module _ (scene : Scene) (lamps : List Float) (setting : Setting) (centre : Vec3) (sky : List Float) (first : ℕ) (none : scene .uses ≡ []) where
-  pub fold-missed : (k i : ℕ) (s : Gathering) → fold (alongFrom scene lamps setting centre sky first) k i s .rays ≡ s .rays + k
-  unfolding fold gatheredAlong incomingBy
-  fold-missed zero i s = omega arith
-  fold-missed (suc k) i s =
-      fold-missed k (i + 1) (alongFrom scene lamps setting centre sky first i s) ∙ rw (nothing-met scene (primaryRay setting centre (directionAt (first + i))) none) (omega arith)
-
-pub cost-of-nothing : (g : GatherInput) (i : ℕ) → g .scene .uses ≡ [] → costOf g i ≡ primaryRays
-unfolding costOf voxelOf gatheringOf
-cost-of-nothing g i e = fold-missed (g .scene) _ _ _ _ _ e primaryRays 0 nothingGathered

@@ -6,9 +6,9 @@ use mathlib.Core.List.{List, [], _∷_}
 use Prim.Native.Nat.{ℕ, zero, suc, _+_, _-_, _≤_, _<_}
 use native.Mathlib.Omega.{arith}
 use lib.Dec.{leb, eqb}
-use borrow.Author.Tests.{ne-eqb, eqb-true}
-use Rattle.spread.specs.Spread.{Stage, stage, Bake, Walked, walked, more, replaced, started, walk, anyActive, ended, accepted, call, run, NoneRefused}
-use Rattle.spread.specs.Walks.{walks, walk-to}
+use borrow.Author.Tests.{ne-eqb}
+use Rattle.spread.specs.Spread.{Stage, Bake, Walked, walked, more, replaced, started, walk, accepted, call, run, NoneRefused}
+use Rattle.spread.specs.Walks.{ended-progress, walks, walk-to}
 
 -- a bake of nothing but voxels and their costs
 abbrev pub bare : ℕ → ℕ → (ℕ → Bool) → (ℕ → ℕ) → Bake Unit
@@ -25,17 +25,8 @@ bare count most active cost =
       refusal = λ s a. 0;
     }
 
--- the progress at an end, and an accepted call
+-- an accepted call
 module _ {A : Type 0} (b : Bake A) where
-  ended-at : (p : ℕ) (v s : List A) → ended b p v s .progress ≡ p
-  ended-at p v s = go (eqb p (b .count)) refl (anyActive (b .active) (b .count))
-    where
-      go : (t : Bool) → eqb p (b .count) ≡ t → (u : Bool)
-          → cond t (cond u (stage (b .count) (b .mean v) v) (stage (b .count) v s)) (stage p v s) .progress ≡ p
-      go true h true = sym (eqb-true p (b .count) h)
-      go true h false = sym (eqb-true p (b .count) h)
-      go false h u = refl
-
   call-accepted : (a : ℕ) (s : Stage A) → call b a s .refusal ≡ 0 → call b a s ≡ accepted b a s
   unfolding call
   call-accepted a s e = go (b .refusal s a) refl e
@@ -86,8 +77,8 @@ module _ {A B : Type 0} (b : Bake A) (c : Bake B) where
             rw (
               p,
               ap₂ eqb (sym e) (sym (same .count)) ∙ p,
-              ended-at b (walk b (b .count - s .progress) (s .progress) a u .progress),
-              ended-at c (walk c (c .count - t .progress) (t .progress) a v .progress),
+              ended-progress b (walk b (b .count - s .progress) (s .progress) a u .progress),
+              ended-progress c (walk c (c .count - t .progress) (t .progress) a v .progress),
             )
             (w .0 ∙ ap (λ (y : Walked B). y .progress) m, w .1 ∙ ap (λ (y : Walked B). y .rays) m)
 
@@ -97,7 +88,7 @@ module _ {A B : Type 0} (b : Bake A) (c : Bake B) where
         go : (x : Bool) → eqb (s .progress) (b .count) ≡ x → accepted b a s .stage .progress ≤ b .count
         go true p = rw p h
         go false p =
-            rw (p, ended-at b (walk b (b .count - s .progress) (s .progress) a (started b (s .progress) (s .volume)) .progress))
+            rw (p, ended-progress b (walk b (b .count - s .progress) (s .progress) a (started b (s .progress) (s .volume)) .progress))
             (omega (arith, walk-to b (walks b (b .count - s .progress) (s .progress) a (started b (s .progress) (s .volume)))))
 
     -- a run of calls of which none is refused, by either bake

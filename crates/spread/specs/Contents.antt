@@ -11,6 +11,7 @@ use lib.ListN.{length, take, drop, length-append, length-take, length-drop}
 use lib.Seq.{take-at, drop-at}
 use borrow.Author.Tests.{ltb-true, ltb-false, lt-ltb, le-ltb}
 use Rattle.spread.specs.Spread.{Bake, Walked, laid, replaced, voxelPart, filled, unblurred, standing, stands}
+use Rattle.spread.specs.Demand.{Sized}
 use Rattle.spread.specs.Walks.{Walks, none, skip, stop, taken}
 
 module _ {A : Type 0} where
@@ -75,11 +76,6 @@ module _ {A : Type 0} where
     pub length-replaced : (i : ℕ) (x v : List A) → length x ≡ size → i * size + size ≤ length v → length (replaced size i x v) ≡ length v
     unfolding replaced
     length-replaced i x v e h = simp (length-append, length-take, length-drop) (omega arith)
-
--- the numbers of each voxel are as many as its place has
-pub record Sized {A : Type 0} (b : Bake A) : Type 0 where
-  pub ambient : (i : ℕ) → length (b .ambient i) ≡ b .size
-  pub gathered : (i : ℕ) → length (b .gathered i) ≡ b .size
 
 module _ {A : Type 0} (b : Bake A) (sized : Sized b) where
   pub length-standing : (p i : ℕ) → length (standing b p i) ≡ b .size

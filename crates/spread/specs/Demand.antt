@@ -1,4 +1,5 @@
--- What the customer demands of a bake that is spread over calls, sentence by sentence. Holds.antt shows it of every fair bake.
+-- What the customer demands of a bake that is spread over calls, sentence by sentence: demand 3, and module 7 on progress. Where he says 384 the
+-- most that a voxel may cost stands. Holds.antt shows it of every fair bake.
 use mathlib.Core.Path.{_≡_}
 use mathlib.Core.Bool.{true}
 use mathlib.Core.Logic.{_⊎_}
@@ -7,7 +8,11 @@ use Prim.Native.Nat.{ℕ, _+_, _-_, _*_, _/_, _≤_, _<_}
 use lib.ListN.{length}
 use Rattle.names.specs.Numbers.{primaryRays}
 use Rattle.spread.specs.Spread.{Stage, Bake, voxelPart, call, unbroken, actives, costs, standing, stands, run, sum, EachAtLeast, NoneRefused}
-use Rattle.spread.specs.Contents.{Sized}
+
+-- the numbers of each voxel are as many as its place has
+pub record Sized {A : Type 0} (b : Bake A) : Type 0 where
+  pub ambient : (i : ℕ) → length (b .ambient i) ≡ b .size
+  pub gathered : (i : ℕ) → length (b .gathered i) ≡ b .size
 
 -- what is asked of a bake: it has voxels; each has as many numbers as its place; an active one costs 64 rays at least and what a voxel may
 -- cost at most; and a call that is not refused has a progress within the count and an allowance for one voxel
@@ -40,7 +45,7 @@ module _ {A : Type 0} (b : Bake A) where
     -- A refused call changes nothing, so it need not even be asked that there is none.
     pub whole : (l : List ℕ) (s : Stage A) → s .progress ≡ 0 → run b l s .stage .progress ≡ b .count
         → run b l s .stage ≡ unbroken b (s .scratch)
-    -- before the end "voxels below progress are final but unblurred, the others ambient, scratch untouched"
+    -- "Before that, voxels below progress are final but unblurred, the others ambient, scratch untouched."
     pub before : (l : List ℕ) (s : Stage A) → s .progress ≡ 0 → 0 < run b l s .stage .progress → run b l s .stage .progress < b .count
         → ((i : ℕ) → i < b .count → voxelPart (b .size) i (run b l s .stage .volume) ≡ standing b (run b l s .stage .progress) i)
         × (run b l s .stage .volume ≡ stands b (run b l s .stage .progress))
@@ -61,12 +66,13 @@ module _ {A : Type 0} (b : Bake A) where
         → (b .active (call b a s .stage .progress) ≡ true) × (a - call b a s .rays < b .most)
     -- "the reported counts add up to the rays the definition fires"
     pub sums : (l : List ℕ) (s : Stage A) → s .progress ≡ 0 → run b l s .stage .progress ≡ b .count → sum (run b l s .rays) ≡ costs b (b .count) 0
-    -- "64 to 384 for each active voxel"
-    pub each : (allActive * primaryRays ≤ costs b (b .count) 0) × (costs b (b .count) 0 ≤ allActive * b .most)
+    -- "64 to 384 for each active voxel": voxel by voxel, and so of all
+    pub each : (i : ℕ) → i < b .count → b .active i ≡ true → (primaryRays ≤ b .cost i) × (b .cost i ≤ b .most)
+    pub all : (allActive * primaryRays ≤ costs b (b .count) 0) × (costs b (b .count) 0 ≤ allActive * b .most)
     -- "so A active voxels at allowances of k·384 or more, k at least 1, take at most ⌈A/k⌉ calls"
     pub calls : (k : ℕ) (l : List ℕ) (s : Stage A) → 1 ≤ k → EachAtLeast (k * b .most) l → 0 < length l → roundedUp allActive k ≤ length l
         → s .progress ≡ 0 → NoneRefused (run b l s .refusals) → run b l s .stage .progress ≡ b .count
-    -- "and no active voxel takes one"
+    -- "no active voxel, one call"
     pub one : (a : ℕ) (s : Stage A) → allActive ≡ 0 → s .progress ≡ 0 → call b a s .refusal ≡ 0 → call b a s .stage .progress ≡ b .count
     -- an accepted call goes on; a finished bake fires nothing and is left as it is
     pub goes : (a : ℕ) (s : Stage A) → call b a s .refusal ≡ 0 → s .progress < b .count → s .progress < call b a s .stage .progress

@@ -8,9 +8,9 @@ use native.Mathlib.Omega.{arith}
 use native.Mathlib.Nat.{zero-add, suc-mul, zero-mul, le-div-iff-mul-le, lt-div-mul-add, mul-le-mul-right, eq-or-lt-of-le}
 use lib.Dec.{eqb}
 use lib.ListN.{length, replicate}
-use borrow.Author.Tests.{eq-eqb, ne-eqb, eqb-true}
-use Rattle.spread.specs.Spread.{Stage, stage, Bake, Called, Walked, voxelPart, started, walk, anyActive, blurred, ended, baked, accepted, call, unblurred, unbroken, actives, costs, standing, stands, run, sum, EachAtLeast, NoneRefused}
-use Rattle.spread.specs.Walks.{walks, walk-from, walk-to, walk-goes, walk-costs, walk-fires, walk-stops, walk-takes, walk-rays, walk-passed, actives-split, costs-least, costs-most}
+use borrow.Author.Tests.{eq-eqb, ne-eqb}
+use Rattle.spread.specs.Spread.{Stage, stage, Bake, Called, Walked, voxelPart, started, walk, anyActive, blurred, baked, accepted, call, unblurred, unbroken, actives, costs, standing, stands, run, sum, EachAtLeast, NoneRefused}
+use Rattle.spread.specs.Walks.{ended-progress, walks, walk-from, walk-to, walk-goes, walk-costs, walk-fires, walk-stops, walk-takes, walk-rays, walk-passed, actives-split, costs-least, costs-most}
 use Rattle.spread.specs.Contents.{length-standing, walk-stands, stands-filled, stands-unblurred, part-of-laid}
 use Rattle.spread.specs.Demand.{Fair, Lasts, roundedUp, allActive, finished, Demand}
 
@@ -36,16 +36,6 @@ module _ {A : Type 0} (b : Bake A) (fair : Fair b) where
           (λ h. rw (eq-eqb (s .progress) (b .count) h) (idle e h))
           (λ h. rw (ne-eqb (s .progress) (b .count) (λ z. omega arith)) (walks-on e h (fair .within s a e .1)))
           (eq-or-lt-of-le (fair .within s a e .0))
-
-  -- where the walk ends is the progress that the call answers
-  ended-progress : (p : ℕ) (v x : List A) → ended b p v x .progress ≡ p
-  ended-progress p v x = go (eqb p (b .count)) refl (anyActive (b .active) (b .count))
-    where
-      go : (t : Bool) → eqb p (b .count) ≡ t → (u : Bool)
-          → cond t (cond u (stage (b .count) (b .mean v) v) (stage (b .count) v x)) (stage p v x) .progress ≡ p
-      go true e true = sym (eqb-true p (b .count) e)
-      go true e false = sym (eqb-true p (b .count) e)
-      go false e u = refl
 
   -- ---- sentence by sentence
 
@@ -80,7 +70,7 @@ module _ {A : Type 0} (b : Bake A) (fair : Fair b) where
           = ap (λ (k : ℕ). actives b k (s .progress)) parts
           ∙ actives-split b (w .progress - s .progress) (b .count - w .progress) (s .progress)
           ∙ rw there refl in
-          rw (ended-progress (w .progress) (w .volume) (s .scratch))
+          rw (ended-progress b (w .progress) (w .volume) (s .scratch))
           (⊎-elim inl (λ g. inr (omega (arith, g .1))) (walk-passed b (fair .most) q (b .count) (omega arith) most-some))
 
   call-costs : (a : ℕ) (s : Stage A)
@@ -93,7 +83,7 @@ module _ {A : Type 0} (b : Bake A) (fair : Fair b) where
       go c (idle e h) = zero-add (costs b (b .count - s .progress) (s .progress))
       go c (walks-on e h f) =
           let w = walkOf a s in
-          rw (ended-progress (w .progress) (w .volume) (s .scratch))
+          rw (ended-progress b (w .progress) (w .volume) (s .scratch))
           (walk-costs b (walks b (b .count - s .progress) (s .progress) a (started b (s .progress) (s .volume))) (b .count) (omega arith))
 
   reports-costs : (a : ℕ) (s : Stage A) → call b a s .refusal ≡ 0
@@ -106,7 +96,7 @@ module _ {A : Type 0} (b : Bake A) (fair : Fair b) where
       go c (idle e h) z = let m : s .progress - s .progress ≡ 0 = omega arith in rw m refl
       go c (walks-on e h f) z =
           let w = walkOf a s in
-          rw (ended-progress (w .progress) (w .volume) (s .scratch))
+          rw (ended-progress b (w .progress) (w .volume) (s .scratch))
           (walk-fires b (walks b (b .count - s .progress) (s .progress) a (started b (s .progress) (s .volume))))
 
   takes-while : (a : ℕ) (s : Stage A) → call b a s .refusal ≡ 0 → (i : ℕ) → s .progress ≤ i → i < call b a s .stage .progress → b .active i ≡ true
@@ -120,7 +110,7 @@ module _ {A : Type 0} (b : Bake A) (fair : Fair b) where
       go c (walks-on e h f) z i p q t =
           let w = walkOf a s in
           walk-takes b (walks b (b .count - s .progress) (s .progress) a (started b (s .progress) (s .volume))) i p
-          (rw (ended-progress (w .progress) (w .volume) (s .scratch)) at q) t
+          (rw (ended-progress b (w .progress) (w .volume) (s .scratch)) at q) t
 
   stops-short : (a : ℕ) (s : Stage A) → call b a s .refusal ≡ 0 → call b a s .stage .progress < b .count
       → (b .active (call b a s .stage .progress) ≡ true) × (a - call b a s .rays < b .most)
@@ -132,8 +122,8 @@ module _ {A : Type 0} (b : Bake A) (fair : Fair b) where
       go c (idle e h) z q = absurd (omega arith)
       go c (walks-on e h f) z q =
           let w = walkOf a s in
-          let short : w .progress < b .count = rw (ended-progress (w .progress) (w .volume) (s .scratch)) at q in
-          rw (ended-progress (w .progress) (w .volume) (s .scratch))
+          let short : w .progress < b .count = rw (ended-progress b (w .progress) (w .volume) (s .scratch)) at q in
+          rw (ended-progress b (w .progress) (w .volume) (s .scratch))
           (walk-stops b (walks b (b .count - s .progress) (s .progress) a (started b (s .progress) (s .volume))) (omega arith))
 
   run-costs : (l : List ℕ) (s : Stage A)
@@ -165,7 +155,7 @@ module _ {A : Type 0} (b : Bake A) (fair : Fair b) where
           let w = walkOf a s in
           let k = b .count - (s .progress + 1) in
           let m : b .count - s .progress ≡ suc k = omega arith in
-          rw (ended-progress (w .progress) (w .volume) (s .scratch), m)
+          rw (ended-progress b (w .progress) (w .volume) (s .scratch), m)
           (walk-goes b (walks b (suc k) (s .progress) a (started b (s .progress) (s .volume))) f)
 
   rests-done : (a : ℕ) (s : Stage A) → s .progress ≡ b .count → (call b a s .rays ≡ 0) × (call b a s .stage ≡ s)
@@ -274,7 +264,7 @@ module _ {A : Type 0} (b : Bake A) (fair : Fair b) where
       go c (idle e h) z = inl h
       go c (walks-on e h f) z =
           let w = walkOf a s in
-          rw (ended-progress (w .progress) (w .volume) (s .scratch))
+          rw (ended-progress b (w .progress) (w .volume) (s .scratch))
           (walk-passed b (fair .most) (walks b (b .count - s .progress) (s .progress) a (started b (s .progress) (s .volume))) (b .count) (omega arith)
           most-some)
 
@@ -318,7 +308,8 @@ module _ {A : Type 0} (b : Bake A) (fair : Fair b) where
         takes = takes-while;
         stops = stops-short;
         sums = sums-up;
-        each = (costs-least b (fair .most) (fair .least) (b .count) 0, costs-most b (fair .most) (fair .least) (b .count) 0);
+        each = λ i h t. (fair .least i, fair .most i);
+        all = (costs-least b (fair .most) (fair .least) (b .count) 0, costs-most b (fair .most) (fair .least) (b .count) 0);
         calls = at-most;
         one = one-call;
         goes = goes-on;

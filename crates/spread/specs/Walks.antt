@@ -6,12 +6,12 @@ use mathlib.Core.List.{List}
 use Prim.Native.Nat.{ℕ, zero, suc, _+_, _-_, _*_, _/_, _≤_, _<_}
 use native.Mathlib.Omega.{arith}
 use native.Mathlib.Nat.{zero-add, add-zero, add-assoc, sub-add-eq, div-eq-of-lt, le-div-iff-mul-le, suc-mul, eq-or-lt-of-le}
-use lib.Dec.{leb}
-use borrow.Author.Tests.{leb-true, leb-false, le-leb, lt-leb}
+use lib.Dec.{leb, eqb}
+use borrow.Author.Tests.{leb-true, leb-false, le-leb, lt-leb, eqb-true}
 use Rattle.names.specs.Numbers.{primaryRays}
 use Rattle.lists.specs.Any.{any}
 use Rattle.lists.specs.Fold.{ahead}
-use Rattle.spread.specs.Spread.{Bake, Walked, walked, more, replaced, walk, actives, costs}
+use Rattle.spread.specs.Spread.{stage, Bake, Walked, walked, more, replaced, walk, anyActive, ended, actives, costs}
 
 module _ {A : Type 0} (b : Bake A) where
   pub data Walks : ℕ → ℕ → ℕ → List A → Walked A → Type 0 where
@@ -119,6 +119,31 @@ module _ {A : Type 0} (b : Bake A) where
           ≡ cond x (suc (actives b j (i + 1))) (actives b j (i + 1)) + actives b k (i + 1 + j)
       go true h = omega arith
       go false h = h
+
+  -- and the rays that the definition fires for them
+  pub costs-split : (j k i : ℕ) → costs b (j + k) i ≡ costs b j i + costs b k (i + j)
+  unfolding costs
+  costs-split zero k i = rw (zero-add k, add-zero i) (sym (zero-add (costs b k i)))
+  costs-split (suc j) k i =
+      let e : suc j + k ≡ suc (j + k) = omega arith in
+      let f : i + suc j ≡ i + 1 + j = omega arith in
+      rw (e, f) (go (b .active i) (costs-split j k (i + 1)))
+    where
+      go : (x : Bool) → costs b (j + k) (i + 1) ≡ costs b j (i + 1) + costs b k (i + 1 + j)
+          → cond x (b .cost i + costs b (j + k) (i + 1)) (costs b (j + k) (i + 1))
+          ≡ cond x (b .cost i + costs b j (i + 1)) (costs b j (i + 1)) + costs b k (i + 1 + j)
+      go true h = omega arith
+      go false h = h
+
+  -- where a walk ends is the progress that its call answers
+  pub ended-progress : (p : ℕ) (v s : List A) → ended b p v s .progress ≡ p
+  ended-progress p v s = go (eqb p (b .count)) refl (anyActive (b .active) (b .count))
+    where
+      go : (t : Bool) → eqb p (b .count) ≡ t → (u : Bool)
+          → cond t (cond u (stage (b .count) (b .mean v) v) (stage (b .count) v s)) (stage p v s) .progress ≡ p
+      go true h true = sym (eqb-true p (b .count) h)
+      go true h false = sym (eqb-true p (b .count) h)
+      go false h u = refl
 
   module _ (high : (i : ℕ) → b .cost i ≤ b .most) where
     -- it fires no more than it may

@@ -1,11 +1,10 @@
--- What the count of a surface's rays is, in document 01's words: "Extra rays for a hit: 0 if albedo and emissive both have squared length
--- ≤0, else 4, and one more if n·l>0"; and one more for each lamp that reaches it. Which lamps add nothing, in which order they are added, and
--- that without lamps all is as document 01 has it.
+-- The count beside a surface's light is `extraRays`, and at most five and one for each lamp: each step's own count, added up. Which lamps add
+-- nothing, in which order they are added, and that without lamps all is as document 01 has it.
 use mathlib.Core.Path.{_≡_, refl}
 use mathlib.Core.Bool.{Bool, true, false, cond, not, or-true}
 use mathlib.Core.List.{List, []}
 use Prim.Native.Nat.{ℕ, zero, suc, _+_, _≤_}
-use native.Mathlib.Nat.{add-zero}
+use native.Mathlib.Nat.{add-zero, add-comm}
 use native.Mathlib.Omega.{arith}
 use lib.Ieee as Ieee
 use lib.Ieee.{Float, nan, inf, fin, isNan, ofBits}
@@ -24,6 +23,7 @@ use Rattle.bounce.specs.Lamps.{wayTo, unlitBy}
 use Rattle.surface.specs.declared.Setting.{Setting}
 use Rattle.surface.specs.declared.Surface.{Surface}
 use Rattle.surface.specs.declared.Traced.{Traced}
+use Rattle.surface.specs.Extra.{reaching, extraRays}
 use Rattle.surface.specs.Surface.{traced, seenBy, seenOf, skyOf, sunOf, daylightOf, litBy, litAfter, fallenOn, bouncedBy}
 
 -- n·l raised to 0 is above 0 exactly where n·l is
@@ -62,9 +62,9 @@ sun-most scene setting surface = rw (sun-rays scene setting surface) (go (Ieee.l
 
 -- sun and sky together
 pub day-rays : (scene : Scene) (setting : Setting) (surface : Surface)
-    → daylightOf scene setting surface .rays ≡ cond (Ieee.lt zero32 (dotV (surface .normal) (setting .toward))) 1 0 + 4
+    → daylightOf scene setting surface .rays ≡ 4 + cond (Ieee.lt zero32 (dotV (surface .normal) (setting .toward))) 1 0
 unfolding daylightOf
-day-rays scene setting surface = rw (sun-rays scene setting surface, sky-rays scene setting surface)
+day-rays scene setting surface = rw (sun-rays scene setting surface, sky-rays scene setting surface) (add-comm _ 4)
 
 pub day-most : (scene : Scene) (setting : Setting) (surface : Surface) → daylightOf scene setting surface .rays ≤ 5
 unfolding daylightOf
@@ -108,12 +108,6 @@ lamp-most scene setting surface lamp fallen =
     go true = omega arith
     go false = omega arith
 
--- how many of the k lamps from j on reach the surface
-unfoldable pub reaching : List Float → Surface → ℕ → ℕ → ℕ
-reaching lamps surface zero j = 0
-reaching lamps surface (suc k) j =
-    cond (unlitBy (surface .normal) (wayTo (surface .point) (lampAt lamps j .position))) 0 1 + reaching lamps surface k (j + 1)
-
 pub reaching-most : (lamps : List Float) (surface : Surface) (k j : ℕ) → reaching lamps surface k j ≤ k
 unfolding reaching
 reaching-most lamps surface zero j = omega arith
@@ -143,11 +137,9 @@ module _ (scene : Scene) (lamps : List Float) (setting : Setting) (surface : Sur
       at-last f zero i t = rw (add-zero i) refl
       at-last f (suc k) i t = let e : i + 1 + k ≡ i + suc k = omega arith in rw (← e) (at-last f k (i + 1) (f i t))
 
-  -- the whole count: "0 if albedo and emissive both have squared length ≤0, else 4, and one more if n·l>0", and one for each lamp that reaches
-  pub extra-rays : bouncedBy scene lamps setting surface .rays
-      ≡ cond (blackOf (surface .albedo) (surface .emissive)) 0
-      (cond (Ieee.lt zero32 (dotV (surface .normal) (setting .toward))) 1 0 + 4 + reaching lamps surface (lampCount lamps) 0)
-  unfolding bouncedBy fallenOn
+  -- the whole count
+  pub extra-rays : bouncedBy scene lamps setting surface .rays ≡ extraRays lamps (setting .toward) surface
+  unfolding bouncedBy fallenOn extraRays
   extra-rays =
       rw (← day-rays scene setting surface, ← lit-rays (lampCount lamps) 0 (daylightOf scene setting surface))
       (go (blackOf (surface .albedo) (surface .emissive)) _ _)
@@ -158,11 +150,12 @@ module _ (scene : Scene) (lamps : List Float) (setting : Setting) (surface : Sur
 
   -- so at most five, and one for each lamp
   pub extra-most : bouncedBy scene lamps setting surface .rays ≤ 5 + lampCount lamps
+  unfolding extraRays
   extra-most =
       rw extra-rays
       (go (blackOf (surface .albedo) (surface .emissive)) (Ieee.lt zero32 (dotV (surface .normal) (setting .toward))) (reaching-most lamps surface (lampCount lamps) 0))
     where
-      go : (b d : Bool) {r : ℕ} → r ≤ lampCount lamps → cond b 0 (cond d 1 0 + 4 + r) ≤ 5 + lampCount lamps
+      go : (b d : Bool) {r : ℕ} → r ≤ lampCount lamps → cond b 0 (4 + cond d 1 0 + r) ≤ 5 + lampCount lamps
       go true d h = omega arith
       go false true h = omega arith
       go false false h = omega arith

@@ -1,0 +1,109 @@
+-- Demand 3, said of results of public calls: "A bake may be spread over calls, each with an allowance of at least 384 rays. Begun at progress zero, no
+-- call refused, all else handed on unchanged, the end is bit for bit the unbroken bake. No call fires more than its allowance; each finishes at least as
+-- many active voxels as the allowance holds whole 384s, or all that remain; the reported counts add up to the rays the definition fires, 64 to 384 for
+-- each active voxel; so A active voxels at allowances of k·384 or more, k at least 1, take at most ⌈A/k⌉ calls; no active voxel, one call." With L lamps
+-- 384+64L stands for 384. Definitions only; `demand-of-results` of ResultsLaws shows it of whatever satisfies the calls' contract.
+use mathlib.Core.Path.{_≡_}
+use mathlib.Core.Bool.{true}
+use mathlib.Core.Logic.{_⊎_}
+use mathlib.Core.List.{List, [], _∷_, map}
+use Prim.Native.Nat.{ℕ, _+_, _*_, _/_, _≤_, _<_}
+use lib.ListN.{length}
+use lib.Ieee.{Float}
+use Rattle.names.specs.Numbers.{primaryRays}
+use Rattle.spread.specs.Spread.{Stage, stage, unbroken, actives, costs, stands, sum, EachAtLeast, NoneRefused}
+use Rattle.spread.specs.Demand.{roundedUp}
+use Rattle.marks.specs.Marks.{isMarked}
+use Rattle.gather.specs.Gather.{costOf}
+use Rattle.gather.specs.Cost.{raysOf}
+use Rattle.intake.specs.Intake.{BakeInput, inputOf, voxelCount, bakeCost}
+use Rattle.demand.specs.Bake.{gatherInput, bakeOf}
+use Rattle.bake.specs.declared.BakeAnswer.{BakeAnswer}
+use Rattle.bake.specs.Baked.{Baked}
+
+-- ---- results of calls
+
+-- a call's allowance, its answer, and what it left in volume, scratch and hit scratch
+pub record Result : Type 0 where
+  pub allowance : ℕ
+  pub answer : BakeAnswer
+  pub volume : List Float
+  pub scratch : List Float
+  pub distances : List Float
+  pub places : List ℕ
+
+-- what the next call is handed
+abbrev pub handedOn : Result → Stage Float
+handedOn c = stage (c .answer .progress) (c .volume) (c .scratch)
+
+-- the input b with the hit lists d and p lent to it
+abbrev pub lending : BakeInput → List Float → List ℕ → BakeInput
+lending b d p =
+    inputOf (b .axes) (b .corners) (b .scene) (b .light) (b .ambient) (b .sky) (b .lamps) (b .active) (b .lights) (length d) (length p)
+
+-- results of calls from the stage s on with the hit lists d and p: each satisfies the public contract, and is handed on to the next, all else unchanged
+abbrev pub Successive : BakeInput → Stage Float → List Float → List ℕ → List Result → Type 0
+Successive b s d p [] = Unit
+Successive b s d p (c ∷ rest) =
+    Baked (lending b d p) s (c .allowance) (c .answer) (c .volume) (c .scratch) d (c .distances) p (c .places)
+    × Successive b (handedOn c) (c .distances) (c .places) rest
+
+-- what the last of them left
+abbrev pub leftBy : Stage Float → List Result → Stage Float
+leftBy s [] = s
+leftBy s (c ∷ rest) = leftBy (handedOn c) rest
+
+abbrev pub allowancesOf : List Result → List ℕ
+allowancesOf results = map (λ (c : Result). c .allowance) results
+
+abbrev pub refusalsOf : List Result → List ℕ
+refusalsOf results = map (λ (c : Result). c .answer .refusal) results
+
+abbrev pub reportedBy : List Result → List ℕ
+reportedBy results = map (λ (c : Result). c .answer .rays) results
+
+-- ---- what is demanded of them
+
+-- the active voxels below a progress, and the rays that the definition fires for them
+abbrev pub activeBelow : BakeInput → ℕ → ℕ
+activeBelow b p = actives (bakeOf b) p 0
+
+abbrev pub raysBelow : BakeInput → ℕ → ℕ
+raysBelow b p = costs (bakeOf b) p 0
+
+-- of one call that was handed the progress p
+pub record OneCall (b : BakeInput) (p : ℕ) (c : Result) : Type 0 where
+  -- "No call fires more than its allowance"
+  pub within : c .answer .rays ≤ c .allowance
+  -- "each finishes at least as many active voxels as the allowance holds whole 384s, or all that remain"
+  pub finishes : (activeBelow b p + c .allowance / bakeCost b ≤ activeBelow b (c .answer .progress)) ⊎ (c .answer .progress ≡ voxelCount b)
+  -- "What a call fires, and reports, is the definition's rays of the active voxels it took, no more and no fewer."
+  pub reports : raysBelow b p + c .answer .rays ≡ raysBelow b (c .answer .progress)
+
+-- of each, by the progress that the one before it answered
+abbrev pub EachCall : BakeInput → ℕ → List Result → Type 0
+EachCall b p [] = Unit
+EachCall b p (c ∷ rest) = OneCall b p c × EachCall b (c .answer .progress) rest
+
+-- of calls from the stage s on
+pub record DemandOfResults (b : BakeInput) (s : Stage Float) (first : Result) (rest : List Result) : Type 0 where
+  -- "no call refused"
+  pub none : NoneRefused (refusalsOf (first ∷ rest))
+  -- "the end is bit for bit the unbroken bake": progress, volume and scratch
+  pub end : leftBy s (first ∷ rest) .progress ≡ voxelCount b → leftBy s (first ∷ rest) ≡ unbroken (bakeOf b) (s .scratch)
+  -- "Before that, voxels below progress are final but unblurred, the others ambient, scratch untouched."
+  pub before : leftBy s (first ∷ rest) .progress < voxelCount b
+      → (leftBy s (first ∷ rest) .volume ≡ stands (bakeOf b) (leftBy s (first ∷ rest) .progress)) × (leftBy s (first ∷ rest) .scratch ≡ s .scratch)
+  -- of each call what OneCall says
+  pub calls : EachCall b (s .progress) (first ∷ rest)
+  -- "the reported counts add up to the rays the definition fires"
+  pub sums : leftBy s (first ∷ rest) .progress ≡ voxelCount b → sum (reportedBy (first ∷ rest)) ≡ raysBelow b (voxelCount b)
+  -- which are `raysOf`: 64, and the extra rays of each hit
+  pub fires : (i : ℕ) → costOf (gatherInput b) i ≡ raysOf (gatherInput b) i
+  -- "64 to 384 for each active voxel"
+  pub each : (i : ℕ) → i < voxelCount b → isMarked (b .active) i ≡ true → (primaryRays ≤ costOf (gatherInput b) i) × (costOf (gatherInput b) i ≤ bakeCost b)
+  -- "so A active voxels at allowances of k·384 or more, k at least 1, take at most ⌈A/k⌉ calls": so many are at the end
+  pub enough : (k : ℕ) → 1 ≤ k → EachAtLeast (k * bakeCost b) (allowancesOf (first ∷ rest))
+      → roundedUp (activeBelow b (voxelCount b)) k ≤ length (first ∷ rest) → leftBy s (first ∷ rest) .progress ≡ voxelCount b
+  -- "no active voxel, one call"
+  pub one : activeBelow b (voxelCount b) ≡ 0 → first .answer .progress ≡ voxelCount b

@@ -1,0 +1,145 @@
+-- Results of successive calls do what demand 3 asks. They are `run` of the bake, since the hit lists keep their lengths, so that every call has the first
+-- one's input; and of `run` it is shown.
+use mathlib.Core.Path.{_≡_, refl, sym, ap, ap₂, _∙_, subst}
+use mathlib.Core.Logic.{_⊎_, inl, inr, ⊎-elim}
+use mathlib.Core.List.{List, [], _∷_}
+use Prim.Native.Nat.{ℕ, _+_, _-_, _≤_, _<_}
+use native.Mathlib.Omega.{arith}
+use native.Mathlib.Nat.{zero-add, eq-or-lt-of-le}
+use lib.ListN.{length, length-map}
+use lib.Ieee.{Float}
+use Rattle.spread.specs.Spread.{Stage, stage, Called, Ran, then, actives, costs, stands, run, sum, EachAtLeast, NoneRefused}
+use Rattle.spread.specs.Demand.{Demand}
+use Rattle.spread.specs.Walks.{actives-split, costs-split}
+use Rattle.gather.specs.CostLaws.{cost-counted}
+use Rattle.intake.specs.Intake.{BakeInput, inputOf, voxelCount, bakeCost, bakeRefusal}
+use Rattle.intake.specs.IntakeLaws.{fits, none-refused}
+use Rattle.demand.specs.Bake.{gatherInput, bakeOf, bakeCall}
+use Rattle.demand.specs.Calls.{answers-refusal}
+use Rattle.demand.specs.Demanded.{bake-demand}
+use Rattle.bake.specs.Baked.{Baked}
+use Rattle.bake.specs.Results.{Result, handedOn, lending, Successive, leftBy, allowancesOf, refusalsOf, reportedBy, OneCall, EachCall, DemandOfResults}
+use Rattle.bake.specs.GoesOn.{never-refused}
+
+-- ---- results are a run
+
+abbrev calledOf : Result → Called Float
+calledOf c = record { refusal = c .answer .refusal; rays = c .answer .rays; stage = handedOn c }
+
+-- one result is the call
+called : {b : BakeInput} {s : Stage Float} {c : Result} {d : List Float} {p : List ℕ}
+    → Baked b s (c .allowance) (c .answer) (c .volume) (c .scratch) d (c .distances) p (c .places) → calledOf c ≡ bakeCall b s (c .allowance)
+called {b} {s} {c} f =
+    let q = bakeCall b s (c .allowance) in
+    ap (λ (n : ℕ). record { refusal = n; rays = c .answer .rays; stage = handedOn c }) (f .refusal)
+    ∙ ap (λ (n : ℕ). record { refusal = q .refusal; rays = n; stage = handedOn c }) (f .rays)
+    ∙ ap (λ (n : ℕ). record { refusal = q .refusal; rays = q .rays; stage = stage n (c .volume) (c .scratch) }) (f .progress)
+    ∙ ap (λ (u : List Float). record { refusal = q .refusal; rays = q .rays; stage = stage (q .stage .progress) u (c .scratch) }) (f .volume)
+    ∙ ap (λ (u : List Float). record { refusal = q .refusal; rays = q .rays; stage = stage (q .stage .progress) (q .stage .volume) u }) (f .scratch)
+
+-- lists of the same lengths make the same input
+same-input : (b : BakeInput) (d d' : List Float) (p p' : List ℕ) → length d' ≡ length d → length p' ≡ length p → lending b d' p' ≡ lending b d p
+same-input b d d' p p' e f =
+    ap₂ (inputOf (b .axes) (b .corners) (b .scene) (b .light) (b .ambient) (b .sky) (b .lamps) (b .active) (b .lights)) e f
+
+abbrev ranOf : Stage Float → List Result → Ran Float
+ranOf s results = record { refusals = refusalsOf results; rays = reportedBy results; stage = leftBy s results }
+
+module _ (b i : BakeInput) where
+  -- i is the input of the first call, and so of all
+  successive-run : (s : Stage Float) (d : List Float) (p : List ℕ) (results : List Result) → lending b d p ≡ i → Successive b s d p results
+      → ranOf s results ≡ run (bakeOf i) (allowancesOf results) s
+  unfolding run
+  successive-run s d p [] e h = refl
+  successive-run s d p (c ∷ rest) e h =
+      let same = same-input b d (c .distances) p (c .places) (h .0 .distances-long) (h .0 .places-long) ∙ e in
+      ap (then (calledOf c)) (successive-run (handedOn c) (c .distances) (c .places) rest same (h .1))
+      ∙ ap (λ (y : Called Float). then y (run (bakeOf i) (allowancesOf rest) (y .stage))) (called (h .0) ∙ ap (λ (x : BakeInput). bakeCall x s (c .allowance)) e)
+
+  module _ (demand : Demand (bakeOf i)) where
+    -- ---- one call
+
+    module _ (s : Stage Float) (c : Result) (e : calledOf c ≡ bakeCall i s (c .allowance)) (z : c .answer .refusal ≡ 0) where
+      accepted : bakeCall i s (c .allowance) .refusal ≡ 0
+      accepted = sym (ap (λ (y : Called Float). y .refusal) e) ∙ z
+
+      reached : c .answer .progress ≡ bakeCall i s (c .allowance) .stage .progress
+      reached = ap (λ (y : Called Float). y .stage .progress) e
+
+      -- an accepted call goes on, or finds the bake finished
+      forward : s .progress ≤ c .answer .progress
+      forward =
+          let r : bakeRefusal i s (c .allowance) ≡ 0 = sym (answers-refusal i s (c .allowance)) ∙ accepted in
+          ⊎-elim
+          (λ h. omega (arith, reached, ap (λ (t : Stage Float). t .progress) (demand .rests (c .allowance) s h .1)))
+          (λ h. omega (arith, reached, demand .goes (c .allowance) s accepted h))
+          (eq-or-lt-of-le (fits i s (c .allowance) (none-refused i s (c .allowance) .0 r) .progress))
+
+      one-call : OneCall i (s .progress) c
+      one-call =
+          let k = c .answer .progress - s .progress in
+          let there : s .progress + k ≡ c .answer .progress = omega (arith, forward) in
+          let taken : actives (bakeOf i) (c .answer .progress) 0 ≡ actives (bakeOf i) (s .progress) 0 + actives (bakeOf i) k (s .progress)
+          = rw (there, zero-add) at (actives-split (bakeOf i) (s .progress) k 0) in
+          let fired : costs (bakeOf i) (c .answer .progress) 0 ≡ costs (bakeOf i) (s .progress) 0 + costs (bakeOf i) k (s .progress)
+          = rw (there, zero-add) at (costs-split (bakeOf i) (s .progress) k 0) in
+          record {
+            within = rw (ap (λ (y : Called Float). y .rays) e) (demand .within (c .allowance) s);
+            finishes =
+                ⊎-elim
+                (λ h. inr (reached ∙ h))
+                (λ h. inl (omega (arith, taken, rw (← reached) at h)))
+                (demand .finishes (c .allowance) s accepted);
+            reports = omega (arith, fired, ap (λ (y : Called Float). y .rays) e, rw (← reached) at (demand .reports (c .allowance) s accepted));
+          }
+
+    -- ---- each call
+
+    each-call : (s : Stage Float) (d : List Float) (p : List ℕ) (results : List Result) → lending b d p ≡ i → Successive b s d p results
+        → NoneRefused (refusalsOf results) → EachCall i (s .progress) results × (s .progress ≤ leftBy s results .progress)
+    each-call s d p [] e h n = (tt, omega arith)
+    each-call s d p (c ∷ rest) e h n =
+        let same = same-input b d (c .distances) p (c .places) (h .0 .distances-long) (h .0 .places-long) ∙ e in
+        let a = called (h .0) ∙ ap (λ (x : BakeInput). bakeCall x s (c .allowance)) e in
+        let r = each-call (handedOn c) (c .distances) (c .places) rest same (h .1) (n .1) in
+        ((one-call s c a (n .0), r .0), omega (arith, forward s c a (n .0), r .1))
+
+-- ---- all of it
+
+-- calls begun at progress zero, whose allowances hold a voxel's cost and of which the first is accepted
+pub demand-of-results : (b : BakeInput) (s : Stage Float) (d : List Float) (p : List ℕ) (first : Result) (rest : List Result)
+    → Successive b s d p (first ∷ rest)
+    → s .progress ≡ 0
+    → EachAtLeast (bakeCost b) (allowancesOf (first ∷ rest))
+    → first .answer .refusal ≡ 0
+    → DemandOfResults (lending b d p) s first rest
+demand-of-results b s d p first rest h z m r =
+    let i = lending b d p in
+    let results = first ∷ rest in
+    let l = allowancesOf results in
+    let ran = successive-run b i s d p results refl h in
+    let left : leftBy s results ≡ run (bakeOf i) l s .stage = ap (λ (t : Ran Float). t .stage) ran in
+    let end : leftBy s results .progress ≡ run (bakeOf i) l s .stage .progress = ap (λ (t : Stage Float). t .progress) left in
+    let begun : bakeCall i s (first .allowance) .refusal ≡ 0 = sym (h .0 .refusal) ∙ r in
+    let accepts : bakeRefusal i s (first .allowance) ≡ 0 = sym (answers-refusal i s (first .allowance)) ∙ begun in
+    let demand = bake-demand i s (first .allowance) accepts in
+    let unrefused = never-refused i s (first .allowance) accepts l m in
+    let none : NoneRefused (refusalsOf results) = subst NoneRefused (sym (ap (λ (t : Ran Float). t .refusals) ran)) unrefused in
+    let later = each-call b i demand (handedOn first) (first .distances) (first .places) rest (same-input b d (first .distances) p (first .places) (h .0 .distances-long) (h .0 .places-long)) (h .1) (none .1) in
+    record {
+      none = none;
+      end = λ q. left ∙ demand .whole l s z (sym end ∙ q);
+      before = λ q.
+          let start : s .progress < voxelCount i = omega (arith, z, q) in
+          let under-way : 0 < leftBy s results .progress = omega (arith, later .1, h .0 .progress, demand .goes (first .allowance) s begun start) in
+          let x = demand .before l s z (omega (arith, end, under-way)) (omega (arith, end, q)) in (
+            ap (λ (t : Stage Float). t .volume) left ∙ x .1 ∙ ap (stands (bakeOf i)) (sym end),
+            ap (λ (t : Stage Float). t .scratch) left ∙ x .2,
+          );
+      calls = each-call b i demand s d p results refl h none .0;
+      sums = λ q. ap (λ (t : Ran Float). sum (t .rays)) ran ∙ demand .sums l s z (sym end ∙ q);
+      fires = λ j. cost-counted (gatherInput i) j;
+      each = demand .each;
+      enough = λ k g c n. end ∙ demand .calls k l s g c (omega arith) (omega (arith, n, length-map results (λ (x : Result). x .allowance))) z unrefused;
+      one = λ q. h .0 .progress ∙ demand .one (first .allowance) s q z begun;
+    }
