@@ -251,7 +251,7 @@ module _ (a : Axes) (c : Corners) (volume positions : List Float) (answers : ℕ
       (λ e. l .0 (sym coefficient-frame-singles ∙ e), λ m. coefficient-frame-singles ∙ l .1 m)
 
 -- sixteen numbers, refused or not
-length-numbers : (a : Axes) (c : Corners) (volume : List Float) (p : Vec3) → length (coefficientsAtOf a c volume p .numbers) ≡ 16
+pub length-numbers : (a : Axes) (c : Corners) (volume : List Float) (p : Vec3) → length (coefficientsAtOf a c volume p .numbers) ≡ 16
 unfolding coefficientsAtOf coefficientBlend unlessRefused
 length-numbers a c volume p = go (eqb (coefficientRefusal a c volume p) 0)
   where
