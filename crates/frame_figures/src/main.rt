@@ -82,6 +82,7 @@ fn print_answers(answers: &[f32]) {
     }
 }
 
+// The end of an accepted frame's line. The expected output has the first of the two alone, so that an answer which is not the single call's shows.
 fn print_same(same: bool) {
     if same {
         io::write_all(1, b", as one by one\n");
@@ -199,7 +200,8 @@ fn empty() {
     show(hall(), corners(3.0), &light, &all[0..0], &mut answers[0..0]);
 }
 
-// The first and the last number of each position's sixteen, and whether all are the single call's; last is the volume's last number.
+// The first and the last number of each position's sixteen and, where the frame is accepted, whether all are the single call's; last is the volume's last
+// number.
 fn sixteens(last: f32) {
     let mut volume = [0.0f32; 384];
     fill_volume(&mut volume);
@@ -216,6 +218,10 @@ fn sixteens(last: f32) {
     print_fourths(answers[47]);
     print_fourths(answers[48]);
     print_fourths(answers[63]);
+    if r.refusal != 0 {
+        io::write_all(1, b"\n");
+        return;
+    }
     let a = same_sixteen(&volume, all[0], all[1], all[2], &answers, 0);
     let b = same_sixteen(&volume, all[3], all[4], all[5], &answers, 16);
     let c = same_sixteen(&volume, all[6], all[7], all[8], &answers, 32);

@@ -1,6 +1,6 @@
 -- Where rows 1, 2 and 3 have passed, the single lookup's refusal is that of 11 and 13; a list that is good as a whole is good in every cell that is read;
 -- and where nothing is refused the single lookup's numbers are the blends.
-use mathlib.Core.Path.{_≡_, refl, sym, ap, _∙_}
+use mathlib.Core.Path.{_≡_, refl, sym, ap, ap₂, _∙_}
 use mathlib.Core.Bool.{Bool, true, false}
 use mathlib.Core.List.{List, _∷_}
 use Prim.Native.Nat.{ℕ, _+_, _-_, _*_, _/_, _<_, _≤_, min}
@@ -23,6 +23,8 @@ use Rattle.limits.specs.Some.{some, none-out, none-in}
 use Rattle.limits.specs.Limits.{outside, badAxes, badGrid, wrongLength, badLights, badCoefficients}
 use Rattle.limits.specs.LimitsLaws.{axes-row}
 use Rattle.lookup.specs.declared.Cells.{Cells}
+use Rattle.lookup.specs.declared.LightAt.{LightAt}
+use Rattle.lookup.specs.declared.CoefficientsAt.{CoefficientsAt}
 use Rattle.lookup.specs.Place.{Inside, cellsOf, cellsRead, blendedOf}
 use Rattle.lookup.specs.PlaceLaws.{some-read, cells-read-inside, blended-same}
 use Rattle.lookup.specs.Lookup.{badLightCells, lightRefusal, lightBlend, lightAtOf, sixteen, badVolumeCells, coefficientRefusal, coefficientBlend, coefficientsAtOf, noNumbers}
@@ -112,6 +114,33 @@ pub light-start : (a : Axes) (c : Corners) (l positions : List Float) (n : ℕ) 
     → tab (λ (k : ℕ). lightAtOf a c l (positionAt positions k) .light) (n - 0) 0 ≡ lightFrameOf a c l positions
 unfolding lightFrameOf
 light-start a c l positions n h = let e : n - 0 ≡ length positions / 3 = omega arith in rw e refl
+
+-- ---- the single lookup's answer from its parts
+
+module _ (a : Axes) (c : Corners) (l : List Float) (p : Vec3) where
+  pub light-refused : (k : ℕ) → (k ≡ 0 → ⊥) → k ≡ lightRefusal a c l p → _≡_ {A = LightAt} (record { refusal = k; light = zero32 }) (lightAtOf a c l p)
+  unfolding lightAtOf
+  light-refused k n e = rw (sym e) (ap₂ (λ (r : ℕ) (x : Float). record { refusal = r; light = x }) refl (kept k _ zero32 n))
+
+  pub light-found : (x : Float) → 0 ≡ lightRefusal a c l p → x ≡ lightBlend l (cellsOf a c p) → _≡_ {A = LightAt} (record { refusal = 0; light = x }) (lightAtOf a c l p)
+  unfolding lightAtOf
+  light-found x e f = rw (sym e) (ap₂ (λ (r : ℕ) (y : Float). record { refusal = r; light = y }) refl (f ∙ given 0 _ zero32 refl))
+
+  pub coefficients-refused : (k : ℕ) → (k ≡ 0 → ⊥) → k ≡ coefficientRefusal a c l p → _≡_ {A = CoefficientsAt} (record { refusal = k; numbers = noNumbers }) (coefficientsAtOf a c l p)
+  unfolding coefficientsAtOf
+  coefficients-refused k n e = rw (sym e) (ap₂ (λ (r : ℕ) (x : List Float). record { refusal = r; numbers = x }) refl (kept k _ noNumbers n))
+
+  pub coefficients-found : (x : List Float) → 0 ≡ coefficientRefusal a c l p → x ≡ coefficientBlend l (cellsOf a c p) → _≡_ {A = CoefficientsAt} (record { refusal = 0; numbers = x }) (coefficientsAtOf a c l p)
+  unfolding coefficientsAtOf
+  coefficients-found x e f = rw (sym e) (ap₂ (λ (r : ℕ) (y : List Float). record { refusal = r; numbers = y }) refl (f ∙ given 0 _ noNumbers refl))
+
+pub light-number : (a : Axes) (c : Corners) (l : List Float) (p : Vec3) → lightAtOf a c l p .refusal ≡ lightRefusal a c l p
+unfolding lightAtOf
+light-number a c l p = refl
+
+pub coefficient-number : (a : Axes) (c : Corners) (l : List Float) (p : Vec3) → coefficientsAtOf a c l p .refusal ≡ coefficientRefusal a c l p
+unfolding coefficientsAtOf
+coefficient-number a c l p = refl
 
 -- ---- what holds of a frame that is not refused
 

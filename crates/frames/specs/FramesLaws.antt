@@ -62,7 +62,7 @@ module _ (number : ℕ → ℕ) where
     pub here : number p ≡ r
     pub before : (j : ℕ) → i ≤ j → j < p → number j ≡ 0
 
-  least-out : (k i : ℕ) → (leastRefused number k i .refusal ≡ 0 → ⊥)
+  pub least-out : (k i : ℕ) → (leastRefused number k i .refusal ≡ 0 → ⊥)
       → LeastAt k i (leastRefused number k i .refusal) (leastRefused number k i .place)
   least-out zero i n = absurd (n (ap (λ (x : FirstRefusal). x .refusal) (none-left i)))
   least-out (suc k) i n = go (eqb (number i) 0) refl (λ m. least-out k (i + 1) m)
@@ -251,7 +251,7 @@ module _ (a : Axes) (c : Corners) (volume positions : List Float) (answers : ℕ
       (λ e. l .0 (sym coefficient-frame-singles ∙ e), λ m. coefficient-frame-singles ∙ l .1 m)
 
 -- sixteen numbers, refused or not
-length-numbers : (a : Axes) (c : Corners) (volume : List Float) (p : Vec3) → length (coefficientsAtOf a c volume p .numbers) ≡ 16
+pub length-numbers : (a : Axes) (c : Corners) (volume : List Float) (p : Vec3) → length (coefficientsAtOf a c volume p .numbers) ≡ 16
 unfolding coefficientsAtOf coefficientBlend unlessRefused
 length-numbers a c volume p = go (eqb (coefficientRefusal a c volume p) 0)
   where

@@ -1,4 +1,5 @@
-// The two passes of a frame. The first reads every position and writes nothing; the second, where nothing was refused, fills the answers.
+// A frame in two passes. The first judges every position and writes no answer; the second, where nothing was refused, fills the answers. Of a small
+// frame the first pass keeps the answers in a list of its own, the room, so that the cells of a position are looked for once.
 ghost use mathlib.Core.Path.{_≡_};
 ghost use mathlib.Core.Bool.{true, false, _||_};
 ghost use mathlib.Core.List.{_++_};
@@ -8,18 +9,122 @@ ghost use Rattle.names.specs.Refusals.{firstOf};
 ghost use Rattle.grid.specs.Grid.{AxesWithin, voxels};
 ghost use Rattle.limits.specs.Limits.{wrongLength, badLights, badCoefficients};
 ghost use Rattle.lookup.specs.Place.{cellsOf};
-ghost use Rattle.lookup.specs.Lookup.{lightRefusal, lightBlend, coefficientRefusal};
-ghost use Rattle.frames.specs.Frames.{frameRows, positionCount, positionAt, wrongFrame, leastRefused, lightRefusalAt, lightFrameRefusal, lightFrameOf, coefficientRefusalAt, coefficientFrameRefusal, coefficientFrameOf};
-ghost use Rattle.frames.specs.Passes.{LightGridGood, LightsAccepted, CoefficientGridGood, CoefficientsAccepted};
+ghost use Rattle.lookup.specs.Lookup.{lightRefusal, lightBlend, lightAtOf, coefficientRefusal, coefficientsAtOf};
+ghost use Rattle.frames.specs.Frames.{frameRows, positionCount, positionAt, wrongFrame, leastRefused, lightRefusalAt, lightFrameRefusal, lightFrameOf, coefficientRefusalAt, coefficientFrameRefusal, coefficientFrameOf, LightsFramed, CoefficientsFramed};
+ghost use Rattle.frames.specs.Passes.{LightGridGood, LightsAccepted, LightsKept, CoefficientGridGood, CoefficientsAccepted, CoefficientsKept};
 use super::FirstRefusal;
 use grid::Axes;
 use grid::Corners;
+use lookup::CoefficientsAt;
+use lookup::LightAt;
 use vectors::Vec3;
 
 // ---- light
 
+// A frame of few lights: the room holds them all.
+pub fn few_lights(
+    axes: Axes,
+    corners: Corners,
+    light: &[f32],
+    positions: &[f32],
+    answers: &mut [f32],
+    room: &mut [f32],
+) -> FirstRefusal
+    requires { ⌜ length (now room) ≡ length (now answers) ⌝ }
+    ensures { λ r. ⌜ LightsFramed axes corners (now (light .entry)) (now (positions .entry)) (now (answers .entry)) r (now (answers .exit)) ⌝ }
+{
+    let refusal = rows_refusal(
+        1,
+        axes,
+        corners,
+        light.len(),
+        positions.len(),
+        answers.len(),
+    );
+    if refusal != 0 {
+        return FirstRefusal { refusal, place: 0 };
+    }
+    let first = keep_lights(axes, corners, light, positions, room);
+    if first.refusal == 0 {
+        means::inner::copy(room, answers);
+        return first;
+    }
+    first
+}
+
+// The first position that the single lookup refuses; where there is none, the room has the light at each position.
+fn keep_lights(
+    axes: Axes,
+    corners: Corners,
+    light: &[f32],
+    positions: &[f32],
+    room: &mut [f32],
+) -> FirstRefusal
+    requires { ⌜ LightGridGood axes corners (now light) false × (length (now positions) ≡ length (now room) * 3) ⌝ }
+    ensures { λ r. ⌜ LightsKept axes corners (now (light .entry)) (now (positions .entry)) r (now (room .exit)) ⌝ }
+{
+    let mut k = 0;
+    while k < room.len() {
+        let r = light_in_grid(axes, corners, light, position(positions, k));
+        if r.refusal != 0 {
+            return FirstRefusal {
+                refusal: r.refusal,
+                place: k,
+            };
+        }
+        room[k] = r.light;
+        k += 1;
+    }
+    FirstRefusal {
+        refusal: 0,
+        place: 0,
+    }
+}
+
+// The single lookup in a good grid.
+fn light_in_grid(axes: Axes, corners: Corners, light: &[f32], p: Vec3) -> LightAt
+    requires { ⌜ LightGridGood axes corners (now light) false ⌝ }
+    ensures { λ r. ⌜ r ≡ lightAtOf axes corners (now (light .entry)) p ⌝ }
+{
+    if limits::inner::bad_position(p) {
+        return LightAt {
+            refusal: 11,
+            light: 0.0,
+        };
+    }
+    let c = lookup::inner::cells(axes, corners, p);
+    if lookup::inner::bad_light_cells(light, c) {
+        return LightAt {
+            refusal: 13,
+            light: 0.0,
+        };
+    }
+    LightAt {
+        refusal: 0,
+        light: lookup::inner::blended(light, 1, 0, c),
+    }
+}
+
+// A frame of any number of lights.
+pub fn many_lights(
+    axes: Axes,
+    corners: Corners,
+    light: &[f32],
+    positions: &[f32],
+    answers: &mut [f32],
+) -> FirstRefusal
+    ensures { λ r. ⌜ LightsFramed axes corners (now (light .entry)) (now (positions .entry)) (now (answers .entry)) r (now (answers .exit)) ⌝ }
+{
+    let judged = light_refusal(axes, corners, light, positions, answers.len());
+    if judged.refusal == 0 {
+        fill_lights(axes, corners, light, positions, answers);
+        return judged;
+    }
+    judged
+}
+
 // The first refusal of a frame of lights.
-pub fn light_refusal(
+fn light_refusal(
     axes: Axes,
     corners: Corners,
     light: &[f32],
@@ -91,13 +196,7 @@ fn bad_light_at(axes: Axes, corners: Corners, light: &[f32], p: Vec3, clear: boo
 }
 
 // The light at each position, none of which is refused.
-pub fn fill_lights(
-    axes: Axes,
-    corners: Corners,
-    light: &[f32],
-    positions: &[f32],
-    answers: &mut [f32],
-)
+fn fill_lights(axes: Axes, corners: Corners, light: &[f32], positions: &[f32], answers: &mut [f32])
     requires { ⌜ LightsAccepted axes corners (now light) (now positions) (length (now answers)) ⌝ }
     ensures { λ r. ⌜ now (answers .exit) ≡ lightFrameOf axes corners (now (light .entry)) (now (positions .entry)) ⌝ }
 {
@@ -117,8 +216,112 @@ fn light_between(axes: Axes, corners: Corners, light: &[f32], p: Vec3) -> f32
 
 // ---- the four coefficients
 
+// A frame of few coefficients: the room holds them all.
+pub fn few_coefficients(
+    axes: Axes,
+    corners: Corners,
+    volume: &[f32],
+    positions: &[f32],
+    answers: &mut [f32],
+    room: &mut [f32],
+) -> FirstRefusal
+    requires { ⌜ length (now room) ≡ length (now answers) ⌝ }
+    ensures { λ r. ⌜ CoefficientsFramed axes corners (now (volume .entry)) (now (positions .entry)) (now (answers .entry)) r (now (answers .exit)) ⌝ }
+{
+    let refusal = rows_refusal(
+        16,
+        axes,
+        corners,
+        volume.len(),
+        positions.len(),
+        answers.len(),
+    );
+    if refusal != 0 {
+        return FirstRefusal { refusal, place: 0 };
+    }
+    let kept = keep_coefficients(axes, corners, volume, positions, room);
+    if kept.refusal == 0 {
+        means::inner::copy(room, answers);
+        return kept;
+    }
+    kept
+}
+
+// The first position that the single lookup refuses; where there is none, the room has the sixteen numbers of each position.
+fn keep_coefficients(
+    axes: Axes,
+    corners: Corners,
+    volume: &[f32],
+    positions: &[f32],
+    room: &mut [f32],
+) -> FirstRefusal
+    requires { ⌜ CoefficientGridGood axes corners (now volume) false × (length (now room) ≡ positionCount (length (now positions)) * 16) ⌝ }
+    ensures { λ r. ⌜ CoefficientsKept axes corners (now (volume .entry)) (now (positions .entry)) r (now (room .exit)) ⌝ }
+{
+    let count = positions.len() / 3;
+    let mut k = 0;
+    while k < count {
+        let r = coefficients_in_grid(axes, corners, volume, position(positions, k));
+        if r.refusal != 0 {
+            return FirstRefusal {
+                refusal: r.refusal,
+                place: k,
+            };
+        }
+        let at = k * 16;
+        k += 1;
+        put(&r.numbers, room, at);
+    }
+    FirstRefusal {
+        refusal: 0,
+        place: 0,
+    }
+}
+
+// The single lookup in a good grid.
+fn coefficients_in_grid(axes: Axes, corners: Corners, volume: &[f32], p: Vec3) -> CoefficientsAt
+    requires { ⌜ CoefficientGridGood axes corners (now volume) false ⌝ }
+    ensures { λ r. ⌜ r ≡ coefficientsAtOf axes corners (now (volume .entry)) p ⌝ }
+{
+    if limits::inner::bad_position(p) {
+        return CoefficientsAt {
+            refusal: 11,
+            numbers: [0.0; 16],
+        };
+    }
+    let c = lookup::inner::cells(axes, corners, p);
+    if lookup::inner::bad_volume_cells(volume, c) {
+        return CoefficientsAt {
+            refusal: 13,
+            numbers: [0.0; 16],
+        };
+    }
+    CoefficientsAt {
+        refusal: 0,
+        numbers: lookup::inner::coefficients_blended(volume, c),
+    }
+}
+
+// A frame of any number of coefficients.
+pub fn many_coefficients(
+    axes: Axes,
+    corners: Corners,
+    volume: &[f32],
+    positions: &[f32],
+    answers: &mut [f32],
+) -> FirstRefusal
+    ensures { λ r. ⌜ CoefficientsFramed axes corners (now (volume .entry)) (now (positions .entry)) (now (answers .entry)) r (now (answers .exit)) ⌝ }
+{
+    let r = coefficient_refusal(axes, corners, volume, positions, answers.len());
+    if r.refusal == 0 {
+        fill_coefficients(axes, corners, volume, positions, answers);
+        return r;
+    }
+    r
+}
+
 // The first refusal of a frame of coefficients.
-pub fn coefficient_refusal(
+fn coefficient_refusal(
     axes: Axes,
     corners: Corners,
     volume: &[f32],
@@ -135,11 +338,12 @@ pub fn coefficient_refusal(
     first_bad_coefficient(axes, corners, volume, positions, clear)
 }
 
-// Whether every number of the volume was read and none is refused. It is read where it is no longer than what the cells around each position hold.
+// Whether every number of the volume was read and none is refused. It is read where that costs less than to find and test the cells around each position:
+// measured, from one position for 240 numbers on.
 fn coefficients_clear(volume: &[f32], count: usize) -> bool
     ensures { λ r. ⌜ (r ≡ true → badCoefficients (now (volume .entry)) ≡ false) ⌝ }
 {
-    if volume.len() / 128 <= count {
+    if volume.len() / 240 <= count {
         return !limits::inner::bad_coefficients(volume);
     }
     false
@@ -192,7 +396,7 @@ fn bad_coefficient_at(axes: Axes, corners: Corners, volume: &[f32], p: Vec3, cle
 }
 
 // The sixteen numbers at each position, none of which is refused.
-pub fn fill_coefficients(
+fn fill_coefficients(
     axes: Axes,
     corners: Corners,
     volume: &[f32],

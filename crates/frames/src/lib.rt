@@ -23,12 +23,17 @@ pub fn frame_lights(
 ) -> FirstRefusal
     ensures { λ r. ⌜ LightsFramed axes corners (now (light .entry)) (now (positions .entry)) (now (answers .entry)) r (now (answers .exit)) ⌝ }
 {
-    let first = inner::light_refusal(axes, corners, light, positions, answers.len());
-    if first.refusal == 0 {
-        inner::fill_lights(axes, corners, light, positions, answers);
-        return first;
+    // what a room holds at first is never read; a small one is filled sooner
+    let n = answers.len();
+    if n <= 16 {
+        let mut room = [1.0; 16];
+        return inner::few_lights(axes, corners, light, positions, answers, &mut room[..n]);
     }
-    first
+    if n <= 1024 {
+        let mut room = [1.0; 1024];
+        return inner::few_lights(axes, corners, light, positions, answers, &mut room[..n]);
+    }
+    inner::many_lights(axes, corners, light, positions, answers)
 }
 
 // The four coefficients at each of the positions, three numbers each, in answers, sixteen numbers each. Refused: 1, 2, 3, and what
@@ -42,10 +47,14 @@ pub fn frame_coefficients(
 ) -> FirstRefusal
     ensures { λ r. ⌜ CoefficientsFramed axes corners (now (volume .entry)) (now (positions .entry)) (now (answers .entry)) r (now (answers .exit)) ⌝ }
 {
-    let r = inner::coefficient_refusal(axes, corners, volume, positions, answers.len());
-    if r.refusal == 0 {
-        inner::fill_coefficients(axes, corners, volume, positions, answers);
-        return r;
+    let n = answers.len();
+    if n <= 256 {
+        let mut room = [1.0; 256];
+        return inner::few_coefficients(axes, corners, volume, positions, answers, &mut room[..n]);
     }
-    r
+    if n <= 4096 {
+        let mut room = [1.0; 4096];
+        return inner::few_coefficients(axes, corners, volume, positions, answers, &mut room[..n]);
+    }
+    inner::many_coefficients(axes, corners, volume, positions, answers)
 }

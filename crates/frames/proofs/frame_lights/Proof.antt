@@ -1,30 +1,64 @@
--- `frames::frame_lights` meets its contract: what is not refused fits and is filled; on a refusal nothing is written.
-use mathlib.Core.Path.{sym, ap, _∙_}
+-- `frames::frame_lights` meets its contract: few or many, the contract is the same.
+use mathlib.Core.Path.{sym}
+use native.Mathlib.Omega.{arith}
 use borrow.Author.Needs.{needs}
-use Rattle.names.specs.Refusals.{kept, given}
-use Rattle.frames.specs.declared.FirstRefusal.{FirstRefusal}
-use Rattle.frames.proofs.Clear.{lights-accepted}
+use lib.Seq.{length-take-le}
 use Rattle.frames.proofs.frame_lights.Statement.{statement}
 use Rattle.frames.proofs.frame_lights.Tie as tie
 
-light-refusal-requires : tie.Need-light-refusal-requires
-light-refusal-requires c κs = search needs
+array-borrow-prefix-room : tie.Need-array-borrow-prefix-room
+array-borrow-prefix-room c = search needs
 
-fill-lights-requires : tie.Need-fill-lights-requires
-fill-lights-requires c κs =
-    let k = c .before in
-    lights-accepted _ _ _ _ _ (sym (ap (λ (x : FirstRefusal). x .refusal) (k .before .before .light-refusal .ensures)) ∙ k .if1 .taken)
+slice-aggregate-few-lights : tie.Need-slice-aggregate-few-lights
+slice-aggregate-few-lights c = sym (length-take-le _ _ (omega arith))
+
+few-lights-requires : tie.Need-few-lights-requires
+few-lights-requires c κs = length-take-le _ _ (omega arith)
 
 same-length : tie.Need-same-length
 same-length c = search needs
 
 returns : tie.Need-returns
-returns c =
-    let k = c .before .before in
-    record { answer = k .before .before .before .before .light-refusal .ensures; answers-after = k .fill-lights .ensures ∙ given _ _ _ (k .before .before .if1 .taken) }
+returns c = search needs
+
+array-borrow-prefix-room-2 : tie.Need-array-borrow-prefix-room-2
+array-borrow-prefix-room-2 c = search needs
+
+slice-aggregate-few-lights-2 : tie.Need-slice-aggregate-few-lights-2
+slice-aggregate-few-lights-2 c = sym (length-take-le _ _ (omega arith))
+
+few-lights-requires-2 : tie.Need-few-lights-requires-2
+few-lights-requires-2 c κs = length-take-le _ _ (omega arith)
+
+same-length-2 : tie.Need-same-length-2
+same-length-2 c = search needs
 
 returns-2 : tie.Need-returns-2
-returns-2 c = record { answer = c .before .before .light-refusal .ensures; answers-after = kept _ _ _ (c .if1 .left) }
+returns-2 c = search needs
+
+many-lights-requires : tie.Need-many-lights-requires
+many-lights-requires c κs = search needs
+
+same-length-3 : tie.Need-same-length-3
+same-length-3 c = search needs
+
+returns-3 : tie.Need-returns-3
+returns-3 c = search needs
 
 pub frame-lights-spec : {M : Type 1} → statement M
-frame-lights-spec = tie.close (tie.spec light-refusal-requires fill-lights-requires same-length returns returns-2)
+frame-lights-spec =
+    tie.close
+    (tie.spec
+    array-borrow-prefix-room
+    slice-aggregate-few-lights
+    few-lights-requires
+    same-length
+    returns
+    array-borrow-prefix-room-2
+    slice-aggregate-few-lights-2
+    few-lights-requires-2
+    same-length-2
+    returns-2
+    many-lights-requires
+    same-length-3
+    returns-3)
