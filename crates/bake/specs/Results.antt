@@ -85,25 +85,33 @@ abbrev pub EachCall : BakeInput → ℕ → List Result → Type 0
 EachCall b p [] = Unit
 EachCall b p (c ∷ rest) = OneCall b p c × EachCall b (c .answer .progress) rest
 
--- of calls from the stage s on
-pub record DemandOfResults (b : BakeInput) (s : Stage Float) (first : Result) (rest : List Result) : Type 0 where
-  -- "no call refused"
-  pub none : NoneRefused (refusalsOf (first ∷ rest))
-  -- "the end is bit for bit the unbroken bake": progress, volume and scratch
-  pub end : leftBy s (first ∷ rest) .progress ≡ voxelCount b → leftBy s (first ∷ rest) ≡ unbroken (bakeOf b) (s .scratch)
-  -- "Before that, voxels below progress are final but unblurred, the others ambient, scratch untouched."
-  pub before : leftBy s (first ∷ rest) .progress < voxelCount b
-      → (leftBy s (first ∷ rest) .volume ≡ stands (bakeOf b) (leftBy s (first ∷ rest) .progress)) × (leftBy s (first ∷ rest) .scratch ≡ s .scratch)
-  -- of each call what OneCall says
-  pub calls : EachCall b (s .progress) (first ∷ rest)
-  -- "the reported counts add up to the rays the definition fires"
-  pub sums : leftBy s (first ∷ rest) .progress ≡ voxelCount b → sum (reportedBy (first ∷ rest)) ≡ raysBelow b (voxelCount b)
-  -- which are `raysOf`: 64, and the extra rays of each hit
-  pub fires : (i : ℕ) → costOf (gatherInput b) i ≡ raysOf (gatherInput b) i
-  -- "64 to 384 for each active voxel"
-  pub each : (i : ℕ) → i < voxelCount b → isMarked (b .active) i ≡ true → (primaryRays ≤ costOf (gatherInput b) i) × (costOf (gatherInput b) i ≤ bakeCost b)
-  -- "so A active voxels at allowances of k·384 or more, k at least 1, take at most ⌈A/k⌉ calls": so many are at the end
-  pub enough : (k : ℕ) → 1 ≤ k → EachAtLeast (k * bakeCost b) (allowancesOf (first ∷ rest))
-      → roundedUp (activeBelow b (voxelCount b)) k ≤ length (first ∷ rest) → leftBy s (first ∷ rest) .progress ≡ voxelCount b
-  -- "no active voxel, one call"
-  pub one : activeBelow b (voxelCount b) ≡ 0 → first .answer .progress ≡ voxelCount b
+-- of calls from the stage s on, of which there is at least one
+module _ (b : BakeInput) (s : Stage Float) (first : Result) (rest : List Result) where
+  -- the calls, and the stage that the last of them left
+  abbrev all : List Result
+  all = first ∷ rest
+
+  abbrev last : Stage Float
+  last = leftBy s all
+
+  pub record DemandOfResults : Type 0 where
+    -- "no call refused"
+    pub none : NoneRefused (refusalsOf all)
+    -- "the end is bit for bit the unbroken bake": progress, volume and scratch
+    pub end : last .progress ≡ voxelCount b → last ≡ unbroken (bakeOf b) (s .scratch)
+    -- "Before that, voxels below progress are final but unblurred, the others ambient, scratch untouched."
+    pub before : last .progress < voxelCount b → (last .volume ≡ stands (bakeOf b) (last .progress)) × (last .scratch ≡ s .scratch)
+    -- of each call what OneCall says
+    pub calls : EachCall b (s .progress) all
+    -- "the reported counts add up to the rays the definition fires"
+    pub sums : last .progress ≡ voxelCount b → sum (reportedBy all) ≡ raysBelow b (voxelCount b)
+    -- which are for voxel i `raysOf`: 64, and the extra rays of its hits
+    pub fires : (i : ℕ) → costOf (gatherInput b) i ≡ raysOf (gatherInput b) i
+    -- "64 to 384 for each active voxel"
+    pub each : (i : ℕ) → i < voxelCount b → isMarked (b .active) i ≡ true
+        → (primaryRays ≤ costOf (gatherInput b) i) × (costOf (gatherInput b) i ≤ bakeCost b)
+    -- "so A active voxels at allowances of k·384 or more, k at least 1, take at most ⌈A/k⌉ calls": after so many the end is reached
+    pub enough : (k : ℕ) → 1 ≤ k → EachAtLeast (k * bakeCost b) (allowancesOf all) → roundedUp (activeBelow b (voxelCount b)) k ≤ length all
+        → last .progress ≡ voxelCount b
+    -- "no active voxel, one call"
+    pub one : activeBelow b (voxelCount b) ≡ 0 → first .answer .progress ≡ voxelCount b
