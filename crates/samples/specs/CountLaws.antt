@@ -1,5 +1,5 @@
 -- How many samples a triangle has, in document 01's words: "area/(smallest edge squared)·2, ceiling, clamped to 1..4096". Where the ceiling lies within
--- 1..4096 the count is the ceiling, below it is 1, above it is 4,096; so a floor, or a ceiling that is one too many, is none. Assumes nothing.
+-- 1..4096 the count is the ceiling itself, below it is 1 and above it is 4,096; neither a floor nor one more than the ceiling would do. Assumes nothing.
 use mathlib.Core.Path.{_≡_, refl, sym, _∙_}
 use mathlib.Core.Bool.{Bool, true, false, false≢true}
 use Prim.Native.Nat.{ℕ, _+_, _*_, _^_, _≤_, _<_}
