@@ -5,7 +5,7 @@ ghost use Rattle.names.specs.Scene.{sceneOf};
 ghost use lib.ListN.{length};
 ghost use mathlib.Core.Path.{_≡_};
 ghost use Rattle.directions.specs.Sets.{setOf};
-ghost use Rattle.rays.specs.Rays.{refusedValues, hitValues, metValues, foundValues, TransmittanceAnswered};
+ghost use Rattle.rays.specs.Rays.{refusedValues, hitValues, valuesOfMet, valuesOfFound, TransmittanceAnswered};
 ghost use Rattle.masks.specs.Masks.{MasksFilled};
 ghost use Rattle.blurs.specs.Blurs.{LightBlurred, CoefficientsBlurred};
 ghost use Rattle.sun.specs.Sun.{SunAnswered};
@@ -356,7 +356,7 @@ pub extern "C" fn geaidnosa_file_figures(bytes: &[u8]) -> Figures
 // ---- what stands for an enum
 
 fn met_told(m: Met) -> RayHit
-    ensures { λ r. ⌜ valuesOf r ≡ metValues m ⌝ }
+    ensures { λ r. ⌜ valuesOf r ≡ valuesOfMet m ⌝ }
 {
     match m {
         Met::Refused(refusal) => no_hit(refusal),
@@ -366,7 +366,7 @@ fn met_told(m: Met) -> RayHit
 }
 
 fn found_told(f: Found) -> RayHit
-    ensures { λ r. ⌜ valuesOf r ≡ foundValues f ⌝ }
+    ensures { λ r. ⌜ valuesOf r ≡ valuesOfFound f ⌝ }
 {
     match f {
         Found::Refused(refusal) => no_hit(refusal),

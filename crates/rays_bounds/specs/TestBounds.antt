@@ -8,7 +8,7 @@ use lib.Ieee.{Float, nan, inf, fin, neg, le, lt, eq, isNan, ofBits}
 use lib.Ieee.Exact.{HasValue}
 use lib.Ieee.Scale.{finite}
 use Rattle.names.specs.Bits.{lit, one32}
-use Rattle.names.specs.Numbers.{pointLimit, colourLimit, directionLimit}
+use Rattle.names.specs.Numbers.{pointLimit, colourLimit, directionLimit, flatLimit}
 use Rattle.floats.specs.Choice.{magnitudeOf}
 use Rattle.floats.specs.OrderLaws.{not-lt-le, le-transitive}
 use Rattle.vectors.specs.declared.Vec3.{Vec3}
@@ -19,7 +19,7 @@ use Rattle.limits.specs.LimitsLaws.{within-between, vector-row, any-of-three, r
 use Rattle.bounds.specs.Bounds.{AtMost, AtLeast, EachAtMost}
 use Rattle.bounds.specs.BoundsLaws.{at-most-up, at-most-of-test, test-of-at-most, at-least-of-test, at-most-finite, magnitude-at-most, mul-at-most, div-at-most, one-value, point-value, colour-value, direction-value}
 use Rattle.bounds.specs.VectorLaws.{sub-each, dot-at-most, cross-each}
-use Rattle.triangle.specs.Meet.{flatLimit, largest32, solvedOf, meetOf}
+use Rattle.triangle.specs.Meet.{largest32, solvedOf, meetOf}
 use Rattle.triangle.specs.Laws.{hit-met}
 use Rattle.triangle.specs.declared.Meet.the-variants.{Hit}
 

@@ -7,6 +7,7 @@ use lib.Dec.{ltb, leb}
 use lib.Ieee as Ieee
 use lib.Ieee.{Float, binary32, toUnsigned}
 use Rattle.names.specs.Bits.{lit, zero32, half32, one32, two32}
+use Rattle.names.specs.Numbers.{mostSamples, mostTarget}
 use Rattle.floats.specs.Whole.{ceilingOf}
 use Rattle.vectors.specs.declared.Vec3.{Vec3}
 use Rattle.vectors.specs.declared.Triangle.{Triangle}
@@ -21,14 +22,6 @@ unfoldable pub targetOf : Triangle → Float → Float
 targetOf t e =
     let area = Ieee.mul binary32 half32 (lengthV (crossV (subV (t .p1) (t .p0)) (subV (t .p2) (t .p0)))) in
     ceilingOf (Ieee.mul binary32 (Ieee.div binary32 area (Ieee.mul binary32 e e)) two32)
-
--- "clamped to 1..4096"
-abbrev pub mostSamples : ℕ
-mostSamples = 4096
-
--- the same as a float
-abbrev pub mostTarget : Float
-mostTarget = lit 0x45800000
 
 -- clamped as a number, and only then whole: what is cast lies between 1 and 4,096
 unfoldable pub countOf : Float → ℕ

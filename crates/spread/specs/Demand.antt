@@ -6,7 +6,8 @@ use mathlib.Core.List.{List}
 use Prim.Native.Nat.{ℕ, _+_, _-_, _*_, _/_, _≤_, _<_}
 use lib.ListN.{length}
 use Rattle.names.specs.Numbers.{primaryRays}
-use Rattle.spread.specs.Spread.{Stage, Bake, voxelPart, call, unbroken, actives, costs, standing, stands, run, sum, EachAtLeast, NoneRefused}
+use Rattle.lists.specs.Laid.{voxelPart}
+use Rattle.spread.specs.Spread.{Stage, Bake, call, unbroken, actives, costs, standing, stands, run, sum, EachAtLeast, NoneRefused}
 use Rattle.spread.specs.Contents.{Sized}
 
 -- what is asked of a bake: it has voxels; each has as many numbers as its place; an active one costs 64 rays at least and what a voxel may
