@@ -8,14 +8,14 @@ use native.Mathlib.Omega.{arith}
 use lib.ListN.{length}
 use lib.Ieee.{Float, ofBits, ofFields, add, div, mul, neg, le, lt, eq, ofInt, round, sum, units, odd, size, climb, span}
 use borrow.Author.Tests.{eqb-true, not-false}
-use Rattle.names.specs.Bits.{lit, half32, one32, two32, zero32}
+use Rattle.names.specs.Bits.{lit, quarter32, half32, one32, two32, zero32}
 use Rattle.names.specs.Refusals.{firstOf, RefusedBy, refused-by, kept, given}
 use Rattle.lists.specs.Fold.{fold, tab, place}
 use Rattle.grid.specs.declared.Axes.{Axes}
 use Rattle.grid.specs.Grid.{voxels, AxesWithin}
 use Rattle.limits.specs.Limits.{within, badAxes, badLights, badCoefficients, wrongLength}
 use Rattle.limits.specs.LimitsLaws.{axes-row, either}
-use Rattle.limits.specs.Some.{some}
+use Rattle.lists.specs.Some.{some}
 use Rattle.means.specs.Box.{lightBlurOf, squareAt, coefficientBlurOf, meanOf, meanAt, meanIn, around, along}
 use Rattle.means.specs.BoxLaws.{Neighbour}
 use Rattle.names.specs.Passed.{passed}
@@ -121,7 +121,7 @@ pub half-accepted : lightBlurRefusal (axesOf 1 1 1) (half32 ∷ []) (zero32 ∷ 
 unfolding lightBlurRefusal firstOf badAxes wrongBlurLists badLights some within ofBits ofFields odd neg le lt eq
 half-accepted = refl
 
-pub half-blurred : lightBlurOf (half32 ∷ []) 1 1 1 ≡ lit 0x3e800000 ∷ []
+pub half-blurred : lightBlurOf (half32 ∷ []) 1 1 1 ≡ quarter32 ∷ []
 unfolding lightBlurOf squareAt meanAt meanIn around along fold tab ofBits ofFields add div mul ofInt round sum units odd size climb span
 half-blurred = refl
 
@@ -129,7 +129,7 @@ pub pair-accepted : lightBlurRefusal (axesOf 2 1 1) (one32 ∷ zero32 ∷ []) (z
 unfolding lightBlurRefusal firstOf badAxes wrongBlurLists badLights some within ofBits ofFields odd neg le lt eq
 pair-accepted = refl
 
-pub pair-blurred : lightBlurOf (one32 ∷ zero32 ∷ []) 2 1 1 ≡ lit 0x3e800000 ∷ lit 0x3e800000 ∷ []
+pub pair-blurred : lightBlurOf (one32 ∷ zero32 ∷ []) 2 1 1 ≡ quarter32 ∷ quarter32 ∷ []
 unfolding lightBlurOf squareAt meanAt meanIn around along fold tab ofBits ofFields add div mul ofInt round sum units odd size climb span
 pair-blurred = refl
 

@@ -1,16 +1,16 @@
--- The frame of a normal and its four hemisphere directions, from "a constant table of twelve numbers". Up is Z if |nz|<.999, else X; the
+-- The basis of a normal and its four hemisphere directions, from "a constant table of twelve numbers". Up is Z if |nz|<.999, else X; the
 -- tangent is n×up normalised, the bitangent n×tangent, not normalised; a direction is (T·x+B·y)+N·z normalised. Definitions only.
 use mathlib.Core.Bool.{cond}
 use mathlib.Core.List.{List, [], _∷_, map}
-use Prim.Native.Nat.{ℕ, _+_, _*_}
-use lib.ListN.{getD}
+use Prim.Native.Nat.{ℕ, _*_}
 use lib.Ieee as Ieee
-use lib.Ieee.{Float, nan, binary32, ofBits}
+use lib.Ieee.{Float, binary32, ofBits}
 use Rattle.names.specs.Bits.{lit, zero32, one32}
 use Rattle.floats.specs.Choice.{magnitudeOf}
 use Rattle.vectors.specs.Vectors.{vec, addV, scaleV, crossV, normalV}
+use Rattle.vectors.specs.Places.{vecAt}
 use Rattle.vectors.specs.declared.Vec3.{Vec3}
-use Rattle.bounce.specs.declared.Frame.{Frame}
+use Rattle.bounce.specs.declared.Basis.{Basis}
 
 -- (0, 0, 1), (.8660254, 0, .5), (−.4330127, .75, .5), (−.4330127, −.75, .5)
 unfoldable pub hemisphere : List Float
@@ -20,7 +20,7 @@ hemisphere =
 
 -- number j of the four
 unfoldable pub localAt : ℕ → Vec3
-localAt j = vec (getD hemisphere (j * 3) nan) (getD hemisphere (j * 3 + 1) nan) (getD hemisphere (j * 3 + 2) nan)
+localAt j = vecAt hemisphere (j * 3)
 
 unfoldable pub upOf : Vec3 → Vec3
 upOf n = cond (Ieee.lt (magnitudeOf (n .z)) (lit 0x3f7fbe77)) (vec zero32 zero32 one32) (vec one32 zero32 zero32)
@@ -28,13 +28,13 @@ upOf n = cond (Ieee.lt (magnitudeOf (n .z)) (lit 0x3f7fbe77)) (vec zero32 zero32
 unfoldable pub tangentOf : Vec3 → Vec3
 tangentOf n = normalV (crossV n (upOf n))
 
-unfoldable pub frameOf : Vec3 → Frame
-frameOf n = record { tangent = tangentOf n; bitangent = crossV n (tangentOf n); normal = n }
+unfoldable pub basisOf : Vec3 → Basis
+basisOf n = record { tangent = tangentOf n; bitangent = crossV n (tangentOf n); normal = n }
 
--- a local direction in a frame
-unfoldable pub turnedBy : Frame → Vec3 → Vec3
+-- a local direction in a basis
+unfoldable pub turnedBy : Basis → Vec3 → Vec3
 turnedBy f v = normalV (addV (addV (scaleV (f .tangent) (v .x)) (scaleV (f .bitangent) (v .y))) (scaleV (f .normal) (v .z)))
 
--- hemisphere direction j of a frame
-abbrev pub skyDirection : Frame → ℕ → Vec3
+-- hemisphere direction j of a basis
+abbrev pub skyDirection : Basis → ℕ → Vec3
 skyDirection f j = turnedBy f (localAt j)

@@ -1,4 +1,4 @@
--- The biases of a bake, a normal's frame and hemisphere directions, and the light that a surface gives back.
+-- The biases of a bake, a normal's basis and hemisphere directions, and the light that a surface gives back.
 pub mod Biases
 pub mod Hemisphere
 pub mod Light

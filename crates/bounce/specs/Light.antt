@@ -3,12 +3,12 @@
 use mathlib.Core.Bool.{Bool, false, cond}
 use lib.Ieee as Ieee
 use lib.Ieee.{Float, binary32}
-use Rattle.names.specs.Bits.{lit, zero32}
+use Rattle.names.specs.Bits.{zero32}
 use Rattle.floats.specs.Choice.{largerOf}
 use Rattle.vectors.specs.Vectors.{addV, subV, mulV, scaleV, divV, negV, dotV, crossV, normalV}
 use Rattle.vectors.specs.declared.Vec3.{Vec3}
 use Rattle.vectors.specs.declared.Triangle.{Triangle}
-use Rattle.harmonics.specs.Harmonics.{evaluatedAt, raisedV, zeroV}
+use Rattle.harmonics.specs.Harmonics.{pi32, evaluatedAt, raisedV, zeroV}
 use Rattle.harmonics.specs.declared.Coefficients.{Coefficients}
 
 -- the normal of a triangle: its edges' cross, normalised
@@ -37,7 +37,7 @@ skylightOf ambient n visibility = scaleV (raisedV (evaluatedAt ambient n)) visib
 
 -- albedo·(e/π), where e has a squared length above 0
 unfoldable pub bouncedOf : Vec3 → Vec3 → Vec3
-bouncedOf albedo e = cond (Ieee.lt zero32 (dotV e e)) (mulV albedo (divV e (lit 0x40490fdb))) zeroV
+bouncedOf albedo e = cond (Ieee.lt zero32 (dotV e e)) (mulV albedo (divV e pi32)) zeroV
 
 -- with e the light that has fallen on it, sun plus sky and then the lamps, raised to 0; and what the surface glows by itself
 unfoldable pub reflectedOf : Vec3 → Vec3 → Vec3 → Vec3

@@ -1,14 +1,14 @@
--- What turning, black and a frame mean. Black is judged by the squared length, and not by components: figures by computation.
+-- What turning, black and a basis mean. Black is judged by the squared length, and not by components: figures by computation.
 use mathlib.Core.Path.{_≡_, refl}
 use mathlib.Core.Bool.{Bool, true, false, cond, false≢true}
 use mathlib.Core.Logic.{_↔_}
 use lib.Ieee as Ieee
 use lib.Ieee.{ofBits}
-use Rattle.names.specs.Bits.{lit, zero32}
+use Rattle.names.specs.Bits.{lit, zero32, one32}
 use Rattle.vectors.specs.Vectors.{vec, negV, dotV, crossV}
 use Rattle.vectors.specs.declared.Vec3.{Vec3}
 use Rattle.harmonics.specs.Harmonics.{zeroV}
-use Rattle.bounce.specs.Hemisphere.{frameOf}
+use Rattle.bounce.specs.Hemisphere.{basisOf}
 use Rattle.bounce.specs.Light.{facingOf, blackOf}
 
 -- a normal that looks away from where the ray comes from is turned, any other is kept
@@ -20,10 +20,10 @@ pub facing-kept : (n direction : Vec3) → Ieee.lt (dotV n (negV direction)) zer
 unfolding facingOf
 facing-kept n direction h = rw h
 
--- a frame's third axis is the normal itself, and its second stands across the other two
-pub frame-axes : (n : Vec3) → (frameOf n .normal ≡ n) × (frameOf n .bitangent ≡ crossV n (frameOf n .tangent))
-unfolding frameOf
-frame-axes n = (refl, refl)
+-- a basis's third axis is the normal itself, and its second stands across the other two
+pub basis-axes : (n : Vec3) → (basisOf n .normal ≡ n) × (basisOf n .bitangent ≡ crossV n (basisOf n .tangent))
+unfolding basisOf
+basis-axes n = (refl, refl)
 
 -- a surface is black exactly when both colours have squared length ≤0
 pub black-exactly : (albedo emissive : Vec3)
@@ -50,6 +50,6 @@ unfolding blackOf dotV ofBits Ieee.add Ieee.mul Ieee.le Ieee.lt Ieee.eq
 first-not-black = refl
 
 -- a surface that only glows is not black
-pub glowing : blackOf zeroV (vec zero32 zero32 (lit 0x3f800000)) ≡ false
+pub glowing : blackOf zeroV (vec zero32 zero32 one32) ≡ false
 unfolding blackOf dotV ofBits Ieee.add Ieee.mul Ieee.le Ieee.lt Ieee.eq
 glowing = refl

@@ -1,20 +1,18 @@
-// Biases, the frame of a normal with its hemisphere directions, and the light at a surface.
+// Biases, the basis of a normal with its hemisphere directions, and the light at a surface.
 ghost use mathlib.Core.Path.{_≡_};
 ghost use Prim.Native.Nat.{_<_};
 ghost use Rattle.bounce.specs.Biases.{biasesOf};
-ghost use Rattle.bounce.specs.Hemisphere.{upOf, frameOf, hemisphere, localAt, turnedBy, skyDirection};
+ghost use Rattle.bounce.specs.Hemisphere.{upOf, basisOf, hemisphere, localAt, turnedBy, skyDirection};
 ghost use Rattle.bounce.specs.Light.{faceNormal, facingOf, blackOf, slantOf, sunlightOf, skylightOf, reflectedOf};
 ghost use Rattle.bounce.specs.Lamps.{wayTo, unlitBy, lampRayFrom, lamplightOf};
+use super::Basis;
 use super::Biases;
-use super::Frame;
 use super::Way;
 use harmonics::Coefficients;
+use names::THIN_LIMIT;
 use vectors::Ray;
 use vectors::Triangle;
 use vectors::Vec3;
-
-// "or with squared distance at most 1e-12"
-const THIN_LIMIT: f32 = 1.0e-12;
 
 // ---- biases
 
@@ -32,7 +30,7 @@ pub fn biases_of(diagonal: f32, smallest: f32) -> Biases
     }
 }
 
-// ---- the frame of a normal
+// ---- the basis of a normal
 
 // Z, or X where the normal is within some 2.6 degrees of Z.
 fn up(normal: Vec3) -> Vec3
@@ -52,12 +50,12 @@ fn up(normal: Vec3) -> Vec3
     }
 }
 
-pub fn frame_of(normal: Vec3) -> Frame
-    ensures { λ r. ⌜ r ≡ frameOf normal ⌝ }
+pub fn basis_of(normal: Vec3) -> Basis
+    ensures { λ r. ⌜ r ≡ basisOf normal ⌝ }
 {
     let tangent = vectors::normalise(vectors::cross(normal, up(normal)));
     let bitangent = vectors::cross(normal, tangent);
-    Frame {
+    Basis {
         tangent,
         bitangent,
         normal,
@@ -222,22 +220,22 @@ fn local_at(table: &[f32; 12], j: usize) -> Vec3
     }
 }
 
-// A local direction in a frame, normalised.
-fn turn(frame: Frame, local: Vec3) -> Vec3
-    ensures { λ r. ⌜ r ≡ turnedBy frame local ⌝ }
+// A local direction in a basis, normalised.
+fn turn(basis: Basis, local: Vec3) -> Vec3
+    ensures { λ r. ⌜ r ≡ turnedBy basis local ⌝ }
 {
     let flat = vectors::add(
-        vectors::scale(frame.tangent, local.x),
-        vectors::scale(frame.bitangent, local.y),
+        vectors::scale(basis.tangent, local.x),
+        vectors::scale(basis.bitangent, local.y),
     );
-    vectors::normalise(vectors::add(flat, vectors::scale(frame.normal, local.z)))
+    vectors::normalise(vectors::add(flat, vectors::scale(basis.normal, local.z)))
 }
 
-// Hemisphere direction j of a frame.
-pub fn sky_direction(frame: Frame, table: &[f32; 12], j: usize) -> Vec3
+// Hemisphere direction j of a basis.
+pub fn sky_direction(basis: Basis, table: &[f32; 12], j: usize) -> Vec3
     requires { ⌜ now table ≡ hemisphere ⌝ }
     requires { ⌜ j < 4 ⌝ }
-    ensures { λ r. ⌜ r ≡ skyDirection frame j ⌝ }
+    ensures { λ r. ⌜ r ≡ skyDirection basis j ⌝ }
 {
-    turn(frame, local_at(table, j))
+    turn(basis, local_at(table, j))
 }

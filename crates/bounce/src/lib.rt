@@ -1,4 +1,4 @@
-// What a voxel's rays and a surface's light are made of, ray by ray, as gi.rs has them: biases, the rays themselves, the frame of a
+// What a voxel's rays and a surface's light are made of, ray by ray, as gi.rs has them: biases, the rays themselves, the basis of a
 // normal with its four hemisphere directions, and the light that a surface gives back. Nothing here traces a ray.
 use vectors::Vec3;
 
@@ -21,7 +21,7 @@ pub struct Way {
 }
 
 // A normal with its two tangents.
-pub struct Frame {
+pub struct Basis {
     pub tangent: Vec3,
     pub bitangent: Vec3,
     pub normal: Vec3,

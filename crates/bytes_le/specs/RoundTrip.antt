@@ -63,7 +63,7 @@ float-kept s k h n =
     ap bytes4 (toBits-ofBits binary32 (u32At s k) (word-lt _ _ _ _ (h k) (h (k + 1)) (h (k + 2)) (h (k + 3))) t)
     ∙ word-bytes _ _ _ _ (h k) (h (k + 1)) (h (k + 2)) (h (k + 3))
 
-one-cons : (s : List ℕ) (k m : ℕ) → k < length s → suc k ≡ m → drop k s ≡ getD s k 0 ∷ drop m s
+pub one-cons : (s : List ℕ) (k m : ℕ) → k < length s → suc k ≡ m → drop k s ≡ getD s k 0 ∷ drop m s
 one-cons s k m h e = drop-cons s k 0 h ∙ ap (λ (x : ℕ). getD s k 0 ∷ drop x s) e
 
 four-cons : (s : List ℕ) (k : ℕ) → k + 4 ≤ length s → drop k s ≡ getD s k 0 ∷ getD s (k + 1) 0 ∷ getD s (k + 2) 0 ∷ getD s (k + 3) 0 ∷ drop (k + 4) s

@@ -8,6 +8,7 @@ use mathlib.Core.List.{List, [], _∷_, _++_}
 use Prim.Native.Nat.{ℕ, zero, suc, _+_, _*_}
 use lib.Dec.{leb, ltb, eqb}
 use lib.ListN.{length, getD}
+use Rattle.names.specs.Numbers.{leastEntries, mostEntries, firstForeign, lastForeign}
 use Rattle.bytes_le.specs.Bytes.{u16At, u32At, bytes2, bytes4}
 use Rattle.grid.specs.declared.Axes.{Axes}
 use Rattle.contents.specs.declared.Kind.{Kind}
@@ -35,7 +36,7 @@ bodiesFrom entries = 12 + entries * 12
 -- head and contents are there
 unfoldable pub headed : List ℕ → Bool
 headed s =
-    leb 12 (length s) && (marked s && (leb 5 (entriesAt s) && (leb (entriesAt s) 16 && leb (bodiesFrom (entriesAt s)) (length s))))
+    leb 12 (length s) && (marked s && (leb leastEntries (entriesAt s) && (leb (entriesAt s) mostEntries && leb (bodiesFrom (entriesAt s)) (length s))))
 
 -- ---- the contents: twelve bytes an entry
 
@@ -55,7 +56,7 @@ kindOf k =
     (cond (eqb k 3) Active
     (cond (eqb k 4) Occupied
     (cond (eqb k 5) Corners
-    (cond (leb 128 k && leb k 255) Foreign Refused)))))
+    (cond (leb firstForeign k && leb k lastForeign) Foreign Refused)))))
 
 -- entry i may be of this kind and so long, in a file of n voxels
 unfoldable pub bodyFits : Kind → ℕ → ℕ → ℕ → Bool

@@ -1,6 +1,6 @@
 -- What good contents say: which entries may stand where, that the five required ones stand first, and where the bodies then lie.
 use mathlib.Core.Path.{_≡_, refl, sym, ap, _∙_, subst}
-use mathlib.Core.Bool.{Bool, true, false, cond, _&&_, false≢true}
+use mathlib.Core.Bool.{Bool, true, false, cond, _&&_, false≢true, and-eq-true-iff}
 use mathlib.Core.List.{List}
 use Prim.Native.Nat.{ℕ, zero, suc, _+_, _-_, _*_, _<_, _≤_}
 use native.Mathlib.Nat.{sub-zero}
@@ -11,10 +11,6 @@ use lib.ListN.{length}
 use Rattle.lists.specs.Fold.{ahead}
 use Rattle.contents.specs.Contents.{marked, entriesAt, bodiesFrom, headed, entryKindAt, offsetAt, lengthAt, kindOf, bodyFits, entryGood, contentsFrom, contentsGood}
 use Rattle.contents.specs.declared.Kind.the-variants.{Light, Coefficients, Active, Occupied, Corners, Foreign, Refused}
-
-and-out : (a b : Bool) → a && b ≡ true → (a ≡ true) × (b ≡ true)
-and-out true b e = (refl, e)
-and-out false b e = absurd (false≢true e)
 
 -- ---- one entry
 
@@ -33,12 +29,12 @@ fit-found k i long n e = go (eqb k 1) (eqb k 2) (eqb k 3) (eqb k 4) (eqb k 5) (l
   where
     go : (b₁ b₂ b₃ b₄ b₅ b₆ : Bool) → eqb k 1 ≡ b₁ → eqb k 2 ≡ b₂ → eqb k 3 ≡ b₃ → eqb k 4 ≡ b₄ → eqb k 5 ≡ b₅ → leb 128 k && leb k 255 ≡ b₆
         → bodyFits (cond b₁ Light (cond b₂ Coefficients (cond b₃ Active (cond b₄ Occupied (cond b₅ Corners (cond b₆ Foreign Refused)))))) i long n ≡ true → Fit k i long n
-    go true b₂ b₃ b₄ b₅ b₆ e₁ e₂ e₃ e₄ e₅ e₆ f = let p = and-out (eqb i 0) (eqb long (n * 4)) f in light (eqb-true k 1 e₁) (eqb-true i 0 (p .0)) (eqb-true long (n * 4) (p .1))
-    go false true b₃ b₄ b₅ b₆ e₁ e₂ e₃ e₄ e₅ e₆ f = let p = and-out (eqb i 1) (eqb long (n * 64)) f in coefficients (eqb-true k 2 e₂) (eqb-true i 1 (p .0)) (eqb-true long (n * 64) (p .1))
-    go false false true b₄ b₅ b₆ e₁ e₂ e₃ e₄ e₅ e₆ f = let p = and-out (eqb i 2) (eqb long n) f in active (eqb-true k 3 e₃) (eqb-true i 2 (p .0)) (eqb-true long n (p .1))
-    go false false false true b₅ b₆ e₁ e₂ e₃ e₄ e₅ e₆ f = let p = and-out (eqb i 3) (eqb long n) f in occupied (eqb-true k 4 e₄) (eqb-true i 3 (p .0)) (eqb-true long n (p .1))
-    go false false false false true b₆ e₁ e₂ e₃ e₄ e₅ e₆ f = let p = and-out (eqb i 4) (eqb long 24) f in corners (eqb-true k 5 e₅) (eqb-true i 4 (p .0)) (eqb-true long 24 (p .1))
-    go false false false false false true e₁ e₂ e₃ e₄ e₅ e₆ f = let p = and-out (leb 128 k) (leb k 255) e₆ in foreign (leb-true 128 k (p .0)) (leb-true k 255 (p .1)) (leb-true 5 i f)
+    go true b₂ b₃ b₄ b₅ b₆ e₁ e₂ e₃ e₄ e₅ e₆ f = let p = and-eq-true-iff (eqb i 0) (eqb long (n * 4)) .0 f in light (eqb-true k 1 e₁) (eqb-true i 0 (p .0)) (eqb-true long (n * 4) (p .1))
+    go false true b₃ b₄ b₅ b₆ e₁ e₂ e₃ e₄ e₅ e₆ f = let p = and-eq-true-iff (eqb i 1) (eqb long (n * 64)) .0 f in coefficients (eqb-true k 2 e₂) (eqb-true i 1 (p .0)) (eqb-true long (n * 64) (p .1))
+    go false false true b₄ b₅ b₆ e₁ e₂ e₃ e₄ e₅ e₆ f = let p = and-eq-true-iff (eqb i 2) (eqb long n) .0 f in active (eqb-true k 3 e₃) (eqb-true i 2 (p .0)) (eqb-true long n (p .1))
+    go false false false true b₅ b₆ e₁ e₂ e₃ e₄ e₅ e₆ f = let p = and-eq-true-iff (eqb i 3) (eqb long n) .0 f in occupied (eqb-true k 4 e₄) (eqb-true i 3 (p .0)) (eqb-true long n (p .1))
+    go false false false false true b₆ e₁ e₂ e₃ e₄ e₅ e₆ f = let p = and-eq-true-iff (eqb i 4) (eqb long 24) .0 f in corners (eqb-true k 5 e₅) (eqb-true i 4 (p .0)) (eqb-true long 24 (p .1))
+    go false false false false false true e₁ e₂ e₃ e₄ e₅ e₆ f = let p = and-eq-true-iff (leb 128 k) (leb k 255) .0 e₆ in foreign (leb-true 128 k (p .0)) (leb-true k 255 (p .1)) (leb-true 5 i f)
     go false false false false false false e₁ e₂ e₃ e₄ e₅ e₆ f = absurd (false≢true f)
 
 pub fit-given : (k i long n : ℕ) → Fit k i long n → bodyFits (kindOf k) i long n ≡ true
@@ -91,9 +87,9 @@ pub entry-found : (s : List ℕ) (n to i previous start : ℕ) → i < to → co
 unfolding entryGood
 entry-found s n to i previous start h e =
     let k : ℕ = entryKindAt s i in
-    let p = and-out (entryGood k previous (offsetAt s i) start (lengthAt s i) i n) _ (sym (contents-step s n to i previous start h) ∙ e) in
-    let q = and-out (ltb previous k) (eqb (offsetAt s i) start && bodyFits (kindOf k) i (lengthAt s i) n) (p .0) in
-    let r = and-out (eqb (offsetAt s i) start) (bodyFits (kindOf k) i (lengthAt s i) n) (q .1) in
+    let p = and-eq-true-iff (entryGood k previous (offsetAt s i) start (lengthAt s i) i n) _ .0 (sym (contents-step s n to i previous start h) ∙ e) in
+    let q = and-eq-true-iff (ltb previous k) (eqb (offsetAt s i) start && bodyFits (kindOf k) i (lengthAt s i) n) .0 (p .0) in
+    let r = and-eq-true-iff (eqb (offsetAt s i) start) (bodyFits (kindOf k) i (lengthAt s i) n) .0 (q .1) in
     record {
       above = ltb-true previous k (q .0);
       offset = eqb-true (offsetAt s i) start (r .0);
@@ -112,7 +108,7 @@ pub ends-within : (s : List ℕ) (n k i previous start : ℕ) → contentsFrom s
 unfolding contentsFrom
 ends-within s n zero i previous start e = omega (arith, eqb-true start (length s) e)
 ends-within s n (suc k) i previous start e =
-    let p = and-out (entryGood (entryKindAt s i) previous (offsetAt s i) start (lengthAt s i) i n) _ e in
+    let p = and-eq-true-iff (entryGood (entryKindAt s i) previous (offsetAt s i) start (lengthAt s i) i n) _ .0 e in
     omega (arith, ends-within s n k (i + 1) (entryKindAt s i) (start + lengthAt s i) (p .1))
 
 -- ---- where the five bodies lie in a file of n voxels
@@ -187,10 +183,10 @@ pub record Headed (s : List ℕ) : Type 0 where
 pub headed-found : (s : List ℕ) → headed s ≡ true → Headed s
 unfolding headed
 headed-found s e =
-    let p = and-out (leb 12 (length s)) _ e in
-    let q = and-out (marked s) _ (p .1) in
-    let r = and-out (leb 5 (entriesAt s)) _ (q .1) in
-    let t = and-out (leb (entriesAt s) 16) _ (r .1) in
+    let p = and-eq-true-iff (leb 12 (length s)) _ .0 e in
+    let q = and-eq-true-iff (marked s) _ .0 (p .1) in
+    let r = and-eq-true-iff (leb 5 (entriesAt s)) _ .0 (q .1) in
+    let t = and-eq-true-iff (leb (entriesAt s) 16) _ .0 (r .1) in
     record {
       long = leb-true 12 (length s) (p .0);
       mark = q .0;

@@ -8,14 +8,11 @@ ghost use Rattle.grid.specs.Grid.{voxels, AxesWithin};
 ghost use Rattle.contents.specs.Contents.{mark, marked, headed, axesAt, entriesAt, kindOf, bodyFits, entryGood, contentsGood, bodiesFrom, headOf, entryOf};
 use super::Kind;
 use grid::Axes;
+use names::LEAST_ENTRIES;
+use names::MOST_ENTRIES;
 
 // The mark of a volume file.
 const MARK: [u8; 4] = [b'V', b'G', b'R', b'D'];
-
-// "u16 entry count (5..16)"
-const LEAST_ENTRIES: u32 = 5;
-
-const MOST_ENTRIES: u32 = 16;
 
 // Whether head and contents are there: the mark, an entry count of 5 to 16, and as many entries.
 pub fn is_headed(s: &[u8]) -> bool
@@ -150,7 +147,7 @@ pub fn put_head(s: &mut [u8], axes: Axes)
     bytes_le::inner::put_u16(s, 10, LEAST_ENTRIES);
 }
 
-// Writes entry i.
+// Writes an entry of the contents, from byte `at` on.
 pub fn put_entry(s: &mut [u8], at: usize, kind: u32, offset: usize, long: usize)
     requires { ⌜ (at + 12 ≤ length (now s)) × (offset < 4294967296) × (long < 4294967296) ⌝ }
     ensures { λ _. ⌜ now (s .exit) ≡ sets (now (s .entry)) at (entryOf kind offset long) ⌝ }

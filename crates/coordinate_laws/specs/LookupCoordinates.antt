@@ -5,7 +5,7 @@ use mathlib.Core.List.{List}
 use native.Mathlib.Omega.{arith}
 use lib.Dec.{lit<}
 use lib.Ieee.{Float}
-use Rattle.names.specs.Numbers.{pointLimit}
+use Rattle.names.specs.Numbers.{positionLimit}
 use Rattle.names.specs.Passed.{passed}
 use Rattle.vectors.specs.declared.Vec3.{Vec3}
 use Rattle.grid.specs.declared.Axes.{Axes}
@@ -18,7 +18,7 @@ use Rattle.coordinate_laws.specs.Coordinates.{FiniteCoordinates, coordin
 
 -- rows 1, 2 and 11, as for each position of a frame too
 pub position-finite : (a : Axes) (c : Corners) (p : Vec3) → badAxes a ≡ false → badGrid c a ≡ false → badPosition p ≡ false → FiniteCoordinates a c p
-position-finite a c p ha hg hp = coordinates-finite a c p 1 ha hg (lit< tt) (within-each pointLimit p 1 12 point-value hp)
+position-finite a c p ha hg hp = coordinates-finite a c p 1 ha hg (lit< tt) (within-each positionLimit p 1 12 point-value hp)
 
 pub light-finite : (a : Axes) (c : Corners) (light : List Float) (p : Vec3) → lightRefusal a c light p ≡ 0 → FiniteCoordinates a c p
 light-finite a c light p e =

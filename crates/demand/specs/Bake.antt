@@ -1,6 +1,6 @@
--- The bake: sixteen numbers a voxel; a voxel is active by its mask entry; it costs and gets what the gather gives; 384 rays,
--- and 64 for each lamp, are the most that it may cost; before it is baked it holds ambient and its light; the mean is the 3×3×3 mean; refusals are the bake's rows. How these make up a call,
--- a run of calls and the unbroken bake is said once for any bake, by `call`, `run` and `unbroken` of the crate spread. Assumes nothing.
+-- The bake: sixteen numbers a voxel; a voxel is active by its mask entry; it costs and gets what the gather gives; 384 rays, and 64 for each lamp,
+-- are the most that it may cost; before it is baked it holds ambient and its light; the mean is the 3×3×3 mean; refusals are the bake's rows. How
+-- these make up a call, a run of calls and the unbroken bake is said once for any bake, by `call`, `run` and `unbroken` of the crate spread. Assumes nothing.
 use Prim.Native.Nat.{ℕ}
 use lib.Ieee.{Float}
 use Rattle.spread.specs.Spread.{Stage, Bake, Called, call}

@@ -13,7 +13,7 @@ use lib.Ieee.{Float, nan, ofBits, ofInt}
 use Rattle.spread.specs.Spread.{stage, Bake, Called, walk, call, run, EachAtLeast, NoneRefused}
 use Rattle.lists.specs.Any.{any}
 use Rattle.spread.specs.Bare.{bare, Agree, run-same}
-use Rattle.limits.specs.Some.{some}
+use Rattle.lists.specs.Some.{some}
 use Rattle.limits.specs.Limits.{within, badCoefficients}
 use Rattle.lists.specs.Fold.{fold}
 use Rattle.vectors.specs.Vectors.{addV, mulV, scaleV, dotV, largerV, clampOf, lerpV}

@@ -16,14 +16,14 @@ use Rattle.names.specs.Bits.{zero32, one32}
 use Rattle.names.specs.Numbers.{colourLimit, lightLimit, coefficientLimit}
 use Rattle.lists.specs.Fold.{length-tab}
 use Rattle.bounds.specs.BoundsLaws.{at-most-up, at-most-of-test, test-of-at-most, colour-value, light-value, coefficient-value}
-use Rattle.limits.specs.Some.{some}
+use Rattle.lists.specs.Some.{some}
+use Rattle.lists.specs.Laid.{laid, replaced, length-laid, length-replaced}
 use Rattle.limits.specs.Limits.{within, outside, badColour, badAmbient, badLight, badSky, badMask, badLights, badCoefficients}
 use Rattle.limits.specs.LimitsLaws.{either, any-of-three, within-between, vector-row, lights-row}
 use Rattle.limits.specs.declared.Ambient.{Ambient}
 use Rattle.means.specs.Box.{meanOf}
-use Rattle.spread.specs.Spread.{Stage, stage, Walked, laid, replaced, filled, started, anyActive, ended, accepted, call}
+use Rattle.spread.specs.Spread.{Stage, stage, Walked, filled, started, anyActive, ended, accepted, call}
 use Rattle.spread.specs.Walks.{Walks, walks, none, skip, stop, taken, walk-to}
-use Rattle.spread.specs.Contents.{length-laid, length-replaced}
 use Rattle.spread.specs.Demand.{Lasts}
 use Rattle.ends.specs.Ends.{ambientVoxel, ambientAt, meanOver}
 use Rattle.ends.specs.EndsLaws.{length-ambient}

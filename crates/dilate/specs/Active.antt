@@ -4,17 +4,14 @@ use mathlib.Core.Bool.{Bool, cond, _&&_}
 use mathlib.Core.List.{List}
 use Prim.Native.Nat.{ℕ, _+_}
 use lib.Dec.{leb}
+use Rattle.names.specs.Numbers.{reach}
 use Rattle.lists.specs.Fold.{tab}
 use Rattle.lists.specs.Any.{any}
 use Rattle.grid.specs.declared.Axes.{Axes}
 use Rattle.grid.specs.Grid.{voxels, indexOf, xOf, yOf, zOf}
 use Rattle.marks.specs.Marks.{isMarked}
 
--- how far a voxel may lie from an occupied one on an axis
-abbrev pub reach : ℕ
-reach = 2
-
--- a and b lie within that of each other
+-- a and b lie within reach of each other on an axis
 abbrev pub withinReach : ℕ → ℕ → Bool
 withinReach a b = leb a (b + reach) && leb b (a + reach)
 

@@ -5,11 +5,12 @@ use mathlib.Core.List.{List}
 use Prim.Native.Nat.{ℕ, _+_, _*_, _/_, _%_}
 use lib.Dec.{ltb}
 use lib.ListN.{set}
+use Rattle.names.specs.Numbers.{reach}
 use Rattle.lists.specs.Fold.{fold}
 use Rattle.lists.specs.Any.{any}
 use Rattle.grid.specs.declared.Axes.{Axes}
 use Rattle.marks.specs.Marks.{isMarked}
-use Rattle.dilate.specs.Active.{reach, withinReach}
+use Rattle.dilate.specs.Active.{withinReach}
 
 -- place k of a line, whose places are stride apart
 abbrev pub placeOn : ℕ → ℕ → ℕ → ℕ

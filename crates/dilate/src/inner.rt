@@ -7,9 +7,7 @@ ghost use Rattle.grid.specs.Grid.{voxels};
 ghost use Rattle.dilate.specs.Active.{activeOf};
 ghost use Rattle.dilate.specs.ByAxes.{lineDilated, dilateMiddle, dilateByAxes, pastReach};
 use grid::Axes;
-
-// "Active exactly when some occupied voxel lies within 2 on every axis."
-const REACH: usize = 2;
+use names::REACH;
 
 // The active mask of occupied, in active.
 pub fn dilate(axes: Axes, occupied: &[u8], active: &mut [u8])

@@ -8,7 +8,8 @@ use Prim.Native.Nat.{ℕ}
 use lib.ListN.{length, getD}
 use lib.Ieee.{Float, nan}
 use Rattle.names.specs.Bits.{zero32, one32}
-use Rattle.spread.specs.Spread.{laid, anyActive}
+use Rattle.lists.specs.Laid.{laid}
+use Rattle.spread.specs.Spread.{anyActive}
 use Rattle.grid.specs.declared.Axes.{Axes}
 use Rattle.limits.specs.declared.Ambient.{Ambient}
 use Rattle.means.specs.Box.{coefficientBlurOf}

@@ -4,8 +4,7 @@ use mathlib.Core.List.{List}
 use Prim.Native.Nat.{ℕ, _<_, _*_}
 use lib.ListN.{length}
 use lib.Ieee.{Float}
-use Rattle.spread.specs.Spread.{voxelPart}
-use Rattle.spread.specs.Contents.{length-laid, part-of-laid}
+use Rattle.lists.specs.Laid.{voxelPart, length-laid, part-of-laid}
 use Rattle.limits.specs.declared.Ambient.{Ambient}
 use Rattle.ends.specs.Ends.{ambientVoxel, ambientAt, filledOf}
 

@@ -22,12 +22,12 @@ use Rattle.grid.specs.declared.Axes.{Axes}
 use Rattle.grid.specs.declared.Corners.{Corners}
 use Rattle.grid.specs.Grid.{edgesOf, smallestEdgeOf}
 use Rattle.limits.specs.Limits.{within, upTo, outsideV, badAxes, badCorners, badEdges, wrongShare, wrongScene, tooMany, badPoints, badTriangle, badKinds, badFrom, badUses, badMaterials, badRay, badLights}
-use Rattle.limits.specs.Some.{some}
+use Rattle.lists.specs.Some.{some}
 use Rattle.triangle.specs.Meet.{absentOf, solvedOf, judgedOf, meetOf}
 use Rattle.triangle.specs.Places.{triangleAt}
 use Rattle.scan.specs.Hits.{before, insertOf, withMeet, hitsOf}
 use Rattle.scan.specs.Transmittance.{passOf, transmittanceOf}
-use Rattle.rays.specs.Rays.{meetRefusal, testValues, meetValues, wrongScratch, transmittanceRefusal}
+use Rattle.rays.specs.Rays.{meetRefusal, valuesOfTest, meetValues, wrongScratch, transmittanceRefusal}
 use Rattle.means.specs.Box.{lightBlurOf, squareAt, meanAt, meanIn, around, along}
 use Rattle.blurs.specs.Blurs.{wrongBlurLists, lightBlurRefusal}
 use Rattle.samples.specs.Samples.{densityOf, countOf, sampleCount, sideFrom, sideOf, shareOf, pointOf, cellOf, cellOn, indexWithin, sampleCell}
@@ -171,7 +171,7 @@ abbrev givens : List Figure → List (List ℕ)
 givens l = map (λ (f : Figure). f .given) l
 
 computed-figures : answers computed ≡ givens computed
-unfolding computed meetAnswer passing sampled masked blurAnswer looked triangleQ pointsQ downFrom stacked sheets upToCorner firstOf unlessRefused fold tab any magnitudeOf largerOf smallerOf toward rootOf addV subV scaleV dotV crossV lengthV edgesOf within upTo outsideV badAxes badCorners badEdges wrongShare wrongScene tooMany badPoints badTriangle badKinds badFrom badUses badMaterials badRay badLights some absentOf solvedOf judgedOf meetOf triangleAt before insertOf withMeet hitsOf passOf transmittanceOf meetRefusal testValues meetValues wrongScratch transmittanceRefusal lightBlurOf squareAt meanAt meanIn around along wrongBlurLists lightBlurRefusal smallestEdgeOf densityOf countOf sideFrom sideOf shareOf pointOf cellOn indexWithin cellOf sampleCell sampledIn touches occupiedIn occupiedEntry occupiedOf activeIn activeEntry activeOf markedCount wrongMasks masksRefusal clamped clampedCell betweenOf cellsFrom cellsOf blendOf blendedOf badLightCells lightAtOf Ieee.ofBits Ieee.ofFields Ieee.odd Ieee.toBits Ieee.neg Ieee.le Ieee.lt Ieee.eq Ieee.isNan Ieee.add Ieee.sub Ieee.mul Ieee.div Ieee.ofInt Ieee.toUnsigned Ieee.round Ieee.sum Ieee.units Ieee.size Ieee.span Ieee.climb
+unfolding computed meetAnswer passing sampled masked blurAnswer looked triangleQ pointsQ downFrom stacked sheets upToCorner firstOf unlessRefused fold tab any magnitudeOf largerOf smallerOf toward rootOf addV subV scaleV dotV crossV lengthV edgesOf within upTo outsideV badAxes badCorners badEdges wrongShare wrongScene tooMany badPoints badTriangle badKinds badFrom badUses badMaterials badRay badLights some absentOf solvedOf judgedOf meetOf triangleAt before insertOf withMeet hitsOf passOf transmittanceOf meetRefusal valuesOfTest meetValues wrongScratch transmittanceRefusal lightBlurOf squareAt meanAt meanIn around along wrongBlurLists lightBlurRefusal smallestEdgeOf densityOf countOf sideFrom sideOf shareOf pointOf cellOn indexWithin cellOf sampleCell sampledIn touches occupiedIn occupiedEntry occupiedOf activeIn activeEntry activeOf markedCount wrongMasks masksRefusal clamped clampedCell betweenOf cellsFrom cellsOf blendOf blendedOf badLightCells lightAtOf Ieee.ofBits Ieee.ofFields Ieee.odd Ieee.toBits Ieee.neg Ieee.le Ieee.lt Ieee.eq Ieee.isNan Ieee.add Ieee.sub Ieee.mul Ieee.div Ieee.ofInt Ieee.toUnsigned Ieee.round Ieee.sum Ieee.units Ieee.size Ieee.span Ieee.climb
 computed-figures = refl
 
 bake-figures : answers bakes ≡ givens bakes

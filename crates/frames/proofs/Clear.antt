@@ -19,7 +19,8 @@ use Rattle.vectors.specs.declared.Vec3.{Vec3}
 use Rattle.grid.specs.declared.Axes.{Axes}
 use Rattle.grid.specs.declared.Corners.{Corners}
 use Rattle.grid.specs.Grid.{voxels}
-use Rattle.limits.specs.Some.{some, none-out, none-in}
+use Rattle.lists.specs.Some.{some, none-out, none-in}
+use Rattle.lists.specs.Laid.{voxelPart}
 use Rattle.limits.specs.Limits.{outside, badAxes, badGrid, wrongLength, badLights, badCoefficients}
 use Rattle.limits.specs.LimitsLaws.{axes-row}
 use Rattle.lookup.specs.declared.Cells.{Cells}
@@ -27,7 +28,7 @@ use Rattle.lookup.specs.declared.LightAt.{LightAt}
 use Rattle.lookup.specs.declared.CoefficientsAt.{CoefficientsAt}
 use Rattle.lookup.specs.Place.{Inside, cellsOf, cellsRead, blendedOf}
 use Rattle.lookup.specs.PlaceLaws.{some-read, cells-read-inside, blended-same}
-use Rattle.lookup.specs.Lookup.{badLightCells, lightRefusal, lightBlend, lightAtOf, sixteen, badVolumeCells, coefficientRefusal, coefficientBlend, coefficientsAtOf, noNumbers}
+use Rattle.lookup.specs.Lookup.{badLightCells, lightRefusal, lightBlend, lightAtOf, badVolumeCells, coefficientRefusal, coefficientBlend, coefficientsAtOf, noNumbers}
 use Rattle.frames.specs.declared.FirstRefusal.{FirstRefusal}
 use Rattle.frames.specs.Frames.{frameRows, positionAt, refusedAt, leastRefused, firstRefusalOf, lightRefusalAt, lightFrameRefusal, lightFrameOf, coefficientRefusalAt, coefficientFrameRefusal}
 use Rattle.frames.specs.FramesLaws.{least-found, least-next, least-end, least-none, frame-row, frame-rows-passed}
@@ -64,14 +65,14 @@ clear-lights a c l clear p g t =
     none-read (voxels a) _ (cellsOf a c p) (cells-read-inside a c p (axes-row a .0 (g .axes)))
     (λ i h. none-out (outside lightLimit) l nan (g .whole t) i (omega arith))
 
-whole-cell : (l : List Float) (i : ℕ) → badCoefficients l ≡ false → i < length l / 16 → badCoefficients (sixteen l i) ≡ false
+whole-cell : (l : List Float) (i : ℕ) → badCoefficients l ≡ false → i < length l / 16 → badCoefficients (voxelPart 16 i l) ≡ false
 unfolding badCoefficients
 whole-cell l i e h =
-    none-in (outside coefficientLimit) (sixteen l i) nan
+    none-in (outside coefficientLimit) (voxelPart 16 i l) nan
     (λ j q.
     let b : j < min 16 (length l - i * 16) = simp (length-take, length-drop) at q in
     let m : j < 16 = omega arith in
-    let g : getD (sixteen l i) j nan ≡ getD l (i * 16 + j) nan = rw (getD-take 16 (drop (i * 16) l) j nan m, getD-drop (i * 16) l j nan) refl in
+    let g : getD (voxelPart 16 i l) j nan ≡ getD l (i * 16 + j) nan = rw (getD-take 16 (drop (i * 16) l) j nan m, getD-drop (i * 16) l j nan) refl in
     rw g (none-out (outside coefficientLimit) l nan e (i * 16 + j) (omega arith)))
 
 pub clear-volume : (a : Axes) (c : Corners) (l : List Float) (clear : Bool) (p : Vec3) → CoefficientGridGood a c l clear → clear ≡ true → badVolumeCells l (cellsOf a c p) ≡ false

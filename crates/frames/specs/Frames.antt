@@ -10,13 +10,13 @@ use lib.ListN.{length, getD}
 use lib.Ieee.{Float, nan}
 use Rattle.names.specs.Refusals.{Row, row, firstOf, unlessRefused}
 use Rattle.lists.specs.Fold.{tab}
+use Rattle.lists.specs.Laid.{laid}
 use Rattle.vectors.specs.declared.Vec3.{Vec3}
-use Rattle.vectors.specs.Vectors.{vec}
+use Rattle.vectors.specs.Places.{vecAt}
 use Rattle.grid.specs.declared.Axes.{Axes}
 use Rattle.grid.specs.declared.Corners.{Corners}
 use Rattle.grid.specs.Grid.{voxels}
 use Rattle.limits.specs.Limits.{badAxes, badGrid, wrongLength, wrongShare}
-use Rattle.spread.specs.Spread.{laid}
 use Rattle.lookup.specs.Lookup.{lightRefusal, lightAtOf, coefficientRefusal, coefficientsAtOf}
 use Rattle.frames.specs.declared.FirstRefusal.{FirstRefusal}
 
@@ -27,7 +27,7 @@ positionCount len = len / 3
 
 -- the position at place k
 abbrev pub positionAt : List Float → ℕ → Vec3
-positionAt positions k = vec (getD positions (k * 3) nan) (getD positions (k * 3 + 1) nan) (getD positions (k * 3 + 2) nan)
+positionAt positions k = vecAt positions (k * 3)
 
 -- the positions are no multiple of three, or there are not exactly `each` numbers of the answer for every position
 unfoldable pub wrongFrame : ℕ → ℕ → ℕ → Bool

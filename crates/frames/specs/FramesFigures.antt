@@ -13,9 +13,9 @@ use Rattle.vectors.specs.Vectors.{vec}
 use Rattle.grid.specs.declared.Axes.{Axes}
 use Rattle.grid.specs.declared.Corners.{Corners}
 use Rattle.grid.specs.Grid.{floatOf, edgesOf}
-use Rattle.limits.specs.Some.{some}
+use Rattle.lists.specs.Some.{some}
+use Rattle.lists.specs.Laid.{laid}
 use Rattle.limits.specs.Limits.{within, outsideV, badAxes, badCorners, badEdges, badCoefficients, wrongShare}
-use Rattle.spread.specs.Spread.{laid}
 use Rattle.lookup.specs.Place.{clamped, clampedCell, betweenOf, cellsFrom, cellsOf, blendOf, blendedOf}
 use Rattle.lookup.specs.Lookup.{badLightCells, lightAtOf, badVolumeCells, coefficientBlend, coefficientsAtOf}
 use Rattle.frames.specs.Frames.{wrongFrame, refusedAt, leastRefused, lightFrameRefusal, lightFrameOf, coefficientFrameRefusal, coefficientFrameOf}

@@ -15,14 +15,13 @@ use Rattle.names.specs.Bits.{zero32}
 use Rattle.names.specs.Refusals.{Row, row, firstOf, unlessRefused, FirstIs, first-given, kept, given}
 use Rattle.names.specs.Passed.{passed}
 use Rattle.lists.specs.Fold.{tab, ahead, length-tab, getD-tab}
+use Rattle.lists.specs.Laid.{laid, voxelPart, part-of-laid}
 use Rattle.grid.specs.declared.Axes.{Axes}
 use Rattle.grid.specs.declared.Corners.{Corners}
 use Rattle.grid.specs.Grid.{voxels}
 use Rattle.limits.specs.Limits.{badAxes, badGrid, wrongLength, wrongShare, badPosition}
 use Rattle.limits.specs.LimitsLaws.{either, share-row}
 use Rattle.vectors.specs.declared.Vec3.{Vec3}
-use Rattle.spread.specs.Spread.{laid, voxelPart}
-use Rattle.spread.specs.Contents.{part-of-laid}
 use Rattle.lookup.specs.Place.{cellsOf}
 use Rattle.lookup.specs.Lookup.{lightAtOf, badLightCells, coefficientsAtOf, coefficientBlend, coefficientRefusal, badVolumeCells}
 use Rattle.frames.specs.declared.FirstRefusal.{FirstRefusal}

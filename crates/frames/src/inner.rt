@@ -477,9 +477,5 @@ fn position(positions: &[f32], k: usize) -> Vec3
     requires { ⌜ k * 3 + 2 < length (now positions) ⌝ }
     ensures { λ r. ⌜ r ≡ positionAt (now (positions .entry)) k ⌝ }
 {
-    Vec3 {
-        x: positions[k * 3],
-        y: positions[k * 3 + 1],
-        z: positions[k * 3 + 2],
-    }
+    vectors::inner::vec_at(positions, k * 3)
 }

@@ -10,7 +10,7 @@ use Rattle.names.specs.Scene.{Scene}
 use Rattle.lists.specs.Fold.{fold}
 use Rattle.vectors.specs.declared.Vec3.{Vec3}
 use Rattle.vectors.specs.declared.Ray.{Ray}
-use Rattle.triangle.specs.Places.{vecAt}
+use Rattle.vectors.specs.Places.{vecAt}
 use Rattle.scan.specs.Nearest.{nearestOf, nearestTo}
 use Rattle.scan.specs.declared.Nearest.{Nearest}
 use Rattle.scan.specs.declared.Nearest.the-variants.{Nothing, At}

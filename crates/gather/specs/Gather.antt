@@ -22,7 +22,7 @@ use Rattle.grid.specs.Grid.{AxesWithin, voxels, xOf, yOf, zOf, floatOf, edgesOf
 use Rattle.limits.specs.declared.Light.{Light}
 use Rattle.limits.specs.declared.Ambient.{Ambient}
 use Rattle.limits.specs.Limits.{lampCount}
-use Rattle.triangle.specs.Places.{vecAt}
+use Rattle.vectors.specs.Places.{vecAt}
 use Rattle.scan.specs.Nearest.{nearestOf}
 use Rattle.scan.specs.declared.Nearest.{Nearest}
 use Rattle.scan.specs.declared.Nearest.the-variants.{Nothing, At}

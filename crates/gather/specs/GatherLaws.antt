@@ -13,7 +13,7 @@ use Rattle.lists.specs.Fold.{fold}
 use Rattle.vectors.specs.declared.Vec3.{Vec3}
 use Rattle.vectors.specs.declared.Ray.{Ray}
 use Rattle.limits.specs.Limits.{lampCount}
-use Rattle.triangle.specs.Places.{vecAt}
+use Rattle.vectors.specs.Places.{vecAt}
 use mathlib.Core.Bool.{Bool, true, false, cond}
 use Rattle.triangle.specs.declared.Meet.{Meet}
 use Rattle.triangle.specs.declared.Meet.the-variants.{Miss, Hit}

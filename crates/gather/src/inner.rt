@@ -48,7 +48,7 @@ pub fn gather_voxel(
 {
     let edges = grid::inner::edges(corners, axes);
     let setting = setting_of(edges, light, ambient);
-    let centre = centre_of(corners, axes, edges, i);
+    let centre = grid::inner::centre_of(corners.min, axes, edges, i);
     let first = first_of(axes, i);
     let all = gather_all(
         points,
@@ -91,22 +91,6 @@ pub fn setting_of(edges: Vec3, light: Light, ambient: Ambient) -> Setting
         colour,
         ambient,
     }
-}
-
-// The centre of voxel i, from the grid's edges.
-fn centre_of(corners: Corners, axes: Axes, edges: Vec3, i: usize) -> Vec3
-    requires { ⌜ AxesWithin axes ⌝ }
-    requires { ⌜ i < voxels axes ⌝ }
-    ensures { λ r. ⌜ r ≡ centreFrom (corners .min) edges (xOf axes i) (yOf axes i) (zOf axes i) ⌝ }
-{
-    let row = i / axes.width;
-    grid::inner::centre(
-        corners.min,
-        edges,
-        i % axes.width,
-        row % axes.height,
-        row / axes.height,
-    )
 }
 
 // Where the directions of voxel i begin.
@@ -206,7 +190,7 @@ fn gather_along(
     ensures { λ r. ⌜ r ≡ gatheredAlong (sceneOf (now (points .entry)) (now (uses .entry)) (now (kinds .entry)) (now (numbers .entry))) (now (lamps .entry)) setting centre (now (sky .entry)) k gathering ⌝ }
 {
     let direction = direction_at(table, k);
-    let above = surface::inner::three_at(sky, k * 3);
+    let above = vectors::inner::vec_at(sky, k * 3);
     let ray = primary_ray(setting, centre, direction);
     let back = look(
         points,

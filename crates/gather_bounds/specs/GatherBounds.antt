@@ -32,7 +32,7 @@ use Rattle.limits.specs.Limits.{within, upTo, wrongScene, tooMany, badPoints, b
 use Rattle.limits.specs.LimitsLaws.{either, any-of-three, points-row, materials-row, transmission-within, colour-within, sound, direction-row, sky-row, lights-row, lamp-row, lamps-row}
 use Rattle.limits.specs.declared.Light.{Light}
 use Rattle.limits.specs.declared.Ambient.{Ambient}
-use Rattle.triangle.specs.Places.{vecAt}
+use Rattle.vectors.specs.Places.{vecAt}
 use Rattle.scan.specs.Nearest.{nearestOf, nearestTo}
 use Rattle.scan.specs.declared.Nearest.{Nearest}
 use Rattle.scan.specs.declared.Nearest.the-variants.{Nothing, At}

@@ -10,7 +10,7 @@ use lib.ListN.{length, getD}
 use lib.Ieee as Ieee
 use lib.Ieee.{Float, nan, isNan, binary32}
 use Rattle.names.specs.Bits.{zero32, one32}
-use Rattle.names.specs.Numbers.{lampLimit, thinLimit}
+use Rattle.names.specs.Numbers.{lampLimit, thinLimit, faintLimit}
 use Rattle.names.specs.Scene.{Scene, Sound}
 use Rattle.lists.specs.Fold.{fold}
 use Rattle.floats.specs.FiniteLaws.{finite-number}
@@ -23,7 +23,8 @@ use Rattle.bounds.specs.VectorLaws.{each-up, add-each, sub-each, cross-each, do
 use Rattle.bounds.specs.NormalLaws.{thin-normal-within}
 use Rattle.limits.specs.declared.Lamp.{Lamp}
 use Rattle.limits.specs.Limits.{lampCount, lampAt}
-use Rattle.triangle.specs.Places.{vecAt, triangleAt}
+use Rattle.vectors.specs.Places.{vecAt}
+use Rattle.triangle.specs.Places.{triangleAt}
 use Rattle.triangle.specs.Meet.{absentOf}
 use Rattle.triangle.specs.Laws.{hit-met}
 use Rattle.triangle.specs.declared.Meet.{Meet}
@@ -33,7 +34,7 @@ use Rattle.scan.specs.declared.Nearest.{Nearest}
 use Rattle.scan.specs.declared.Nearest.the-variants.{Nothing, At}
 use Rattle.scan.specs.Hits.{hitsOf, placesOf}
 use Rattle.scan.specs.HitLaws.{places-below}
-use Rattle.scan.specs.Transmittance.{transmittanceOf, passOf, kindAt, transmissionAt, faintLimit}
+use Rattle.scan.specs.Transmittance.{transmittanceOf, passOf, kindAt, transmissionAt}
 use Rattle.bounce.specs.declared.Way.{Way}
 use Rattle.bounce.specs.Light.{faceNormal, blackOf, slantOf}
 use Rattle.bounce.specs.Lamps.{wayTo, unlitBy, lamplightOf}

@@ -12,10 +12,10 @@ use Rattle.names.specs.Scene.{Scene}
 use Rattle.vectors.specs.declared.Ray.{Ray}
 use Rattle.vectors.specs.declared.Triangle.{Triangle}
 use Rattle.grid.specs.declared.Axes.{Axes}
-use Rattle.rays.specs.Rays.{Values, metValues, foundValues, MeetAnswered, NearestAnswered}
+use Rattle.rays.specs.Rays.{Values, valuesOfMet, valuesOfFound, MeetAnswered, NearestAnswered}
 use Rattle.rays.specs.declared.Met.{Met}
 use Rattle.rays.specs.declared.Found.{Found}
-use Rattle.lookup.specs.Lookup.{sixteen, partRefusal, partOf}
+use Rattle.lookup.specs.Lookup.{partRefusal, partOf}
 use Rattle.geaidnosa.specs.declared.RayHit.{RayHit}
 use Rattle.geaidnosa.specs.declared.PartStart.{PartStart}
 use Rattle.geaidnosa.specs.Exports.{valuesOf, MeetTold, NearestTold, chosen, PartTold}
@@ -48,11 +48,11 @@ part-told-once axes volume scratch index unblurred r s a b =
 
 -- the struct holds the values of the enum that the public call answers on the same arguments
 pub meet-told-same : (ray : Ray) (triangle : Triangle) (m : Met) (r : RayHit) → MeetAnswered ray triangle m → MeetTold ray triangle r
-    → valuesOf r ≡ metValues m
+    → valuesOf r ≡ valuesOfMet m
 meet-told-same ray triangle m r a b = b .values ∙ sym (a .values)
 
 pub nearest-told-same : (scene : Scene) (ray : Ray) (f : Found) (r : RayHit) → NearestAnswered scene ray f → NearestTold scene ray r
-    → valuesOf r ≡ foundValues f
+    → valuesOf r ≡ valuesOfFound f
 nearest-told-same scene ray f r a b = b .values ∙ sym (a .values)
 
 -- ---- the part
@@ -67,6 +67,6 @@ part-told axes volume scratch index unblurred r h =
     let l = cond (chosen unblurred) scratch volume in
     rw (h .start, h .refusal) (by (eqb n 0) l)
   where
-    by : (b : Bool) (l : List Float) → cond b (sixteen l index) [] ≡ cond b (take 16 (drop (cond b (index * 16) 0) l)) []
+    by : (b : Bool) (l : List Float) → cond b (take 16 (drop (index * 16) l)) [] ≡ cond b (take 16 (drop (cond b (index * 16) 0) l)) []
     by true l = refl
     by false l = refl

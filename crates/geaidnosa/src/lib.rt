@@ -10,7 +10,7 @@ ghost use Rattle.floats.specs.Root.{rootOf};
 ghost use Rattle.floats.specs.Whole.{floorOf, ceilingOf};
 ghost use Rattle.directions.specs.Sets.{setOf};
 ghost use Rattle.directions.specs.Filled.{DirectionsFilled};
-ghost use Rattle.rays.specs.Rays.{refusedValues, hitValues, metValues, foundValues, TransmittanceAnswered};
+ghost use Rattle.rays.specs.Rays.{refusedValues, hitValues, valuesOfMet, valuesOfFound, TransmittanceAnswered};
 ghost use Rattle.masks.specs.Masks.{MasksFilled};
 ghost use Rattle.blurs.specs.Blurs.{LightBlurred, CoefficientsBlurred};
 ghost use Rattle.sun.specs.Sun.{SunAnswered};
@@ -426,7 +426,7 @@ pub extern "C" fn geaidnosa_smaller_bits(first: u32, second: u32) -> u32
 // ---- what stands for an enum
 
 fn met_told(m: Met) -> RayHit
-    ensures { λ r. ⌜ valuesOf r ≡ metValues m ⌝ }
+    ensures { λ r. ⌜ valuesOf r ≡ valuesOfMet m ⌝ }
 {
     match m {
         Met::Refused(refusal) => no_hit(refusal),
@@ -436,7 +436,7 @@ fn met_told(m: Met) -> RayHit
 }
 
 fn found_told(f: Found) -> RayHit
-    ensures { λ r. ⌜ valuesOf r ≡ foundValues f ⌝ }
+    ensures { λ r. ⌜ valuesOf r ≡ valuesOfFound f ⌝ }
 {
     match f {
         Found::Refused(refusal) => no_hit(refusal),

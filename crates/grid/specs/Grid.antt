@@ -65,9 +65,9 @@ abbrev pub diagonalOf : Vec3 → Float
 diagonalOf edges = lengthV edges
 
 -- 1e-6, below which the Rust takes no edge; within the limits it never acts
-abbrev pub leastEdge : Float
-leastEdge = lit 0x358637bd
+abbrev pub edgeFloor : Float
+edgeFloor = lit 0x358637bd
 
 -- the smallest of a voxel's edges
 unfoldable pub smallestEdgeOf : Vec3 → Float
-smallestEdgeOf edges = largerOf (smallerOf (edges .x) (smallerOf (edges .y) (edges .z))) leastEdge
+smallestEdgeOf edges = largerOf (smallerOf (edges .x) (smallerOf (edges .y) (edges .z))) edgeFloor

@@ -1,7 +1,7 @@
 // What the crates above compute of a grid that is within the limits.
 ghost use mathlib.Core.Path.{_≡_};
 ghost use Prim.Native.Nat.{_<_, _≤_};
-ghost use Rattle.grid.specs.Grid.{voxels, indexOf, floatOf, edgesOf, centreFrom, smallestEdgeOf, AxesWithin};
+ghost use Rattle.grid.specs.Grid.{voxels, indexOf, xOf, yOf, zOf, floatOf, edgesOf, centreFrom, smallestEdgeOf, AxesWithin};
 use super::Axes;
 use super::Corners;
 use vectors::Vec3;
@@ -55,6 +55,22 @@ pub fn centre(low: Vec3, edges: Vec3, x: usize, y: usize, z: usize) -> Vec3
         z: float(z),
     };
     vectors::add(start, vectors::mul(steps, edges))
+}
+
+// The centre of voxel i.
+pub fn centre_of(low: Vec3, axes: Axes, edges: Vec3, i: usize) -> Vec3
+    requires { ⌜ AxesWithin axes ⌝ }
+    requires { ⌜ i < voxels axes ⌝ }
+    ensures { λ r. ⌜ r ≡ centreFrom low edges (xOf axes i) (yOf axes i) (zOf axes i) ⌝ }
+{
+    let row = i / axes.width;
+    centre(
+        low,
+        edges,
+        i % axes.width,
+        row % axes.height,
+        row / axes.height,
+    )
 }
 
 // The smallest of a voxel's edges, at least 1e-6. (A voxel's diagonal is `vectors::length` of its edges.)

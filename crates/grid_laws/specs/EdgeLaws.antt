@@ -11,7 +11,7 @@ use Rattle.floats.specs.OrderLaws.{le-numbers, not-lt-le, le-transitive, lt-le-
 use Rattle.vectors.specs.declared.Vec3.{Vec3}
 use Rattle.grid.specs.declared.Axes.{Axes}
 use Rattle.grid.specs.declared.Corners.{Corners}
-use Rattle.grid.specs.Grid.{edgesOf, leastEdge, smallestEdgeOf}
+use Rattle.grid.specs.Grid.{edgesOf, edgeFloor, smallestEdgeOf}
 use Rattle.limits.specs.Limits.{badGrid}
 use Rattle.limits.specs.LimitsLaws.{grid-row}
 
@@ -49,19 +49,19 @@ under : (b x y s : Float) → (s ≡ x) ⊎ (s ≡ y) → le b x ≡ true → le
 under b x y s o h k = ⊎-elim (λ (e : s ≡ x). ap (le b) e ∙ h) (λ (e : s ≡ y). ap (le b) e ∙ k) o
 
 -- 1e-6 lies below 1/1024
-floor-below : lt leastEdge edgeLimit ≡ true
+floor-below : lt edgeFloor edgeLimit ≡ true
 unfolding lt ofBits
 floor-below = refl
 
-floor-number : isNan leastEdge ≡ false
+floor-number : isNan edgeFloor ≡ false
 unfolding isNan ofBits
 floor-number = refl
 
 -- so the larger of it and a number from 1/1024 up is that number
-floor-idle : (s : Float) → le edgeLimit s ≡ true → largerOf s leastEdge ≡ s
+floor-idle : (s : Float) → le edgeLimit s ≡ true → largerOf s edgeFloor ≡ s
 floor-idle s h =
     let n = le-numbers edgeLimit s h .1 in
-    larger-number s leastEdge n floor-number ∙ ap (λ (t : Bool). cond t s leastEdge) (lt-le-transitive leastEdge edgeLimit s floor-below h)
+    larger-number s edgeFloor n floor-number ∙ ap (λ (t : Bool). cond t s edgeFloor) (lt-le-transitive edgeFloor edgeLimit s floor-below h)
 
 smallest : (e : Vec3) → le edgeLimit (e .x) ≡ true → le edgeLimit (e .y) ≡ true → le edgeLimit (e .z) ≡ true → SmallestOf e (smallestEdgeOf e)
 unfolding smallestEdgeOf

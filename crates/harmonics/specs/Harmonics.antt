@@ -14,6 +14,10 @@ coefficients a b c d = record { c0 = a; c1 = b; c2 = c; c3 = d }
 abbrev pub zeroV : Vec3
 zeroV = vec zero32 zero32 zero32
 
+-- π
+abbrev pub pi32 : Float
+pi32 = lit 0x40490fdb
+
 -- ---- projection
 
 -- 0.282095 and 0.488603

@@ -7,11 +7,7 @@ use lib.Ieee.{Float, binary32, ofBits}
 use Rattle.names.specs.Bits.{lit, zero32, two32}
 use Rattle.vectors.specs.Vectors.{scaleV}
 use Rattle.harmonics.specs.declared.Coefficients.{Coefficients}
-use Rattle.harmonics.specs.Harmonics.{constantBasis, linearBasis, primaryWeight, constantIrradiance, linearIrradiance, floor32, luminanceOf, flooredOf}
-
--- π
-abbrev pub pi32 : Float
-pi32 = lit 0x40490fdb
+use Rattle.harmonics.specs.Harmonics.{pi32, constantBasis, linearBasis, primaryWeight, constantIrradiance, linearIrradiance, floor32, luminanceOf, flooredOf}
 
 -- π·0.282095
 pub constant-irradiance : constantIrradiance ≡ Ieee.mul binary32 pi32 constantBasis

@@ -15,7 +15,7 @@ use Rattle.grid.specs.declared.Corners.{Corners}
 use Rattle.grid.specs.Grid.{voxels}
 use Rattle.limits.specs.declared.Light.{Light}
 use Rattle.limits.specs.declared.Ambient.{Ambient}
-use Rattle.limits.specs.Limits.{badAxes, badGrid, wrongLength, tooShort, wrongScene, tooMany, badPoints, badMaterials, badLight, badAmbient, badSky, lampCount, wrongLamps, badLamps, pastCount, belowCost, badMask, badLights, badCoefficients}
+use Rattle.limits.specs.Limits.{badAxes, badGrid, wrongLength, tooShort, wrongScene, sceneRows, badLight, badAmbient, badSky, lampCount, wrongLamps, badLamps, pastCount, belowCost, badMask, badLights, badCoefficients}
 
 -- what stays the same from call to call
 pub record BakeInput : Type 0 where
@@ -57,12 +57,12 @@ voxelNumbers = 16
 
 -- 3: a lent list of the wrong length, by the lengths: of n voxels and t triangles
 unfoldable pub wrongLengths : ℕ → ℕ → ℕ → ℕ → ℕ → ℕ → ℕ → ℕ → ℕ → ℕ → Bool
-wrongLengths n t skyLong lampsLong activeLong lightsLong volumeLong scratchLong distancesLong placesLong =
-    (wrongLength skyLong skyNumbers || wrongLength activeLong n || wrongLength lightsLong n)
-    || (wrongLength volumeLong (n * voxelNumbers) || wrongLength scratchLong (n * voxelNumbers))
-    || tooShort distancesLong t
-    || tooShort placesLong t
-    || wrongLamps lampsLong
+wrongLengths n t skyLength lampsLength activeLength lightsLength volumeLength scratchLength distancesLength placesLength =
+    (wrongLength skyLength skyNumbers || wrongLength activeLength n || wrongLength lightsLength n)
+    || (wrongLength volumeLength (n * voxelNumbers) || wrongLength scratchLength (n * voxelNumbers))
+    || tooShort distancesLength t
+    || tooShort placesLength t
+    || wrongLamps lampsLength
 
 -- 7: bad light, ambient or sky number
 unfoldable pub badLighting : Light → Ambient → List Float → Bool
@@ -102,15 +102,13 @@ module _ (b : BakeInput) where
       row 1 (badAxes (b .axes))
       ∷ row 2 (badGrid (b .corners) (b .axes))
       ∷ row 3 (wrongBakeLists s)
-      ∷ row 4 (tooMany triangleCount (length (b .scene .kinds)))
-      ∷ row 5 (badPoints (b .scene .points))
-      ∷ row 6 (badMaterials (b .scene .uses) (b .scene .kinds) (b .scene .numbers))
-      ∷ row 7 (badLighting (b .light) (b .ambient) (b .sky))
+      ∷ sceneRows (b .scene)
+      (row 7 (badLighting (b .light) (b .ambient) (b .sky))
       ∷ row 19 (badLamps (b .lamps))
       ∷ row 9 (pastCount (s .progress) voxelCount)
       ∷ row 10 (belowCost (lampCount (b .lamps)) allowance)
       ∷ row 13 (badContents (b .active) (b .lights) (s .volume) (s .progress) voxelCount)
-      ∷ []
+      ∷ [])
 
   unfoldable pub bakeRefusal : Stage Float → ℕ → ℕ
   bakeRefusal s allowance = firstOf (bakeRows s allowance)

@@ -12,7 +12,7 @@ use Rattle.lists.specs.Any.{any}
 use Rattle.spread.specs.Spread.{Stage, stage}
 use Rattle.vectors.specs.Vectors.{vec, dotV}
 use Rattle.grid.specs.Grid.{edgesOf}
-use Rattle.limits.specs.Some.{some}
+use Rattle.lists.specs.Some.{some}
 use Rattle.limits.specs.Limits.{within, upTo, outsideV, badAxes, badCorners, badEdges, wrongShare, wrongScene, tooMany, badPoints, badKinds, badFrom, badUses, badMaterials, badDirection, badLight, badAmbient, badSky, lampAt, badLamp, badLamps, badMask, badLights, badCoefficients}
 use Rattle.intake.specs.Intake.{BakeInput, inputOf, wrongLengths, wrongBakeLists, badLighting, badVolume, badContents, bakeRows, bakeRefusal}
 

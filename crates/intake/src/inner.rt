@@ -11,13 +11,9 @@ use grid::Axes;
 use grid::Corners;
 use limits::Ambient;
 use limits::Light;
-
-// "With L lamps a voxel may cost 384+64L rays"
-const BARE_COST: u64 = 384;
-
-const LAMP_COST: u64 = 64;
-// Nine sets of 64 directions, three numbers each.
-const SKY_NUMBERS: usize = 1728;
+use names::BARE_COST;
+use names::LAMP_COST;
+use names::SKY_NUMBERS;
 
 // The number of the first row that holds, 0 where none does.
 pub fn judge(

@@ -1,4 +1,3 @@
 -- The numbers accepted: for each row of document 01's table what it is given for, and what its passing means.
-pub mod Some
 pub mod Limits
 pub mod LimitsLaws

@@ -5,20 +5,23 @@ use mathlib.Core.Bool.{Bool, true, false, cond, not, _&&_, _||_}
 use mathlib.Core.List.{List, [], _∷_}
 use Prim.Native.Nat.{ℕ, _+_, _*_, _/_, _%_}
 use lib.Dec.{ltb, leb, eqb}
-use lib.ListN.{length, getD}
+use lib.ListN.{length}
 use lib.Ieee as Ieee
-use lib.Ieee.{Float, nan, isNan}
+use lib.Ieee.{Float, isNan}
 use Rattle.names.specs.Bits.{zero32, one32}
-use Rattle.names.specs.Numbers.{axisLimit, triangleLimit, materialLimit, lampLimit, voxelCost, pointLimit, edgeLimit, colourLimit, directionLimit, thinLimit, lightLimit, coefficientLimit}
+use Rattle.names.specs.Numbers.{axisLimit, triangleLimit, materialLimit, lastKind, lampLimit, voxelCost, pointLimit, edgeLimit, colourLimit, lightDirectionLimit, originLimit, directionLimit, shortestLimit, positionLimit, lightLimit, coefficientLimit, thinLimit}
+use Rattle.names.specs.Refusals.{Row, row}
+use Rattle.names.specs.Scene.{Scene}
 use Rattle.lists.specs.Any.{any}
 use Rattle.vectors.specs.declared.Vec3.{Vec3}
 use Rattle.vectors.specs.declared.Ray.{Ray}
 use Rattle.vectors.specs.declared.Triangle.{Triangle}
-use Rattle.vectors.specs.Vectors.{vec, dotV}
+use Rattle.vectors.specs.Vectors.{dotV}
+use Rattle.vectors.specs.Places.{vecAt}
 use Rattle.grid.specs.declared.Axes.{Axes}
 use Rattle.grid.specs.declared.Corners.{Corners}
 use Rattle.grid.specs.Grid.{edgesOf}
-use Rattle.limits.specs.Some.{some}
+use Rattle.lists.specs.Some.{some}
 use Rattle.limits.specs.declared.Light.{Light}
 use Rattle.limits.specs.declared.Ambient.{Ambient}
 use Rattle.limits.specs.declared.Lamp.{Lamp}
@@ -102,10 +105,6 @@ badTriangle t = outsideV pointLimit (t .p0) || outsideV pointLimit (t .p1) || ou
 
 -- ---- 6: bad material
 
--- "kind other than 0 opaque or 1 translucent"
-abbrev pub lastKind : ℕ
-lastKind = 1
-
 unfoldable pub badKinds : List ℕ → Bool
 badKinds kinds = some (ltb lastKind) kinds
 
@@ -128,11 +127,20 @@ badUses uses m = some (leb m) uses
 unfoldable pub badMaterials : List ℕ → List ℕ → List Float → Bool
 badMaterials uses kinds numbers = badKinds kinds || badNumbers numbers || badUses uses (length kinds)
 
+-- ---- 4, 5 and 6 together: the rows of a scene's lists once their lengths fit, before the rows that follow
+
+abbrev pub sceneRows : Scene → List Row → List Row
+sceneRows scene rest =
+    row 4 (tooMany (length (scene .uses)) (length (scene .kinds)))
+    ∷ row 5 (badPoints (scene .points))
+    ∷ row 6 (badMaterials (scene .uses) (scene .kinds) (scene .numbers))
+    ∷ rest
+
 -- ---- 7: bad light, ambient or sky number
 
--- components up to 4,096, computed squared length above 1e-12
+-- "components up to 4,096, computed squared length above 1e-12"
 unfoldable pub badDirection : Vec3 → Bool
-badDirection d = outsideV pointLimit d || not (Ieee.lt thinLimit (dotV d d))
+badDirection d = outsideV lightDirectionLimit d || not (Ieee.lt thinLimit (dotV d d))
 
 abbrev pub badColour : Vec3 → Bool
 badColour c = outsideV colourLimit c
@@ -150,7 +158,7 @@ badSky l = some (outside colourLimit) l
 
 unfoldable pub badRay : Ray → Bool
 badRay r =
-    outsideV colourLimit (r .origin) || outsideV directionLimit (r .direction) || not (upTo colourLimit (r .shortest)) || isNan (r .longest)
+    outsideV originLimit (r .origin) || outsideV directionLimit (r .direction) || not (upTo shortestLimit (r .shortest)) || isNan (r .longest)
 
 -- ---- 9: progress above the voxel count
 
@@ -165,7 +173,7 @@ belowCost lamps allowance = ltb allowance (voxelCost lamps)
 -- ---- 11: bad position, or voxel index past the grid
 
 abbrev pub badPosition : Vec3 → Bool
-badPosition p = outsideV pointLimit p
+badPosition p = outsideV positionLimit p
 
 abbrev pub pastGrid : ℕ → ℕ → Bool
 pastGrid index n = leb n index
@@ -195,12 +203,12 @@ wrongLamps len = wrongLength (len % 6) 0
 unfoldable pub lampAt : List Float → ℕ → Lamp
 lampAt l j =
     record {
-      position = vec (getD l (j * 6) nan) (getD l (j * 6 + 1) nan) (getD l (j * 6 + 2) nan);
-      colour = vec (getD l (j * 6 + 3) nan) (getD l (j * 6 + 4) nan) (getD l (j * 6 + 5) nan);
+      position = vecAt l (j * 6);
+      colour = vecAt l (j * 6 + 3);
     }
 
 unfoldable pub badLamp : Lamp → Bool
-badLamp lamp = outsideV pointLimit (lamp .position) || badColour (lamp .colour)
+badLamp lamp = outsideV positionLimit (lamp .position) || badColour (lamp .colour)
 
 abbrev pub badLampAt : List Float → ℕ → Bool
 badLampAt lamps j = badLamp (lampAt lamps j)

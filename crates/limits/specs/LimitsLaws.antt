@@ -15,7 +15,7 @@ use lib.Ieee as Ieee
 use lib.Ieee.Scale.{finite}
 use lib.Ieee.{Float, nan, inf, fin, isNan}
 use Rattle.names.specs.Bits.{one32}
-use Rattle.names.specs.Numbers.{axisLimit, triangleLimit, materialLimit, lampLimit, pointLimit, edgeLimit, colourLimit, directionLimit, thinLimit, lightLimit, coefficientLimit}
+use Rattle.names.specs.Numbers.{axisLimit, triangleLimit, materialLimit, lastKind, lampLimit, pointLimit, edgeLimit, colourLimit, lightDirectionLimit, originLimit, directionLimit, shortestLimit, positionLimit, lightLimit, coefficientLimit, thinLimit}
 use Rattle.names.specs.Scene.{sceneOf, Sound}
 use Rattle.vectors.specs.declared.Vec3.{Vec3}
 use Rattle.vectors.specs.declared.Ray.{Ray}
@@ -25,8 +25,8 @@ use Rattle.grid.specs.declared.Corners.{Corners}
 use Rattle.grid.specs.Grid.{edgesOf, AxesWithin}
 use Rattle.lists.specs.Any.{any, any-in, any-out}
 use Rattle.limits.specs.declared.Lamp.{Lamp}
-use Rattle.limits.specs.Some.{some, none-out, none-in}
-use Rattle.limits.specs.Limits.{within, outside, upTo, outsideV, badAxis, badAxes, badCorners, badEdges, badGrid, wrongShare, wrongScene, tooMany, badPoints, lastKind, badKinds, badNumber, badFrom, badNumbers, badUses, badMaterials, badDirection, badSky, badRay, badMask, badLights, badCoefficients, lampCount, lampAt, badLamp, badLampAt, badLamps}
+use Rattle.lists.specs.Some.{some, none-out, none-in}
+use Rattle.limits.specs.Limits.{within, outside, upTo, outsideV, badAxis, badAxes, badCorners, badEdges, badGrid, wrongShare, wrongScene, tooMany, badPoints, badKinds, badNumber, badFrom, badNumbers, badUses, badMaterials, badDirection, badSky, badRay, badMask, badLights, badCoefficients, lampCount, lampAt, badLamp, badLampAt, badLamps}
 
 -- ---- tests joined
 
@@ -233,13 +233,15 @@ from-in k (x ∷ l) f =
       from-in (k + 1) l (λ i h. let s : k + suc i ≡ k + 1 + i = omega arith in rw s at (f (suc i) (omega arith))),
     )
 
--- the numbers at 7·k + 6 are transmissions and lie from 0 to 1; the others are colours and lie within ±65,536
+-- every number is good at its place
 pub numbers-row : (l : List Float) → (badNumbers l ≡ false) ↔ ((i : ℕ) → i < length l → badNumber i (getD l i nan) ≡ false)
 numbers-row l = (λ e i h. rw (zero-add i) at (from-out 0 l e i h), λ f. from-in 0 l (λ i h. rw (zero-add i) (f i h)))
 
+-- those at 7·k + 6 are transmissions and lie from 0 to 1
 pub transmission-within : (l : List Float) → badNumbers l ≡ false → (i : ℕ) → i < length l → i % 7 ≡ 6 → upTo one32 (getD l i nan) ≡ true
 transmission-within l e i h s = not-false _ (rw (eq-eqb (i % 7) 6 s) at (numbers-row l .0 e i h))
 
+-- the others are colours and lie within ±65,536
 pub colour-within : (l : List Float) → badNumbers l ≡ false → (i : ℕ) → i < length l → (i % 7 ≡ 6 → ⊥) → within colourLimit (getD l i nan) ≡ true
 colour-within l e i h s = not-false _ (rw (ne-eqb (i % 7) 6 s) at (numbers-row l .0 e i h))
 
@@ -270,7 +272,7 @@ sound points uses kinds numbers p q r =
 -- ---- 7
 
 -- every component lies within ±4,096, and the squared length is above 1e-12
-pub direction-row : (d : Vec3) → (badDirection d ≡ false) ↔ ((outsideV pointLimit d ≡ false) × (Ieee.lt thinLimit (dotV d d) ≡ true))
+pub direction-row : (d : Vec3) → (badDirection d ≡ false) ↔ ((outsideV lightDirectionLimit d ≡ false) × (Ieee.lt thinLimit (dotV d d) ≡ true))
 unfolding badDirection
 direction-row d = (λ e. let p = or-out _ _ e in (p .0, not-false _ (p .1)), λ h. or-in _ _ (h .0, ap not (h .1)))
 
@@ -282,9 +284,9 @@ sky-row l = all-within colourLimit l
 
 pub ray-row : (r : Ray)
     → (badRay r ≡ false)
-    ↔ ((outsideV colourLimit (r .origin) ≡ false)
+    ↔ ((outsideV originLimit (r .origin) ≡ false)
     × (outsideV directionLimit (r .direction) ≡ false)
-    × (upTo colourLimit (r .shortest) ≡ true)
+    × (upTo shortestLimit (r .shortest) ≡ true)
     × (isNan (r .longest) ≡ false))
 unfolding badRay
 ray-row r = (
@@ -311,7 +313,7 @@ coefficients-row l = all-within coefficientLimit l
 
 -- ---- 19
 
-pub lamp-row : (lamp : Lamp) → (badLamp lamp ≡ false) ↔ ((outsideV pointLimit (lamp .position) ≡ false) × (outsideV colourLimit (lamp .colour) ≡ false))
+pub lamp-row : (lamp : Lamp) → (badLamp lamp ≡ false) ↔ ((outsideV positionLimit (lamp .position) ≡ false) × (outsideV colourLimit (lamp .colour) ≡ false))
 unfolding badLamp
 lamp-row lamp = either _ _
 

@@ -5,7 +5,7 @@ ghost use mathlib.Core.Bool.{not};
 ghost use lib.ListN.{length};
 ghost use Rattle.grid.specs.Grid.{AxesWithin};
 ghost use Rattle.names.specs.Numbers.{lightLimit};
-ghost use Rattle.limits.specs.Some.{some};
+ghost use Rattle.lists.specs.Some.{some};
 ghost use Rattle.limits.specs.Limits.{within, outside, upTo, outsideV, badAxes, badCorners, badEdges, badGrid, wrongShare, wrongScene, tooMany, badPoints, badTriangle, badKinds, badNumber, badNumbers, badUses, badMaterials, badDirection, badColour, badLight, badAmbient, badSky, badRay, badPosition, badMask, badLights, badCoefficients, lampCount, lampAt, badLamp, badLamps};
 ghost use lib.Dec.{ltb, leb};
 use super::Ambient;
@@ -13,34 +13,25 @@ use super::Lamp;
 use super::Light;
 use grid::Axes;
 use grid::Corners;
+use names::AXIS_LIMIT;
+use names::COEFFICIENT_LIMIT;
+use names::COLOUR_LIMIT;
+use names::DIRECTION_LIMIT;
+use names::EDGE_LIMIT;
+use names::LAMP_LIMIT;
+use names::LAST_KIND;
+use names::LIGHT_DIRECTION_LIMIT;
+use names::LIGHT_LIMIT;
+use names::MATERIAL_LIMIT;
+use names::ORIGIN_LIMIT;
+use names::POINT_LIMIT;
+use names::POSITION_LIMIT;
+use names::SHORTEST_LIMIT;
+use names::THIN_LIMIT;
+use names::TRIANGLE_LIMIT;
 use vectors::Ray;
 use vectors::Triangle;
 use vectors::Vec3;
-
-// "Each axis 1..32 voxels."
-const AXIS_LIMIT: usize = 32;
-// "Triangles 0..4,096, materials 0..256."
-const TRIANGLE_LIMIT: usize = 4096;
-
-const MATERIAL_LIMIT: usize = 256;
-// "Corners and triangle points finite, magnitude at most 4,096"
-const POINT_LIMIT: f32 = 4096.0;
-// "each computed voxel edge at least 1/1024"
-const EDGE_LIMIT: f32 = 0.0009765625;
-// "Colours, ambient and sky numbers finite, at most 65,536 in magnitude"
-const COLOUR_LIMIT: f32 = 65536.0;
-// "direction components within ±2"
-const DIRECTION_LIMIT: f32 = 2.0;
-// "computed squared length above 1e-12"
-const THIN_LIMIT: f32 = 1.0e-12;
-// "light or coefficient not finite or beyond ±2^64"
-const LIGHT_LIMIT: f32 = 18446744073709551616.0;
-// "13 lets a coefficient reach ±2^96"
-const COEFFICIENT_LIMIT: f32 = 79228162514264337593543950336.0;
-// "Up to eight point lamps per hall"
-const LAMP_LIMIT: usize = 8;
-// "kind other than 0 opaque or 1 translucent"
-const LAST_KIND: u8 = 1;
 
 // ---- one number, and three
 
@@ -166,7 +157,7 @@ fn bad_numbers(numbers: &[f32]) -> bool
 pub fn bad_direction(d: Vec3) -> bool
     ensures { λ r. ⌜ r ≡ badDirection d ⌝ }
 {
-    vector_out_of(POINT_LIMIT, d) | !(THIN_LIMIT < vectors::dot(d, d))
+    vector_out_of(LIGHT_DIRECTION_LIMIT, d) | !(THIN_LIMIT < vectors::dot(d, d))
 }
 
 pub fn bad_colour(c: Vec3) -> bool
@@ -198,8 +189,8 @@ pub fn bad_sky(sky: &[f32]) -> bool
 pub fn bad_ray(ray: Ray) -> bool
     ensures { λ r. ⌜ r ≡ badRay ray ⌝ }
 {
-    let ends = not_up_to(COLOUR_LIMIT, ray.shortest);
-    let origin = vector_out_of(COLOUR_LIMIT, ray.origin);
+    let ends = not_up_to(SHORTEST_LIMIT, ray.shortest);
+    let origin = vector_out_of(ORIGIN_LIMIT, ray.origin);
     let direction = vector_out_of(DIRECTION_LIMIT, ray.direction);
     origin | direction | ends | (ray.longest != ray.longest)
 }
@@ -209,7 +200,7 @@ pub fn bad_ray(ray: Ray) -> bool
 pub fn bad_position(p: Vec3) -> bool
     ensures { λ r. ⌜ r ≡ badPosition p ⌝ }
 {
-    vector_out_of(POINT_LIMIT, p)
+    vector_out_of(POSITION_LIMIT, p)
 }
 
 // ---- 13
@@ -254,23 +245,15 @@ pub fn lamp_at(lamps: &[f32], j: usize) -> Lamp
     ensures { λ r. ⌜ r ≡ lampAt (now (lamps .entry)) j ⌝ }
 {
     let k = j * 6;
-    let position = Vec3 {
-        x: lamps[k],
-        y: lamps[k + 1],
-        z: lamps[k + 2],
-    };
-    let colour = Vec3 {
-        x: lamps[k + 3],
-        y: lamps[k + 4],
-        z: lamps[k + 5],
-    };
+    let position = vectors::inner::vec_at(lamps, k);
+    let colour = vectors::inner::vec_at(lamps, k + 3);
     Lamp { position, colour }
 }
 
 fn bad_lamp(lamp: Lamp) -> bool
     ensures { λ r. ⌜ r ≡ badLamp lamp ⌝ }
 {
-    vector_out_of(POINT_LIMIT, lamp.position) | bad_colour(lamp.colour)
+    vector_out_of(POSITION_LIMIT, lamp.position) | bad_colour(lamp.colour)
 }
 
 // More than eight lamps, or a bad one.
@@ -291,7 +274,7 @@ pub fn bad_lamps(lamps: &[f32]) -> bool
     false
 }
 
-// ---- scans, without a way out: then several entries are tested at once
+// ---- scans: where one goes to the end of the list, several entries are tested at once
 
 // Whether some number of a list is not finite, or beyond ±b.
 pub fn any_out_of(l: &[f32], b: f32) -> bool

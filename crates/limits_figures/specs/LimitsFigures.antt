@@ -12,7 +12,7 @@ use Rattle.vectors.specs.declared.Ray.{Ray}
 use Rattle.vectors.specs.Vectors.{vec, dotV}
 use Rattle.grid.specs.declared.Corners.{Corners}
 use Rattle.grid.specs.Grid.{edgesOf}
-use Rattle.limits.specs.Some.{some}
+use Rattle.lists.specs.Some.{some}
 use Rattle.limits.specs.Limits.{within, upTo, outsideV, badAxes, badCorners, badEdges, badGrid, wrongShare, tooMany, badPoints, badKinds, badFrom, badUses, badMaterials, badDirection, badRay, pastCount, badPosition, pastGrid, badMask, belowCost, wrongLamps, lampAt, badLamp, badLamps}
 
 -- ±4,096 pass and the next floats do not; −0 passes; NaN and the infinities do not

@@ -8,6 +8,7 @@ use lib.ListN.{getD, take, drop}
 use lib.Ieee.{Float, nan}
 use Rattle.names.specs.Bits.{zero32}
 use Rattle.names.specs.Refusals.{kept, given}
+use Rattle.lists.specs.Laid.{voxelPart}
 use Rattle.vectors.specs.declared.Vec3.{Vec3}
 use Rattle.grid.specs.declared.Axes.{Axes}
 use Rattle.grid.specs.declared.Corners.{Corners}
@@ -16,7 +17,7 @@ use Rattle.lookup.specs.declared.CoefficientsAt.{CoefficientsAt}
 use Rattle.lookup.specs.declared.Cells.{Cells}
 use Rattle.lookup.specs.Place.{cellsOf, blendedOf}
 use Rattle.lookup.specs.PlaceLaws.{blended-same}
-use Rattle.lookup.specs.Lookup.{lightRefusal, lightBlend, lightAtOf, coefficientRefusal, coefficientBlend, noNumbers, coefficientsAtOf, sixteen, partRefusal, partOf}
+use Rattle.lookup.specs.Lookup.{lightRefusal, lightBlend, lightAtOf, coefficientRefusal, coefficientBlend, noNumbers, coefficientsAtOf, partRefusal, partOf}
 
 module _ (a : Axes) (c : Corners) (l : List Float) (p : Vec3) where
   pub light-refused : (k : ℕ) → (k ≡ 0 → ⊥) → k ≡ lightRefusal a c l p → _≡_ {A = LightAt} (record { refusal = k; light = zero32 }) (lightAtOf a c l p)
@@ -46,7 +47,7 @@ pub shown : (a : Axes) (v s : List Float) (i : ℕ) (b : Bool) (x : List Float)
     → take (i * 16 + 16 - i * 16) (drop (i * 16) x) ≡ partOf a v s i b
 unfolding partOf
 shown a v s i b x e f =
-    let d : i * 16 + 16 - i * 16 ≡ 16 = omega arith in rw (d, sym f) (given _ (sixteen (cond b s v) i) [] (sym e))
+    let d : i * 16 + 16 - i * 16 ≡ 16 = omega arith in rw (d, sym f) (given _ (voxelPart 16 i (cond b s v)) [] (sym e))
 
 pub hidden : (a : Axes) (v s : List Float) (i : ℕ) (b : Bool) → (partRefusal a v s i b ≡ 0 → ⊥) → [] ≡ partOf a v s i b
 unfolding partOf

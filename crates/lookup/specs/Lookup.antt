@@ -4,17 +4,18 @@ use mathlib.Core.Path.{_≡_, sym, _∙_}
 use mathlib.Core.Bool.{Bool, cond, _||_}
 use mathlib.Core.List.{List, [], _∷_}
 use Prim.Native.Nat.{ℕ, _+_, _*_}
-use lib.ListN.{length, getD, take, drop, replicate}
+use lib.ListN.{length, getD, replicate}
 use lib.Ieee.{Float, nan}
 use Rattle.names.specs.Bits.{zero32}
 use Rattle.names.specs.Numbers.{lightLimit}
 use Rattle.names.specs.Refusals.{Row, row, firstOf, unlessRefused}
 use Rattle.lists.specs.Fold.{tab}
+use Rattle.lists.specs.Some.{some}
+use Rattle.lists.specs.Laid.{voxelPart}
 use Rattle.vectors.specs.declared.Vec3.{Vec3}
 use Rattle.grid.specs.declared.Axes.{Axes}
 use Rattle.grid.specs.declared.Corners.{Corners}
 use Rattle.grid.specs.Grid.{voxels}
-use Rattle.limits.specs.Some.{some}
 use Rattle.limits.specs.Limits.{outside, badAxes, badGrid, wrongLength, badPosition, pastGrid, badCoefficients}
 use Rattle.lookup.specs.declared.LightAt.{LightAt}
 use Rattle.lookup.specs.declared.CoefficientsAt.{CoefficientsAt}
@@ -52,13 +53,9 @@ lightAtOf a c light p =
 
 -- ---- the four coefficients at a position, sixteen numbers
 
--- the sixteen numbers of cell i
-abbrev pub sixteen : List Float → ℕ → List Float
-sixteen volume i = take 16 (drop (i * 16) volume)
-
 -- one of the sixteen numbers of a cell read is not finite or beyond ±2^96
 unfoldable pub badVolumeCells : List Float → Cells → Bool
-badVolumeCells volume c = some (λ (i : ℕ). badCoefficients (sixteen volume i)) (cellsRead c)
+badVolumeCells volume c = some (λ (i : ℕ). badCoefficients (voxelPart 16 i volume)) (cellsRead c)
 
 abbrev pub coefficientRows : Axes → Corners → List Float → Vec3 → List Row
 coefficientRows a c volume p =
@@ -103,7 +100,7 @@ partRefusal a volume scratch index unblurred = firstOf (partRows a volume scratc
 
 unfoldable pub partOf : Axes → List Float → List Float → ℕ → Bool → List Float
 partOf a volume scratch index unblurred =
-    unlessRefused (partRefusal a volume scratch index unblurred) (sixteen (cond unblurred scratch volume) index) []
+    unlessRefused (partRefusal a volume scratch index unblurred) (voxelPart 16 index (cond unblurred scratch volume)) []
 
 -- ---- the contracts
 

@@ -14,7 +14,7 @@ use Rattle.vectors.specs.Vectors.{vec}
 use Rattle.grid.specs.declared.Axes.{Axes}
 use Rattle.grid.specs.declared.Corners.{Corners}
 use Rattle.grid.specs.Grid.{edgesOf}
-use Rattle.limits.specs.Some.{some}
+use Rattle.lists.specs.Some.{some}
 use Rattle.limits.specs.Limits.{within, outsideV, badAxes, badCorners, badEdges, badCoefficients}
 use Rattle.lookup.specs.declared.LightAt.{LightAt}
 use Rattle.lookup.specs.declared.CoefficientsAt.{CoefficientsAt}

@@ -12,7 +12,8 @@ use lib.Seq.{getD-take, getD-drop}
 use lib.Ieee.{Float, nan}
 use Rattle.names.specs.Numbers.{lightLimit}
 use Rattle.lists.specs.Fold.{tab-same}
-use Rattle.limits.specs.Some.{some}
+use Rattle.lists.specs.Some.{some}
+use Rattle.lists.specs.Laid.{voxelPart}
 use Rattle.limits.specs.Limits.{outside, badCoefficients}
 use Rattle.lookup.specs.declared.Cells.{Cells}
 use Rattle.lookup.specs.declared.LightAt.{LightAt}
@@ -26,7 +27,7 @@ use Rattle.grid.specs.declared.Corners.{Corners}
 use Rattle.grid.specs.Grid.{voxels, AxesWithin}
 use Rattle.grid.specs.GridLaws.{voxels-most}
 use Rattle.limits.specs.LimitsLaws.{axes-row, either}
-use Rattle.lookup.specs.Lookup.{badLightCells, lightRows, lightAtOf, badVolumeCells, coefficientRows, numberBlend, coefficientBlend, coefficientsAtOf, partRows, partRefusal, partOf, sixteen, LightLookedUp, CoefficientsLookedUp, PartJudged}
+use Rattle.lookup.specs.Lookup.{badLightCells, lightRows, lightAtOf, badVolumeCells, coefficientRows, numberBlend, coefficientBlend, coefficientsAtOf, partRows, partRefusal, partOf, LightLookedUp, CoefficientsLookedUp, PartJudged}
 
 -- ---- the refusals
 
@@ -52,10 +53,10 @@ part-refused-by a volume scratch index unblurred r h = refused-by (partRows a vo
 -- ---- no number but those of the eight cells changes an answer
 
 -- what stands at place k of the sixteen
-in-sixteen : (l m : List Float) (i k : ℕ) → k < 16 → sixteen l i ≡ sixteen m i → getD l (i * 16 + k) nan ≡ getD m (i * 16 + k) nan
+in-sixteen : (l m : List Float) (i k : ℕ) → k < 16 → voxelPart 16 i l ≡ voxelPart 16 i m → getD l (i * 16 + k) nan ≡ getD m (i * 16 + k) nan
 in-sixteen l m i k h e = sym (at l) ∙ ap (λ (t : List Float). getD t k nan) e ∙ at m
   where
-    at : (t : List Float) → getD (sixteen t i) k nan ≡ getD t (i * 16 + k) nan
+    at : (t : List Float) → getD (voxelPart 16 i t) k nan ≡ getD t (i * 16 + k) nan
     at t = rw (getD-take, getD-drop)
 
 some-same : (f g : ℕ → Bool) (l : List ℕ) → ((i : ℕ) → List·Memᴰ i l → f i ≡ g i) → some f l ≡ some g l
@@ -88,18 +89,18 @@ unfolding lightAtOf
 light-reads-only a c l m p e r =
     rw (e, bad-same (cellsOf a c p) l m r, blend-same (cellsOf a c p) (λ (i : ℕ). getD l i nan) (λ (i : ℕ). getD m i nan) r)
 
-bad-volume-same : (c : Cells) (l m : List Float) → ((i : ℕ) → List·Memᴰ i (cellsRead c) → sixteen l i ≡ sixteen m i) → badVolumeCells l c ≡ badVolumeCells m c
+bad-volume-same : (c : Cells) (l m : List Float) → ((i : ℕ) → List·Memᴰ i (cellsRead c) → voxelPart 16 i l ≡ voxelPart 16 i m) → badVolumeCells l c ≡ badVolumeCells m c
 unfolding badVolumeCells
 bad-volume-same c l m e = some-same _ _ (cellsRead c) (λ i h. ap badCoefficients (e i h))
 
-numbers-same : (c : Cells) (l m : List Float) → ((i : ℕ) → List·Memᴰ i (cellsRead c) → sixteen l i ≡ sixteen m i) → coefficientBlend l c ≡ coefficientBlend m c
+numbers-same : (c : Cells) (l m : List Float) → ((i : ℕ) → List·Memᴰ i (cellsRead c) → voxelPart 16 i l ≡ voxelPart 16 i m) → coefficientBlend l c ≡ coefficientBlend m c
 unfolding coefficientBlend
 numbers-same c l m e =
     tab-same (numberBlend l c) (numberBlend m c) 16 0
     (λ k p q. blend-same c (λ (i : ℕ). getD l (i * 16 + k) nan) (λ (i : ℕ). getD m (i * 16 + k) nan) (λ i h. in-sixteen l m i k (omega arith) (e i h)))
 
 pub coefficients-read-only : (a : Axes) (c : Corners) (l m : List Float) (p : Vec3) → length l ≡ length m
-    → ((i : ℕ) → List·Memᴰ i (cellsRead (cellsOf a c p)) → sixteen l i ≡ sixteen m i)
+    → ((i : ℕ) → List·Memᴰ i (cellsRead (cellsOf a c p)) → voxelPart 16 i l ≡ voxelPart 16 i m)
     → coefficientsAtOf a c l p ≡ coefficientsAtOf a c m p
 unfolding coefficientsAtOf
 coefficients-read-only a c l m p e r =
@@ -133,15 +134,15 @@ granted a v s i b e =
 pub granted-end : (a : Axes) (v s : List Float) (i : ℕ) → Granted a v s i → (i * 16 + 16 ≤ length v) × (i * 16 + 16 ≤ length s) × (i * 16 + 16 < 2 ^ 63)
 granted-end a v s i h = let k = voxels-most a (h .axes) in (omega arith, omega arith, omega arith)
 
-long : (l : List Float) (i : ℕ) → i * 16 + 16 ≤ length l → length (sixteen l i) ≡ 16
+long : (l : List Float) (i : ℕ) → i * 16 + 16 ≤ length l → length (voxelPart 16 i l) ≡ 16
 long l i h = simp (length-take, length-drop) (omega arith)
 
 pub part-long : (a : Axes) (v s : List Float) (i : ℕ) (b : Bool) → partRefusal a v s i b ≡ 0 → length (partOf a v s i b) ≡ 16
 unfolding partOf
 part-long a v s i true e =
-    let g = granted-end a v s i (granted a v s i true e) in rw (← given (partRefusal a v s i true) (sixteen s i) [] e) (long s i (g .1))
+    let g = granted-end a v s i (granted a v s i true e) in rw (← given (partRefusal a v s i true) (voxelPart 16 i s) [] e) (long s i (g .1))
 part-long a v s i false e =
-    let g = granted-end a v s i (granted a v s i false e) in rw (← given (partRefusal a v s i false) (sixteen v i) [] e) (long v i (g .0))
+    let g = granted-end a v s i (granted a v s i false e) in rw (← given (partRefusal a v s i false) (voxelPart 16 i v) [] e) (long v i (g .0))
 
 -- the part is empty exactly when the companion's number is not zero
 pub part-empty : (a : Axes) (v s : List Float) (i : ℕ) (b : Bool) → (partOf a v s i b ≡ []) ↔ (partRefusal a v s i b ≡ 0 → ⊥)

@@ -1,7 +1,7 @@
 -- What the places mean: a clamped cell is the cell itself within the axis and the last past its end; a coordinate's cell is its floor; the cells read lie
 -- in the grid.
 use mathlib.Core.Path.{_≡_, refl, sym, ap, _∙_}
-use mathlib.Core.Bool.{Bool, true, false, _||_, _&&_, or-false, false≢true}
+use mathlib.Core.Bool.{Bool, true, false, _||_, _&&_, or-false, false≢true, and-eq-true-iff}
 use Prim.Native.Nat.{ℕ, zero, suc, _+_, _-_, _*_, _/_, _^_, _≤_, _<_, min}
 use native.Mathlib.Nat.{not-le-of-lt, zero-mul, mul-one, mul-right-comm, mul-pos, le-min, le-div-iff-mul-le, div-lt-iff-lt-mul, le-of-mul-le-mul-right, lt-of-mul-lt-mul-right, lt-of-lt-of-le}
 use native.Mathlib.Omega.{arith}
@@ -24,7 +24,7 @@ use Rattle.grid.specs.declared.Corners.{Corners}
 use Rattle.grid.specs.Grid.{voxels, floatOf, AxesWithin}
 use Rattle.lists.specs.Fold.{place}
 use Rattle.grid.specs.GridLaws.{index-within}
-use Rattle.limits.specs.Some.{some}
+use Rattle.lists.specs.Some.{some}
 use Rattle.lookup.specs.declared.Between.{Between}
 use Rattle.lookup.specs.declared.Cells.{Cells}
 use Rattle.lookup.specs.Place.{clamped, clampedCell, betweenOf, Along, Inside, cellsFrom, cellsOf, cellsRead, blendedOf, Readable}
@@ -115,14 +115,6 @@ blended-same c f g e =
 
 -- ---- past the ends of an axis
 
-and-true-left : (a b : Bool) → a && b ≡ true → a ≡ true
-and-true-left true b e = refl
-and-true-left false b e = e
-
-and-true-right : (a b : Bool) → a && b ≡ true → b ≡ true
-and-true-right true b e = e
-and-true-right false b e = absurd (false≢true e)
-
 -- a floor below 0 is cell 0
 pub cell-below : (n : ℕ) (g : Float) → 1 ≤ n → lt g zero32 ≡ true → clampedCell n g ≡ 0
 unfolding clampedCell toUnsigned lt Ieee.ofBits
@@ -139,7 +131,7 @@ at-most a b c e = go (ltb a b) refl e
   where
     go : (t : Bool) → ltb a b ≡ t → (t || eqb a b && c) ≡ true → a ≤ b
     go true p q = let r = ltb-true a b p in omega arith
-    go false p q = let r = eqb-true a b (and-true-left (eqb a b) c q) in omega arith
+    go false p q = let r = eqb-true a b (and-eq-true-iff (eqb a b) c .0 q .0) in omega arith
 
 whole-most : (n : ℕ) → 1 ≤ n → n ≤ axisLimit → (x y : Float) → HasValue x false n 1 → le x y ≡ true → n ≤ toUnsigned 64 y
 unfolding le lt eq toUnsigned
@@ -150,7 +142,7 @@ whole-most n h k (fin false m e) nan v q = absurd (false≢true q)
 whole-most n h k (fin false m e) (inf true) v q = absurd (false≢true q)
 whole-most n h k (fin false m e) (inf false) v q = omega arith
 whole-most n h k (fin false m e) (fin true l d) v q =
-    let z : m * up e * down d ≡ 0 = eqb-true _ 0 (and-true-right (eqb (m * up e * down d) (l * up d * down e)) _ q) in
+    let z : m * up e * down d ≡ 0 = eqb-true _ 0 (and-eq-true-iff (eqb (m * up e * down d) (l * up d * down e)) _ .0 q .1) in
     let s : m * up e ≡ n * down e = sym (mul-one (m * up e)) ∙ v .1 in
     let t : 0 < n * down e * down d = mul-pos (mul-pos h (down-pos e)) (down-pos d) in
     absurd (not-le-of-lt t (omega (arith, ap (λ (w : ℕ). w * down d) s, z)))
@@ -230,8 +222,8 @@ none-whole k l d nan v q = absurd v
 none-whole k l d (inf s) v q = absurd v
 none-whole k l d (fin true m e) v q = absurd (false≢true (sym (v .0)))
 none-whole k l d (fin false m e) v q =
-    let z : m * up e * down d ≡ 0 = eqb-true _ 0 (and-true-right (eqb (m * up e * down d) (l * up d * down e)) _ q) in
-    let y : m * up e * down d ≡ l * up d * down e = eqb-true _ _ (and-true-left (eqb (m * up e * down d) (l * up d * down e)) _ q) in
+    let z : m * up e * down d ≡ 0 = eqb-true _ 0 (and-eq-true-iff (eqb (m * up e * down d) (l * up d * down e)) _ .0 q .1) in
+    let y : m * up e * down d ≡ l * up d * down e = eqb-true _ _ (and-eq-true-iff (eqb (m * up e * down d) (l * up d * down e)) _ .0 q .0) in
     let s : m * up e ≡ k * down e = sym (mul-one (m * up e)) ∙ v .1 in
     (no-product k (down e) (down-pos e) (sym s ∙ no-product (m * up e) (down d) (down-pos d) z), no-product (l * up d) (down e) (down-pos e) (sym y ∙ z))
 

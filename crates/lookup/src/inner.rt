@@ -4,10 +4,11 @@ ghost use Prim.Native.Nat.{_+_, _*_, _/_, _<_, _≤_};
 ghost use lib.ListN.{length, getD};
 ghost use lib.Ieee.{nan, toUnsigned};
 ghost use Rattle.names.specs.Numbers.{axisLimit, lightLimit};
+ghost use Rattle.lists.specs.Laid.{voxelPart};
 ghost use Rattle.grid.specs.Grid.{AxesWithin};
 ghost use Rattle.limits.specs.Limits.{outside, badCoefficients};
 ghost use Rattle.lookup.specs.Place.{clamped, Placed, Along, CellsFound, Inside, Readable, cellsFrom, blendOf, blendedOf};
-ghost use Rattle.lookup.specs.Lookup.{badLightCells, badVolumeCells, sixteen, coefficientBlend};
+ghost use Rattle.lookup.specs.Lookup.{badLightCells, badVolumeCells, coefficientBlend};
 use super::Between;
 use super::Cells;
 use grid::Axes;
@@ -159,7 +160,7 @@ pub fn bad_volume_cells(volume: &[f32], c: Cells) -> bool
 
 fn bad_volume_cell(volume: &[f32], i: usize) -> bool
     requires { ⌜ i < length (now volume) / 16 ⌝ }
-    ensures { λ r. ⌜ r ≡ badCoefficients (sixteen (now (volume .entry)) i) ⌝ }
+    ensures { λ r. ⌜ r ≡ badCoefficients (voxelPart 16 i (now (volume .entry))) ⌝ }
 {
     let at = i * 16;
     limits::inner::bad_coefficients(&volume[at..at + 16])

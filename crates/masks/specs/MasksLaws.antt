@@ -22,7 +22,7 @@ use Rattle.grid.specs.declared.Axes.{Axes}
 use Rattle.grid.specs.declared.Corners.{Corners}
 use Rattle.grid.specs.Grid.{voxels, AxesWithin, xOf, yOf, zOf, edgesOf, smallestEdgeOf}
 use Rattle.limits.specs.Limits.{within, outsideV, badAxes, badCorners, badEdges, wrongLength, tooMany, badPoints}
-use Rattle.limits.specs.Some.{some}
+use Rattle.lists.specs.Some.{some}
 use Rattle.triangle.specs.Meet.{absentOf}
 use Rattle.triangle.specs.Places.{triangleAt}
 use Rattle.samples.specs.Samples.{densityOf, countOf, sideFrom, sideOf, shareOf, pointOf, cellOn, indexWithin, cellOf, sampleCell}

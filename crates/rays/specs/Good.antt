@@ -9,7 +9,7 @@ use Rattle.vectors.specs.Vectors.{vec}
 use Rattle.vectors.specs.declared.Ray.{Ray}
 use Rattle.vectors.specs.declared.Triangle.{Triangle}
 use Rattle.limits.specs.Limits.{within, upTo, outsideV, wrongShare, wrongScene, tooMany, badPoints, badTriangle, badKinds, badFrom, badUses, badMaterials, badRay}
-use Rattle.limits.specs.Some.{some}
+use Rattle.lists.specs.Some.{some}
 use Rattle.rays.specs.Rays.{meetRefusal, nearestRefusal, wrongScratch, transmittanceRefusal}
 
 -- from (.25, .25, 1) down, from 0 to infinity

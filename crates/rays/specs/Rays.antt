@@ -1,5 +1,5 @@
 -- The public calls over rays. Each tests rows in order, the first that holds is the refusal, and a refusal answers its number with every other number
--- zero. "Where an answer is an enum, a definition gives this paper's number and values for each of the enum's cases": `metValues` and `foundValues`.
+-- zero. "Where an answer is an enum, a definition gives this paper's number and values for each of the enum's cases": `valuesOfMet` and `valuesOfFound`.
 use mathlib.Core.Path.{_≡_}
 use mathlib.Core.Bool.{Bool, _||_}
 use mathlib.Core.List.{List, [], _∷_}
@@ -11,7 +11,7 @@ use Rattle.names.specs.Refusals.{Row, row, firstOf, unlessRefused}
 use Rattle.names.specs.Scene.{Scene}
 use Rattle.vectors.specs.declared.Ray.{Ray}
 use Rattle.vectors.specs.declared.Triangle.{Triangle}
-use Rattle.limits.specs.Limits.{wrongScene, tooShort, tooMany, badPoints, badTriangle, badMaterials, badRay}
+use Rattle.limits.specs.Limits.{wrongScene, tooShort, badTriangle, sceneRows, badRay}
 use Rattle.triangle.specs.Meet.{meetOf}
 use Rattle.triangle.specs.declared.Meet.{Meet}
 use Rattle.scan.specs.Nearest.{nearestOf}
@@ -41,15 +41,15 @@ missValues = refusedValues 0
 abbrev pub hitValues : ℕ → Float → Float → Float → Values
 hitValues i a b c = record { number = 0; hit = 1; place = i; t = a; u = b; v = c }
 
-unfoldable pub metValues : Met → Values
-metValues (Met.Refused k) = refusedValues k
-metValues Met.Miss = missValues
-metValues (Met.Hit t u v) = hitValues 0 t u v
+unfoldable pub valuesOfMet : Met → Values
+valuesOfMet (Met.Refused k) = refusedValues k
+valuesOfMet Met.Miss = missValues
+valuesOfMet (Met.Hit t u v) = hitValues 0 t u v
 
-unfoldable pub foundValues : Found → Values
-foundValues (Found.Refused k) = refusedValues k
-foundValues Found.Nothing = missValues
-foundValues (Found.Hit i t u v) = hitValues i t u v
+unfoldable pub valuesOfFound : Found → Values
+valuesOfFound (Found.Refused k) = refusedValues k
+valuesOfFound Found.Nothing = missValues
+valuesOfFound (Found.Hit i t u v) = hitValues i t u v
 
 -- ---- the test of one triangle
 
@@ -64,9 +64,9 @@ unfoldable pub metCase : Meet → Met
 metCase Meet.Miss = Met.Miss
 metCase (Meet.Hit t u v) = Met.Hit t u v
 
-unfoldable pub testValues : Meet → Values
-testValues Meet.Miss = missValues
-testValues (Meet.Hit t u v) = hitValues 0 t u v
+unfoldable pub valuesOfTest : Meet → Values
+valuesOfTest Meet.Miss = missValues
+valuesOfTest (Meet.Hit t u v) = hitValues 0 t u v
 
 unfoldable pub metOf : Ray → Triangle → Met
 metOf ray triangle =
@@ -74,11 +74,11 @@ metOf ray triangle =
 
 unfoldable pub meetValues : Ray → Triangle → Values
 meetValues ray triangle =
-    unlessRefused (meetRefusal ray triangle) (testValues (meetOf ray triangle)) (refusedValues (meetRefusal ray triangle))
+    unlessRefused (meetRefusal ray triangle) (valuesOfTest (meetOf ray triangle)) (refusedValues (meetRefusal ray triangle))
 
 pub record MeetAnswered (ray : Ray) (triangle : Triangle) (r : Met) : Type 0 where
   pub answer : r ≡ metOf ray triangle
-  pub values : metValues r ≡ meetValues ray triangle
+  pub values : valuesOfMet r ≡ meetValues ray triangle
 
 -- ---- a scene's rows
 
@@ -86,19 +86,13 @@ abbrev pub wrongSceneLists : Scene → Bool
 wrongSceneLists scene = wrongScene (scene .points) (scene .uses) (scene .kinds) (scene .numbers)
 
 -- where `wrong` says whether a length is
-abbrev pub sceneRows : Bool → Scene → Ray → List Row
-sceneRows wrong scene ray =
-    row 3 wrong
-    ∷ row 4 (tooMany (length (scene .uses)) (length (scene .kinds)))
-    ∷ row 5 (badPoints (scene .points))
-    ∷ row 6 (badMaterials (scene .uses) (scene .kinds) (scene .numbers))
-    ∷ row 8 (badRay ray)
-    ∷ []
+abbrev pub scanRows : Bool → Scene → Ray → List Row
+scanRows wrong scene ray = row 3 wrong ∷ sceneRows scene (row 8 (badRay ray) ∷ [])
 
 -- ---- the nearest hit
 
 unfoldable pub nearestRefusal : Scene → Ray → ℕ
-nearestRefusal scene ray = firstOf (sceneRows (wrongSceneLists scene) scene ray)
+nearestRefusal scene ray = firstOf (scanRows (wrongSceneLists scene) scene ray)
 
 unfoldable pub foundCase : Nearest → Found
 foundCase Nearest.Nothing = Found.Nothing
@@ -118,7 +112,7 @@ nearestValues scene ray =
 
 pub record NearestAnswered (scene : Scene) (ray : Ray) (r : Found) : Type 0 where
   pub answer : r ≡ foundOf scene ray
-  pub values : foundValues r ≡ nearestValues scene ray
+  pub values : valuesOfFound r ≡ nearestValues scene ray
 
 -- ---- how much light passes
 
@@ -129,7 +123,7 @@ wrongScratch scene distances places =
 
 unfoldable pub transmittanceRefusal : Scene → Ray → List Float → List ℕ → ℕ
 transmittanceRefusal scene ray distances places =
-    firstOf (sceneRows (wrongScratch scene (length distances) (length places)) scene ray)
+    firstOf (scanRows (wrongScratch scene (length distances) (length places)) scene ray)
 
 -- hit scratch keeps its length always, and what it held on a refusal; what it holds otherwise is open
 pub record TransmittanceAnswered (scene : Scene) (ray : Ray) (distances : List Float) (places : List ℕ) (r : Transmitted) (distances' : List Float)

@@ -22,7 +22,7 @@ use Rattle.scan.specs.declared.Nearest.{Nearest}
 use Rattle.rays.specs.declared.Met.{Met}
 use Rattle.rays.specs.declared.Found.{Found}
 use Rattle.rays.specs.declared.Transmitted.{Transmitted}
-use Rattle.rays.specs.Rays.{Values, refusedValues, metValues, foundValues, meetRows, meetRefusal, metCase, testValues, metOf, meetValues, MeetAnswered, wrongSceneLists, sceneRows, nearestRefusal, foundCase, scanValues, foundOf, nearestValues, NearestAnswered, wrongScratch, transmittanceRefusal, TransmittanceAnswered}
+use Rattle.rays.specs.Rays.{Values, refusedValues, valuesOfMet, valuesOfFound, meetRows, meetRefusal, metCase, valuesOfTest, metOf, meetValues, MeetAnswered, wrongSceneLists, scanRows, nearestRefusal, foundCase, scanValues, foundOf, nearestValues, NearestAnswered, wrongScratch, transmittanceRefusal, TransmittanceAnswered}
 
 -- ---- which row refuses, of each contract: k exactly when row k holds and none before it, 0 exactly when none holds
 
@@ -32,24 +32,24 @@ unfolding unlessRefused
 number-of zero new e = e
 number-of (suc k) new e = rw (ne-eqb (suc k) 0 (λ z. omega (arith, z))) refl
 
-pub meet-refused-by : (ray : Ray) (triangle : Triangle) (r : Met) → MeetAnswered ray triangle r → RefusedBy (meetRows ray triangle) (metValues r .number)
-unfolding meetValues meetRefusal testValues
+pub meet-refused-by : (ray : Ray) (triangle : Triangle) (r : Met) → MeetAnswered ray triangle r → RefusedBy (meetRows ray triangle) (valuesOfMet r .number)
+unfolding meetValues meetRefusal valuesOfTest
 meet-refused-by ray triangle r a =
     refused-by (meetRows ray triangle) _ (omega arith, (omega arith, tt))
-    (ap (λ (x : Values). x .number) (a .values) ∙ number-of (meetRefusal ray triangle) (testValues (meetOf ray triangle)) (accepted (meetOf ray triangle)))
+    (ap (λ (x : Values). x .number) (a .values) ∙ number-of (meetRefusal ray triangle) (valuesOfTest (meetOf ray triangle)) (accepted (meetOf ray triangle)))
   where
-    accepted : (m : Meet) → testValues m .number ≡ 0
+    accepted : (m : Meet) → valuesOfTest m .number ≡ 0
     accepted Meet.Miss = refl
     accepted (Meet.Hit t u v) = refl
 
-scene-numbered : (wrong : Bool) (scene : Scene) (ray : Ray) → Numbered (sceneRows wrong scene ray)
+scene-numbered : (wrong : Bool) (scene : Scene) (ray : Ray) → Numbered (scanRows wrong scene ray)
 scene-numbered wrong scene ray = (omega arith, (omega arith, (omega arith, (omega arith, (omega arith, tt)))))
 
 pub nearest-refused-by : (scene : Scene) (ray : Ray) (r : Found) → NearestAnswered scene ray r
-    → RefusedBy (sceneRows (wrongSceneLists scene) scene ray) (foundValues r .number)
+    → RefusedBy (scanRows (wrongSceneLists scene) scene ray) (valuesOfFound r .number)
 unfolding nearestValues nearestRefusal scanValues
 nearest-refused-by scene ray r a =
-    refused-by (sceneRows (wrongSceneLists scene) scene ray) _ (scene-numbered (wrongSceneLists scene) scene ray)
+    refused-by (scanRows (wrongSceneLists scene) scene ray) _ (scene-numbered (wrongSceneLists scene) scene ray)
     (ap (λ (x : Values). x .number) (a .values) ∙ number-of (nearestRefusal scene ray) (scanValues (nearestOf scene ray)) (accepted (nearestOf scene ray)))
   where
     accepted : (n : Nearest) → scanValues n .number ≡ 0
@@ -58,11 +58,11 @@ nearest-refused-by scene ray r a =
 
 pub transmittance-refused-by : (scene : Scene) (ray : Ray) (distances : List Float) (places : List ℕ) (r : Transmitted) (distances' : List Float) (places' : List ℕ)
     → TransmittanceAnswered scene ray distances places r distances' places'
-    → RefusedBy (sceneRows (wrongScratch scene (length distances) (length places)) scene ray) (r .refusal)
+    → RefusedBy (scanRows (wrongScratch scene (length distances) (length places)) scene ray) (r .refusal)
 unfolding transmittanceRefusal
 transmittance-refused-by scene ray distances places r distances' places' a =
     let wrong = wrongScratch scene (length distances) (length places) in
-    refused-by (sceneRows wrong scene ray) (r .refusal) (scene-numbered wrong scene ray) (a .answer)
+    refused-by (scanRows wrong scene ray) (r .refusal) (scene-numbered wrong scene ray) (a .answer)
 
 -- ---- one answer
 
@@ -107,38 +107,38 @@ module _ {A : Type 0} (f : A → Values) where
       by true = refl
       by false = refl
 
-met-case-values : (m : Meet) → metValues (metCase m) ≡ testValues m
-unfolding metValues metCase testValues
+met-case-values : (m : Meet) → valuesOfMet (metCase m) ≡ valuesOfTest m
+unfolding valuesOfMet metCase valuesOfTest
 met-case-values Meet.Miss = refl
 met-case-values (Meet.Hit t u v) = refl
 
-found-case-values : (n : Nearest) → foundValues (foundCase n) ≡ scanValues n
-unfolding foundValues foundCase scanValues
+found-case-values : (n : Nearest) → valuesOfFound (foundCase n) ≡ scanValues n
+unfolding valuesOfFound foundCase scanValues
 found-case-values Nearest.Nothing = refl
 found-case-values (Nearest.At i t u v) = refl
 
 pub meet-answered : (ray : Ray) (triangle : Triangle) (r : Met) → r ≡ metOf ray triangle → MeetAnswered ray triangle r
-unfolding metOf meetValues metValues
+unfolding metOf meetValues valuesOfMet
 meet-answered ray triangle r e =
     record {
       answer = e;
-      values = ap metValues e ∙ over metValues _ _ _ ∙ rw (met-case-values (meetOf ray triangle)) refl;
+      values = ap valuesOfMet e ∙ over valuesOfMet _ _ _ ∙ rw (met-case-values (meetOf ray triangle)) refl;
     }
 
 pub nearest-answered : (scene : Scene) (ray : Ray) (r : Found) → r ≡ foundOf scene ray → NearestAnswered scene ray r
-unfolding foundOf nearestValues foundValues
+unfolding foundOf nearestValues valuesOfFound
 nearest-answered scene ray r e =
     record {
       answer = e;
-      values = ap foundValues e ∙ over foundValues _ _ _ ∙ rw (found-case-values (nearestOf scene ray)) refl;
+      values = ap valuesOfFound e ∙ over valuesOfFound _ _ _ ∙ rw (found-case-values (nearestOf scene ray)) refl;
     }
 
 -- ---- what an accepted call has
 
-scene-sound : (wrong : Bool) (scene : Scene) (ray : Ray) → (wrong ≡ false → wrongSceneLists scene ≡ false) → firstOf (sceneRows wrong scene ray) ≡ 0
+scene-sound : (wrong : Bool) (scene : Scene) (ray : Ray) → (wrong ≡ false → wrongSceneLists scene ≡ false) → firstOf (scanRows wrong scene ray) ≡ 0
     → (wrong ≡ false) × Sound scene
 scene-sound wrong scene ray w e =
-    let p = passed (sceneRows wrong scene ray) (scene-numbered wrong scene ray) e in
+    let p = passed (scanRows wrong scene ray) (scene-numbered wrong scene ray) e in
     (p .0, sound _ _ _ _ (w (p .0)) (p .1 .0) (p .1 .1 .1 .0))
 
 pub nearest-sound : (scene : Scene) (ray : Ray) → nearestRefusal scene ray ≡ 0 → Sound scene

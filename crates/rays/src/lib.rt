@@ -4,7 +4,7 @@ ghost use mathlib.Core.Path.{_≡_};
 ghost use lib.ListN.{length};
 ghost use Rattle.names.specs.Refusals.{firstOf};
 ghost use Rattle.names.specs.Scene.{sceneOf};
-ghost use Rattle.rays.specs.Rays.{meetRefusal, sceneRows, metCase, foundCase, MeetAnswered, NearestAnswered, TransmittanceAnswered};
+ghost use Rattle.rays.specs.Rays.{meetRefusal, scanRows, metCase, foundCase, MeetAnswered, NearestAnswered, TransmittanceAnswered};
 use scan::Nearest;
 use triangle::Meet;
 use vectors::Ray;
@@ -114,7 +114,7 @@ fn scene_refusal(
     numbers: &[f32],
     ray: Ray,
 ) -> u32
-    ensures { λ r. ⌜ r ≡ firstOf (sceneRows wrong (sceneOf (now (points .entry)) (now (uses .entry)) (now (kinds .entry)) (now (numbers .entry))) ray) ⌝ }
+    ensures { λ r. ⌜ r ≡ firstOf (scanRows wrong (sceneOf (now (points .entry)) (now (uses .entry)) (now (kinds .entry)) (now (numbers .entry))) ray) ⌝ }
 {
     if wrong {
         return 3;

@@ -9,6 +9,7 @@ use lib.ListN.{length}
 use lib.Ieee as Ieee
 use lib.Ieee.{Float, nan, binary32, isNan}
 use Rattle.names.specs.Bits.{lit, zero32, quarter32, one32, two32, inf32}
+use Rattle.names.specs.Numbers.{flatLimit}
 use Rattle.names.specs.Scene.{Scene}
 use Rattle.floats.specs.Choice.{magnitudeOf}
 use Rattle.floats.specs.OrderLaws.{le-numbers}
@@ -22,7 +23,7 @@ use Rattle.bounds.specs.WildLaws.{Wild, dot-wild, cross-wild, wild-over-wild}
 use Rattle.triangle.specs.declared.Meet.{Meet}
 use Rattle.triangle.specs.declared.Meet.the-variants.{Miss, Hit}
 use Rattle.triangle.specs.declared.Solved.{Solved}
-use Rattle.triangle.specs.Meet.{flatLimit, largest32, absentOf, solvedOf, judgedOf, meetOf}
+use Rattle.triangle.specs.Meet.{largest32, absentOf, solvedOf, judgedOf, meetOf}
 use Rattle.triangle.specs.Places.{triangleAt}
 use Rattle.rays_bounds.specs.TestBounds.{NearPoints, distance-bounded, largest-passes, last-test-passes}
 

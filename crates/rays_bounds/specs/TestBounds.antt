@@ -14,7 +14,7 @@ use lib.Ieee.{Float, nan, inf, fin, binary32, mul, div, le, lt, eq, isNan, ofBit
 use lib.Ieee.Exact.{HasValue}
 use lib.Ieee.Scale.{finite}
 use Rattle.names.specs.Bits.{lit, one32}
-use Rattle.names.specs.Numbers.{pointLimit, colourLimit, directionLimit}
+use Rattle.names.specs.Numbers.{pointLimit, originLimit, directionLimit, flatLimit}
 use Rattle.floats.specs.Choice.{magnitudeOf}
 use Rattle.floats.specs.OrderLaws.{not-lt-le, le-transitive}
 use Rattle.floats.specs.FiniteLaws.{finite-number}
@@ -27,8 +27,9 @@ use Rattle.bounds.specs.Bounds.{AtMost, AtLeast, EachAtMost}
 use Rattle.bounds.specs.BoundsLaws.{at-most-up, test-of-at-most, at-least-of-test, at-most-finite, magnitude-at-most, mul-at-most, div-at-most, one-at-most, point-value, colour-value, direction-value}
 use Rattle.bounds.specs.VectorLaws.{each-up, sub-each, dot-at-most, cross-each}
 use Rattle.grid_laws.specs.RowBounds.{within-at-most, within-each}
-use Rattle.triangle.specs.Meet.{flatLimit, largest32, solvedOf, meetOf}
-use Rattle.triangle.specs.Places.{vecAt, triangleAt}
+use Rattle.triangle.specs.Meet.{largest32, solvedOf, meetOf}
+use Rattle.vectors.specs.Places.{vecAt}
+use Rattle.triangle.specs.Places.{triangleAt}
 use Rattle.triangle.specs.Laws.{hit-met}
 use Rattle.triangle.specs.declared.Meet.the-variants.{Hit}
 
@@ -166,7 +167,7 @@ pub test-bounded : (ray : Ray) (triangle : Triangle) → NearPoints triangle →
     → le (magnitudeOf (solvedOf ray triangle .det)) flatLimit ≡ false → Bounded 16 12 ray triangle
 test-bounded ray triangle p br h =
     let rows = ray-row ray .0 br in
-    let o = each-up (ray .origin) 1 16 16 12 (lit≤ tt) (within-each colourLimit (ray .origin) 1 16 colour-value (rows .0)) in
+    let o = each-up (ray .origin) 1 16 16 12 (lit≤ tt) (within-each originLimit (ray .origin) 1 16 colour-value (rows .0)) in
     let d = within-each directionLimit (ray .direction) 1 1 direction-value (rows .1) in
     numbers-bounded ray triangle 16 12 p o (lit≤ tt) (lit< tt) (lit< tt) d h
 

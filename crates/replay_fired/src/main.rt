@@ -97,11 +97,11 @@ fn sky_rays(
     surface: Surface,
 ) -> Listing {
     let table = bounce::inner::hemisphere_table();
-    let frame = bounce::inner::frame_of(surface.normal);
+    let basis = bounce::inner::basis_of(surface.normal);
     let mut so_far = listing;
     let mut j: usize = 0;
     while j < 4 {
-        let ray = surface::inner::sky_ray(setting, surface, frame, &table, j);
+        let ray = surface::inner::sky_ray(setting, surface, basis, &table, j);
         so_far = fire(s, so_far, voxel, PASSES, ray);
         j += 1;
     }
@@ -268,21 +268,6 @@ fn along_all(
     so_far
 }
 
-// The centre of voxel i.
-fn centre_of(corners: Corners, axes: Axes, edges: Vec3, i: usize) -> Vec3
-    requires { ⌜ AxesWithin axes ⌝ }
-    requires { ⌜ i < voxels axes ⌝ }
-{
-    let row = i / axes.width;
-    grid::inner::centre(
-        corners.min,
-        edges,
-        i % axes.width,
-        row % axes.height,
-        row / axes.height,
-    )
-}
-
 // The set of directions that voxel i uses.
 fn set_at(axes: Axes, i: usize) -> usize
     requires { ⌜ AxesWithin axes ⌝ }
@@ -311,7 +296,7 @@ fn voxel_rays(
     let corners = replay_values::corners(s, 7);
     let edges = grid::inner::edges(corners, axes);
     let setting = gather::inner::setting_of(edges, light(s), ambient(s));
-    let centre = centre_of(corners, axes, edges, i);
+    let centre = grid::inner::centre_of(corners.min, axes, edges, i);
     let set = set_at(axes, i);
     along_all(
         s,

@@ -16,13 +16,14 @@ use lib.Ieee.Back.{unsigned-back}
 use lib.Ieee.Order.{round-mono}
 use borrow.Author.Tests.{ltb-true, ltb-false, le-ltb}
 use Rattle.names.specs.Bits.{zero32, one32}
+use Rattle.names.specs.Numbers.{mostSamples, mostTarget}
 use Rattle.floats.specs.OrderLaws.{le-not-lt, lt-numbers, lt-le-transitive}
 use Rattle.floats.specs.Whole.{step, toward, ceilingOf}
 use Rattle.floats.specs.WholeLaws.{step-raised}
 use Rattle.floats.specs.WholeLaws.Steps.{round-neg}
 use Rattle.vectors.specs.declared.Triangle.{Triangle}
 use Rattle.grid.specs.Grid.{floatOf}
-use Rattle.samples.specs.Samples.{densityOf, mostSamples, mostTarget, countOf, sampleCount}
+use Rattle.samples.specs.Samples.{densityOf, countOf, sampleCount}
 use Rattle.samples.specs.WholeOrder.{float-value, not-infinite, below-whole, above-whole}
 
 -- s is the ceiling of x, clamped to 1..4096. k + 1 is the ceiling of x where k < x ≤ k + 1; what is not above 1, NaN too, gives 1

@@ -7,6 +7,7 @@ use lib.Dec.{ltb, leb}
 use lib.Ieee as Ieee
 use lib.Ieee.{Float, binary32, toUnsigned}
 use Rattle.names.specs.Bits.{lit, zero32, half32, one32, two32}
+use Rattle.names.specs.Numbers.{mostSamples, mostTarget}
 use Rattle.floats.specs.Whole.{ceilingOf}
 use Rattle.vectors.specs.declared.Vec3.{Vec3}
 use Rattle.vectors.specs.declared.Triangle.{Triangle}
@@ -27,14 +28,6 @@ densityOf t e = Ieee.mul binary32 (Ieee.div binary32 (areaOf t) (Ieee.mul binary
 -- its ceiling
 abbrev pub targetOf : Triangle → Float → Float
 targetOf t e = ceilingOf (densityOf t e)
-
--- "clamped to 1..4096"
-abbrev pub mostSamples : ℕ
-mostSamples = 4096
-
--- the same as a float
-abbrev pub mostTarget : Float
-mostTarget = lit 0x45800000
 
 -- clamped as a number, and only then whole: what is cast lies between 1 and 4,096
 unfoldable pub countOf : Float → ℕ

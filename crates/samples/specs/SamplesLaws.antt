@@ -12,6 +12,7 @@ use lib.Ieee as Ieee
 use lib.Ieee.{Float, fin, binary32, ofBits, ofFields, odd, toUnsigned}
 use borrow.Author.Tests.{ltb-true, ltb-false, leb-false}
 use Rattle.names.specs.Bits.{zero32, half32, one32}
+use Rattle.names.specs.Numbers.{mostSamples, mostTarget}
 use Rattle.floats.specs.Root.{rootOf}
 use Rattle.floats.specs.Whole.{toward}
 use Rattle.vectors.specs.declared.Vec3.{Vec3}
@@ -20,7 +21,7 @@ use Rattle.vectors.specs.Vectors.{vec, addV, scaleV, subV, dotV, crossV, length
 use Rattle.grid.specs.declared.Axes.{Axes}
 use Rattle.grid.specs.Grid.{voxels, indexOf}
 use Rattle.grid.specs.GridLaws.{index-within}
-use Rattle.samples.specs.Samples.{densityOf, mostSamples, mostTarget, countOf, sampleCount, sideFrom, sideOf, shareOf, pointOf, cellOn, indexWithin, cellOf, sampleCell}
+use Rattle.samples.specs.Samples.{densityOf, countOf, sampleCount, sideFrom, sideOf, shareOf, pointOf, cellOn, indexWithin, cellOf, sampleCell}
 use Rattle.samples.specs.CastLaws.{cast-least, cast-most}
 
 -- ---- the least side

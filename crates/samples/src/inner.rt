@@ -5,13 +5,11 @@ ghost use Rattle.floats.specs.Whole.{ceilingOf};
 ghost use Rattle.grid.specs.Grid.{AxesWithin};
 ghost use Rattle.samples.specs.Samples.{densityOf, countOf, sampleCount, sideOf, shareOf, restOf, pointOf, cellOn, indexWithin, cellOf, sampleCell};
 use grid::Axes;
+use names::MOST_SAMPLES;
+use names::MOST_TARGET;
 use vectors::Triangle;
 use vectors::Vec3;
 
-// "clamped to 1..4096"
-const MOST_SAMPLES: usize = 4096;
-
-const MOST_SAMPLES_FLOAT: f32 = 4096.0;
 // 2^32: whatever is not below it lies past every axis
 const FAR: f32 = 4294967296.0;
 
@@ -43,7 +41,7 @@ fn count(target: f32) -> usize
     ensures { λ r. ⌜ r ≡ countOf target ⌝ }
 {
     if 1.0 < target {
-        if target < MOST_SAMPLES_FLOAT {
+        if target < MOST_TARGET {
             return std::num::truncating_f32_to_u64(target) as usize;
         }
         return MOST_SAMPLES;

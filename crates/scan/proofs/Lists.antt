@@ -12,8 +12,9 @@ use lib.Dec.{eqb}
 use lib.Ieee as Ieee
 use lib.Ieee.{Float, nan, binary32}
 use Rattle.names.specs.Bits.{zero32}
+use Rattle.names.specs.Numbers.{faintLimit}
 use Rattle.scan.specs.Hits.{Struck, struck, before, insertOf, insertAt, rankOf, paired, placesOf}
-use Rattle.scan.specs.Transmittance.{faintLimit, kindAt, transmissionAt, passOf}
+use Rattle.scan.specs.Transmittance.{kindAt, transmissionAt, passOf}
 
 module _ {ℓ} {A : Type ℓ} where
   step : (s : List A) (m k : ℕ) (c d : A) → k < m → m ≤ length s → insertAt (suc k) (getD s k d) (take m (set s k c)) ≡ insertAt k c (take m s)

@@ -17,7 +17,7 @@ use Rattle.scan.specs.declared.FirstHit.the-variants.{Nothing, At}
 use Rattle.scan.specs.Nearest.{nearerOf, nearestTo}
 use Rattle.scan.specs.Hits.{struck, insertOf, withMeet, hitsOf}
 
--- what is the first hit from place i up to place n: none where all are missed; otherwise a hit before which all are
+-- what is the first hit from place i up to place n: none where all are missed; otherwise a hit, and all before it are missed
 abbrev pub FirstFrom : List Float → Ray → ℕ → ℕ → FirstHit → Type 0
 FirstFrom points ray i n Nothing = Missed points ray i n
 FirstFrom points ray i n (At j t u v) =

@@ -8,14 +8,11 @@ use lib.ListN.{length, getD}
 use lib.Dec.{eqb}
 use lib.Ieee as Ieee
 use lib.Ieee.{Float, nan, binary32}
-use Rattle.names.specs.Bits.{lit, zero32, one32}
+use Rattle.names.specs.Bits.{zero32, one32}
+use Rattle.names.specs.Numbers.{faintLimit}
 use Rattle.names.specs.Scene.{Scene}
 use Rattle.vectors.specs.declared.Ray.{Ray}
 use Rattle.scan.specs.Hits.{hitsOf, placesOf}
-
--- "a product at most 0.0001 gives 0"
-abbrev pub faintLimit : Float
-faintLimit = lit 0x38d1b717
 
 -- the kind of the material that the triangle at place i uses: 0 is opaque
 abbrev pub kindAt : List ℕ → List ℕ → ℕ → ℕ

@@ -13,11 +13,9 @@ ghost use Rattle.scan.specs.FirstHit.{FirstFrom};
 ghost use Rattle.scan.specs.Transmittance.{kindAt, Fitting, passOf, transmittanceOf};
 use super::FirstHit;
 use super::Nearest;
+use names::FAINT_LIMIT;
 use triangle::Meet;
 use vectors::Ray;
-
-// "a product at most 0.0001 gives 0"
-const FAINT: f32 = 0.0001;
 
 // ---- the nearest hit
 
@@ -206,7 +204,7 @@ fn product(uses: &[u32], kinds: &[u8], numbers: &[f32], places: &[usize]) -> f32
             return 0.0;
         }
         w = w * numbers[k * 7 + 6];
-        if w <= FAINT {
+        if w <= FAINT_LIMIT {
             return 0.0;
         }
         j += 1;

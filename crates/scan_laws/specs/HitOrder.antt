@@ -1,6 +1,6 @@
 -- The hits that transmittance goes through stand in order: each comes before the next, by distance and then by place.
 use mathlib.Core.Path.{_≡_, refl, sym, ap₂, _∙_}
-use mathlib.Core.Bool.{Bool, true, false, cond, _||_, _&&_, false≢true}
+use mathlib.Core.Bool.{Bool, true, false, cond, _||_, _&&_, false≢true, and-eq-true-iff}
 use mathlib.Core.Logic.{_⊎_, ⊎-elim}
 use mathlib.Core.List.{List, [], _∷_, List·Memᴰ, List·Memᴰ·head, List·Memᴰ·tail, List·Memᴰ·not-nil, List·Memᴰ·cases-cons}
 use Prim.Native.Nat.{ℕ, zero, suc, _<_}
@@ -73,10 +73,6 @@ or-cases : {A : Type 0} (a b : Bool) → a || b ≡ true → (a ≡ true → A) 
 or-cases true b h f g = f refl
 or-cases false b h f g = g h
 
-and-both : (a b : Bool) → a && b ≡ true → (a ≡ true) × (b ≡ true)
-and-both true b h = (refl, h)
-and-both false b h = absurd (false≢true h)
-
 nearer-first : (a b : Bool) → a ≡ true → a || b ≡ true
 nearer-first a b h = rw h refl
 
@@ -90,13 +86,13 @@ before-trans h g k a b =
     or-cases (lt x y) (eq x y && ltb i j) a
     (λ e. or-cases (lt y z) (eq y z && ltb j l) b
     (λ f. nearer-first (lt x z) _ (lt-transitive x y z e f))
-    (λ f. nearer-first (lt x z) _ (lt-eq x y z e (and-both _ _ f .0))))
+    (λ f. nearer-first (lt x z) _ (lt-eq x y z e (and-eq-true-iff _ _ .0 f .0))))
     (λ e.
-    let u = and-both (eq x y) (ltb i j) e in
+    let u = and-eq-true-iff (eq x y) (ltb i j) .0 e in
     or-cases (lt y z) (eq y z && ltb j l) b
     (λ f. nearer-first (lt x z) _ (eq-lt x y z (u .0) f))
     (λ f.
-    let v = and-both (eq y z) (ltb j l) f in
+    let v = and-eq-true-iff (eq y z) (ltb j l) .0 f in
     as-near (lt x z) (eq x z) (ltb i l) (eq-transitive x y z (u .0) (v .0))
     (lt-ltb i l (omega (arith, ltb-true i j (u .1), ltb-true j l (v .1))))))
   where

@@ -10,10 +10,11 @@ use lib.Ieee.{Float, binary32, add, lt, eq, le, isNan}
 use Rattle.floats.specs.Choice.{magnitudeOf}
 use Rattle.floats.specs.OrderLaws.{lt-asymmetric, eq-symmetric, eq-not-lt, lt-numbers, not-lt-le, le-lt-transitive}
 use Rattle.names.specs.Bits.{zero32, one32}
+use Rattle.names.specs.Numbers.{flatLimit}
 use Rattle.names.specs.Scene.{Scene}
 use Rattle.vectors.specs.declared.Ray.{Ray}
 use Rattle.vectors.specs.declared.Triangle.{Triangle}
-use Rattle.triangle.specs.Meet.{flatLimit, largest32, absentOf, solvedOf, judgedOf, meetOf}
+use Rattle.triangle.specs.Meet.{largest32, absentOf, solvedOf, judgedOf, meetOf}
 use Rattle.triangle.specs.Laws.{hit-met}
 use Rattle.triangle.specs.declared.Meet.{Meet}
 use Rattle.triangle.specs.declared.Meet.the-variants.{Miss, Hit}

@@ -1,6 +1,6 @@
 -- A transmittance lies from 0 to 1. That an opaque hit leaves nothing is `opaque-dark` of scan.
 use mathlib.Core.Path.{_≡_, refl, sym, ap, _∙_}
-use mathlib.Core.Bool.{Bool, true, false, cond, _||_, _&&_, false≢true}
+use mathlib.Core.Bool.{Bool, true, false, cond, _||_, _&&_, false≢true, and-eq-true-iff}
 use mathlib.Core.List.{List, [], _∷_}
 use Prim.Native.Nat.{ℕ, zero, suc, _+_, _*_, _≤_, _<_, suc-le-suc, zero-le}
 use native.Mathlib.Nat.{mul-le-mul, mul-one, one-mul, zero-mul, mul-zero, mul-pos}
@@ -14,33 +14,26 @@ use lib.Ieee.Fits.{up-pos, down-pos}
 use lib.Ieee.Order.{round-mono}
 use lib.Ieee.Scale.{round-same}
 use Rattle.names.specs.Bits.{zero32, one32}
+use Rattle.names.specs.Numbers.{faintLimit}
 use Rattle.names.specs.Scene.{Scene, Sound}
 use Rattle.vectors.specs.declared.Ray.{Ray}
 use Rattle.limits.specs.Limits.{upTo, badNumbers}
 use Rattle.limits.specs.LimitsLaws.{transmission-within}
 use Rattle.scan.specs.Hits.{hitsOf, placesOf}
 use Rattle.scan.specs.HitLaws.{places-below}
-use Rattle.scan.specs.Transmittance.{faintLimit, kindAt, transmissionAt, passOf, transmittanceOf}
+use Rattle.scan.specs.Transmittance.{kindAt, transmissionAt, passOf, transmittanceOf}
 
 -- a number from 0 to 1: +a / p with a at most p, or −0
 data Unitary : Float → Type 0 where
   plus : (m : ℕ) (e : ℤ) → m * up e ≤ down e → Unitary (fin false m e)
   nought : (e : ℤ) → Unitary (fin true zero e)
 
-and-first : (a b : Bool) → a && b ≡ true → a ≡ true
-and-first true b h = refl
-and-first false b h = absurd (false≢true h)
-
-and-second : (a b : Bool) → a && b ≡ true → b ≡ true
-and-second true b h = h
-and-second false b h = absurd (false≢true h)
-
 most : (a b : ℕ) (c : Bool) → ltb a b || (eqb a b && c) ≡ true → a ≤ b
 most a b c h = by (ltb a b) refl h
   where
     by : (x : Bool) → ltb a b ≡ x → x || (eqb a b && c) ≡ true → a ≤ b
     by true e g = omega (arith, ltb-true a b e)
-    by false e g = omega (arith, eqb-true a b (and-first (eqb a b) c g))
+    by false e g = omega (arith, eqb-true a b (and-eq-true-iff (eqb a b) c .0 g .0))
 
 unitary : (x : Float) → upTo one32 x ≡ true → Unitary x
 unfolding upTo ofBits le lt eq
@@ -49,13 +42,13 @@ unitary (inf true) h = absurd (false≢true h)
 unitary (inf false) h = absurd (false≢true h)
 unitary (fin true zero e) h = nought e
 unitary (fin true (suc m) e) h =
-    let f : le zero32 (fin true (suc m) e) ≡ true = and-first (le zero32 (fin true (suc m) e)) (le (fin true (suc m) e) one32) h in
-    let z : 0 * down e ≡ suc m * up e * 1 = eqb-true (0 * down e) (suc m * up e * 1) (and-first (eqb (0 * down e) (suc m * up e * 1)) (eqb (0 * down e) 0) f) in
+    let f : le zero32 (fin true (suc m) e) ≡ true = and-eq-true-iff (le zero32 (fin true (suc m) e)) (le (fin true (suc m) e) one32) .0 h .0 in
+    let z : 0 * down e ≡ suc m * up e * 1 = eqb-true (0 * down e) (suc m * up e * 1) (and-eq-true-iff (eqb (0 * down e) (suc m * up e * 1)) (eqb (0 * down e) 0) .0 f .0) in
     let y : suc m * up e * 1 ≡ suc m * up e = mul-one (suc m * up e) in
     let w : 0 * down e ≡ 0 = zero-mul (down e) in
     absurd (omega (arith, mul-pos {m = suc m} {n = up e} (suc-le-suc zero-le) (up-pos e)))
 unitary (fin false m e) h =
-    let f : le (fin false m e) one32 ≡ true = and-second (le zero32 (fin false m e)) (le (fin false m e) one32) h in
+    let f : le (fin false m e) one32 ≡ true = and-eq-true-iff (le zero32 (fin false m e)) (le (fin false m e) one32) .0 h .1 in
     let g : m * up e * 1 ≤ 1 * down e = most (m * up e * 1) (1 * down e) true f in
     let y : m * up e * 1 ≡ m * up e = mul-one (m * up e) in
     let z : 1 * down e ≡ down e = one-mul (down e) in

@@ -7,7 +7,8 @@ use Prim.Native.Nat.{ℕ, zero, suc, _+_, _-_, _≤_, _<_}
 use native.Mathlib.Omega.{arith}
 use lib.Dec.{leb, eqb}
 use borrow.Author.Tests.{ne-eqb}
-use Rattle.spread.specs.Spread.{Stage, Bake, Walked, walked, more, replaced, started, walk, accepted, call, run, NoneRefused}
+use Rattle.lists.specs.Laid.{replaced}
+use Rattle.spread.specs.Spread.{Stage, Bake, Walked, walked, more, started, walk, accepted, call, run, NoneRefused}
 use Rattle.spread.specs.Walks.{ended-progress, walks, walk-to}
 
 -- a bake of nothing but voxels and their costs

@@ -7,7 +7,8 @@ use mathlib.Core.List.{List}
 use Prim.Native.Nat.{ℕ, _+_, _-_, _*_, _/_, _≤_, _<_}
 use lib.ListN.{length}
 use Rattle.names.specs.Numbers.{primaryRays}
-use Rattle.spread.specs.Spread.{Stage, Bake, voxelPart, call, unbroken, actives, costs, standing, stands, run, sum, EachAtLeast, NoneRefused}
+use Rattle.lists.specs.Laid.{voxelPart}
+use Rattle.spread.specs.Spread.{Stage, Bake, call, unbroken, actives, costs, standing, stands, run, sum, EachAtLeast, NoneRefused}
 
 -- the numbers of each voxel are as many as its place has
 pub record Sized {A : Type 0} (b : Bake A) : Type 0 where

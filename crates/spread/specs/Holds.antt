@@ -9,9 +9,10 @@ use native.Mathlib.Nat.{zero-add, suc-mul, zero-mul, le-div-iff-mul-le, lt-div-m
 use lib.Dec.{eqb}
 use lib.ListN.{length, replicate}
 use borrow.Author.Tests.{eq-eqb, ne-eqb}
-use Rattle.spread.specs.Spread.{Stage, stage, Bake, Called, Walked, voxelPart, started, walk, anyActive, blurred, baked, accepted, call, unblurred, unbroken, actives, costs, standing, stands, run, sum, EachAtLeast, NoneRefused}
+use Rattle.lists.specs.Laid.{voxelPart, part-of-laid}
+use Rattle.spread.specs.Spread.{Stage, stage, Bake, Called, Walked, started, walk, anyActive, blurred, baked, accepted, call, unblurred, unbroken, actives, costs, standing, stands, run, sum, EachAtLeast, NoneRefused}
 use Rattle.spread.specs.Walks.{ended-progress, walks, walk-from, walk-to, walk-goes, walk-costs, walk-fires, walk-stops, walk-takes, walk-rays, walk-passed, actives-split, costs-least, costs-most}
-use Rattle.spread.specs.Contents.{length-standing, walk-stands, stands-filled, stands-unblurred, part-of-laid}
+use Rattle.spread.specs.Contents.{length-standing, walk-stands, stands-filled, stands-unblurred}
 use Rattle.spread.specs.Demand.{Fair, Lasts, roundedUp, allActive, finished, Demand}
 
 module _ {A : Type 0} (b : Bake A) (fair : Fair b) where

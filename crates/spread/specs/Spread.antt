@@ -4,11 +4,11 @@
 -- A run of calls hands each answer on to the next call. The unbroken bake has neither progress nor allowance. Assumes nothing.
 use mathlib.Core.Path.{_≡_}
 use mathlib.Core.Bool.{Bool, cond, _&&_}
-use mathlib.Core.List.{List, [], _∷_, _++_}
-use Prim.Native.Nat.{ℕ, zero, suc, _+_, _-_, _*_, _≤_}
+use mathlib.Core.List.{List, [], _∷_}
+use Prim.Native.Nat.{ℕ, zero, suc, _+_, _-_, _≤_}
 use lib.Dec.{leb, ltb, eqb}
-use lib.ListN.{take, drop}
 use Rattle.lists.specs.Any.{any}
+use Rattle.lists.specs.Laid.{laid, replaced}
 
 -- what a call is handed and what it leaves, apart from what stays the same from call to call
 pub record Stage (A : Type 0) : Type 0 where
@@ -55,18 +55,6 @@ walked p r v = record { progress = p; rays = r; volume = v }
 -- the walk fired c rays before
 abbrev pub more : {A : Type 0} → ℕ → Walked A → Walked A
 more c w = walked (w .progress) (c + w .rays) (w .volume)
-
--- the numbers of k voxels from i on, laid one after another
-unfoldable pub laid : {A : Type 0} → (ℕ → List A) → ℕ → ℕ → List A
-laid f zero i = []
-laid f (suc k) i = f i ++ laid f k (i + 1)
-
--- a volume with voxel i's numbers replaced, and voxel i's numbers: size of them from place i·size on
-unfoldable pub replaced : {A : Type 0} → ℕ → ℕ → List A → List A → List A
-replaced size i numbers v = take (i * size) v ++ (numbers ++ drop (i * size + size) v)
-
-unfoldable pub voxelPart : {A : Type 0} → ℕ → ℕ → List A → List A
-voxelPart size i v = take size (drop (i * size) v)
 
 -- "if any voxel is active", of the whole mask
 abbrev pub anyActive : (ℕ → Bool) → ℕ → Bool

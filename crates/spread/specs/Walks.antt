@@ -11,7 +11,8 @@ use borrow.Author.Tests.{leb-true, leb-false, le-leb, lt-leb, eqb-true}
 use Rattle.names.specs.Numbers.{primaryRays}
 use Rattle.lists.specs.Any.{any}
 use Rattle.lists.specs.Fold.{ahead}
-use Rattle.spread.specs.Spread.{stage, Bake, Walked, walked, more, replaced, walk, anyActive, ended, actives, costs}
+use Rattle.lists.specs.Laid.{replaced}
+use Rattle.spread.specs.Spread.{stage, Bake, Walked, walked, more, walk, anyActive, ended, actives, costs}
 
 module _ {A : Type 0} (b : Bake A) where
   pub data Walks : ℕ → ℕ → ℕ → List A → Walked A → Type 0 where

@@ -11,7 +11,7 @@ use Rattle.grid.specs.Grid.{edgesOf}
 use Rattle.grid.specs.declared.Axes.{Axes}
 use Rattle.grid.specs.declared.Corners.{Corners}
 use Rattle.limits.specs.Limits.{within, outsideV, badAxes, badCorners, badEdges, wrongShare, wrongScene, tooMany, badPoints, badKinds, badFrom, badUses, badMaterials, badDirection, badMask}
-use Rattle.limits.specs.Some.{some}
+use Rattle.lists.specs.Some.{some}
 use Rattle.sun.specs.Sun.{wrongSun, sunRefusal}
 
 unfoldable pub oneVoxel : Axes

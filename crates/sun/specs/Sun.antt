@@ -10,7 +10,8 @@ use lib.Dec.{eqb}
 use lib.ListN.{length}
 use lib.Ieee as Ieee
 use lib.Ieee.{Float, binary32}
-use Rattle.names.specs.Bits.{lit, one32}
+use Rattle.names.specs.Bits.{one32}
+use Rattle.names.specs.Numbers.{sunShortest, sunDiagonals}
 use Rattle.names.specs.Refusals.{Row, row, firstOf, unlessRefused}
 use Rattle.names.specs.Scene.{Scene, Sound}
 use Rattle.lists.specs.Fold.{tab}
@@ -21,7 +22,7 @@ use Rattle.vectors.specs.declared.Ray.{Ray}
 use Rattle.grid.specs.Grid.{voxels, xOf, yOf, zOf, edgesOf, centreFrom, diagonalOf, AxesWithin}
 use Rattle.grid.specs.declared.Axes.{Axes}
 use Rattle.grid.specs.declared.Corners.{Corners}
-use Rattle.limits.specs.Limits.{badAxes, badGrid, wrongScene, wrongLength, tooShort, tooMany, badPoints, badMaterials, badDirection, badMask}
+use Rattle.limits.specs.Limits.{badAxes, badGrid, wrongScene, wrongLength, tooShort, sceneRows, badDirection, badMask}
 use Rattle.means.specs.Box.{lightBlurOf}
 use Rattle.marks.specs.Marks.{isMarked, markedCount}
 use Rattle.scan.specs.Transmittance.{transmittanceOf}
@@ -29,13 +30,9 @@ use Rattle.sun.specs.declared.Sunned.{Sunned}
 
 -- ---- before the blur
 
--- "distances 1e-4 to infinity"
-abbrev pub sunShortest : Float
-sunShortest = lit 0x38d1b717
-
 -- "3·voxel diagonal", as the Rust multiplies it
 abbrev pub aheadOf : Vec3 → Float
-aheadOf edges = Ieee.mul binary32 (diagonalOf edges) (lit 0x40400000)
+aheadOf edges = Ieee.mul binary32 (diagonalOf edges) sunDiagonals
 
 -- the ray from a voxel's centre along l
 abbrev pub sunRay : Vec3 → Float → Vec3 → Ray
@@ -79,38 +76,33 @@ sunScratch axes corners scene direction active scratch =
 
 -- a list of the scene, the mask, the light or its scratch has the wrong length, or a list of hits is shorter than the triangle count
 unfoldable pub wrongSun : ℕ → Scene → ℕ → ℕ → ℕ → ℕ → ℕ → Bool
-wrongSun n scene activeLong lightLong scratchLong distancesLong placesLong =
+wrongSun n scene activeLength lightLength scratchLength distancesLength placesLength =
     wrongScene (scene .points) (scene .uses) (scene .kinds) (scene .numbers)
-    || wrongLength activeLong n
-    || wrongLength lightLong n
-    || wrongLength scratchLong n
-    || tooShort distancesLong (length (scene .uses))
-    || tooShort placesLong (length (scene .uses))
+    || wrongLength activeLength n
+    || wrongLength lightLength n
+    || wrongLength scratchLength n
+    || tooShort distancesLength (length (scene .uses))
+    || tooShort placesLength (length (scene .uses))
 
 -- of the light, its scratch and the two lists of hits only the lengths are asked: what they hold is never tested
 abbrev pub sunRows : Axes → Corners → Scene → Vec3 → List ℕ → ℕ → ℕ → ℕ → ℕ → List Row
-sunRows axes corners scene direction active lightLong scratchLong distancesLong placesLong =
+sunRows axes corners scene direction active lightLength scratchLength distancesLength placesLength =
     row 1 (badAxes axes)
     ∷ row 2 (badGrid corners axes)
-    ∷ row 3 (wrongSun (voxels axes) scene (length active) lightLong scratchLong distancesLong placesLong)
-    ∷ row 4 (tooMany (length (scene .uses)) (length (scene .kinds)))
-    ∷ row 5 (badPoints (scene .points))
-    ∷ row 6 (badMaterials (scene .uses) (scene .kinds) (scene .numbers))
-    ∷ row 7 (badDirection direction)
-    ∷ row 13 (badMask active)
-    ∷ []
+    ∷ row 3 (wrongSun (voxels axes) scene (length active) lightLength scratchLength distancesLength placesLength)
+    ∷ sceneRows scene (row 7 (badDirection direction) ∷ row 13 (badMask active) ∷ [])
 
 unfoldable pub sunRefusal : Axes → Corners → Scene → Vec3 → List ℕ → ℕ → ℕ → ℕ → ℕ → ℕ
-sunRefusal axes corners scene direction active lightLong scratchLong distancesLong placesLong =
-    firstOf (sunRows axes corners scene direction active lightLong scratchLong distancesLong placesLong)
+sunRefusal axes corners scene direction active lightLength scratchLength distancesLength placesLength =
+    firstOf (sunRows axes corners scene direction active lightLength scratchLength distancesLength placesLength)
 
 -- what the trace of a voxel asks
-pub record Traceable (axes : Axes) (scene : Scene) (activeLong distancesLong placesLong : ℕ) : Type 0 where
+pub record Traceable (axes : Axes) (scene : Scene) (activeLength distancesLength placesLength : ℕ) : Type 0 where
   pub axes-fit : AxesWithin axes
   pub scene-fits : Sound scene
-  pub mask-fits : activeLong ≡ voxels axes
-  pub distances-fit : length (scene .uses) ≤ distancesLong
-  pub places-fit : length (scene .uses) ≤ placesLong
+  pub mask-fits : activeLength ≡ voxels axes
+  pub distances-fit : length (scene .uses) ≤ distancesLength
+  pub places-fit : length (scene .uses) ≤ placesLength
 
 -- the lists of hits keep their lengths always, and what they held where no ray is traced; what they hold otherwise is open
 pub record SunAnswered (axes : Axes) (corners : Corners) (scene : Scene) (direction : Vec3) (active : List ℕ) (light scratch distances : List Float)

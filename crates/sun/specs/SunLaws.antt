@@ -58,9 +58,9 @@ module _ (axes : Axes) (corners : Corners) (scene : Scene) (direction : Vec3) (a
 
 -- ---- k is refused exactly when row k holds and none before it, and a call is accepted exactly when none holds
 
-pub sun-numbered : (axes : Axes) (corners : Corners) (scene : Scene) (direction : Vec3) (active : List ℕ) (lightLong scratchLong distancesLong placesLong : ℕ)
-    → Numbered (sunRows axes corners scene direction active lightLong scratchLong distancesLong placesLong)
-sun-numbered axes corners scene direction active lightLong scratchLong distancesLong placesLong =
+pub sun-numbered : (axes : Axes) (corners : Corners) (scene : Scene) (direction : Vec3) (active : List ℕ) (lightLength scratchLength distancesLength placesLength : ℕ)
+    → Numbered (sunRows axes corners scene direction active lightLength scratchLength distancesLength placesLength)
+sun-numbered axes corners scene direction active lightLength scratchLength distancesLength placesLength =
     (omega arith, (omega arith, (omega arith, (omega arith, (omega arith, (omega arith, (omega arith, (omega arith, tt))))))))
 
 pub sun-refused-by : (axes : Axes) (corners : Corners) (scene : Scene) (direction : Vec3) (active : List ℕ) (light scratch distances : List Float) (places : List ℕ)
@@ -101,20 +101,20 @@ sun-answered-once axes corners scene direction active l s d p r₁ r₂ l₁ s�
 
 -- ---- what an accepted call has
 
-pub record SunReady (axes : Axes) (scene : Scene) (activeLong lightLong scratchLong distancesLong placesLong : ℕ) : Type 0 where
-  pub traceable : Traceable axes scene activeLong distancesLong placesLong
-  pub light-fits : lightLong ≡ voxels axes
-  pub scratch-fits : scratchLong ≡ voxels axes
+pub record SunReady (axes : Axes) (scene : Scene) (activeLength lightLength scratchLength distancesLength placesLength : ℕ) : Type 0 where
+  pub traceable : Traceable axes scene activeLength distancesLength placesLength
+  pub light-fits : lightLength ≡ voxels axes
+  pub scratch-fits : scratchLength ≡ voxels axes
 
 right : (len n : ℕ) → wrongLength len n ≡ false → len ≡ n
 right len n e = eqb-true _ _ (not-false _ e)
 
-pub sun-ready : (axes : Axes) (corners : Corners) (scene : Scene) (direction : Vec3) (active : List ℕ) (lightLong scratchLong distancesLong placesLong : ℕ)
-    → sunRefusal axes corners scene direction active lightLong scratchLong distancesLong placesLong ≡ 0
-    → SunReady axes scene (length active) lightLong scratchLong distancesLong placesLong
+pub sun-ready : (axes : Axes) (corners : Corners) (scene : Scene) (direction : Vec3) (active : List ℕ) (lightLength scratchLength distancesLength placesLength : ℕ)
+    → sunRefusal axes corners scene direction active lightLength scratchLength distancesLength placesLength ≡ 0
+    → SunReady axes scene (length active) lightLength scratchLength distancesLength placesLength
 unfolding sunRefusal wrongSun
-sun-ready axes corners scene direction active lightLong scratchLong distancesLong placesLong e =
-    let p = passed (sunRows axes corners scene direction active lightLong scratchLong distancesLong placesLong) (sun-numbered axes corners scene direction active lightLong scratchLong distancesLong placesLong) e in
+sun-ready axes corners scene direction active lightLength scratchLength distancesLength placesLength e =
+    let p = passed (sunRows axes corners scene direction active lightLength scratchLength distancesLength placesLength) (sun-numbered axes corners scene direction active lightLength scratchLength distancesLength placesLength) e in
     let a = either _ _ .0 (p .1 .1 .0) in
     let b = either _ _ .0 (a .0) in
     let c = either _ _ .0 (b .0) in

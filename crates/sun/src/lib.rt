@@ -9,13 +9,9 @@ ghost use Rattle.grid.specs.Grid.{voxels};
 ghost use Rattle.sun.specs.Sun.{figureOf, sunBefore, sunRefusal, Traceable, SunAnswered};
 use grid::Axes;
 use grid::Corners;
+use names::SUN_DIAGONALS;
+use names::SUN_SHORTEST;
 use vectors::Vec3;
-
-// "distances 1e-4 to infinity"
-const SHORTEST: f32 = 1.0e-4;
-
-// "from centre + light·(3·voxel diagonal)"
-const DIAGONALS: f32 = 3.0;
 
 // What a sun pass answers: a refusal's number, and the rays, one for each active voxel.
 #[repr(C)]
@@ -84,7 +80,7 @@ pub fn sun(
     Sunned { refusal, rays: 0 }
 }
 
-// 1, 2, 3, 4, 5, 6, 7, 13, where the last four are the lengths of the light, its scratch and the two lists of hits.
+// The number of the first row that holds: 1, 2, 3, 4, 5, 6, 7, 13. The last four arguments are the lengths of the light, its scratch and the two lists of hits.
 fn judge(
     axes: Axes,
     corners: Corners,
@@ -169,7 +165,7 @@ fn trace(
 {
     let edges = grid::inner::edges(corners, axes);
     let l = vectors::normalise(direction);
-    let ahead = vectors::length(edges) * DIAGONALS;
+    let ahead = vectors::length(edges) * SUN_DIAGONALS;
     let low = corners.min;
     let mut i = 0;
     while i < before.len() {
@@ -214,15 +210,8 @@ fn figure(
     ensures { λ r. ⌜ r ≡ figureOf axes low edges l ahead (sceneOf (now (points .entry)) (now (uses .entry)) (now (kinds .entry)) (now (numbers .entry))) (now (active .entry)) i ⌝ }
 {
     if marks::inner::is_marked(active, i) {
-        let row = i / axes.width;
-        let centre = grid::inner::centre(
-            low,
-            edges,
-            i % axes.width,
-            row % axes.height,
-            row / axes.height,
-        );
-        let ray = vectors::inner::ray_from(centre, l, ahead, SHORTEST);
+        let centre = grid::inner::centre_of(low, axes, edges, i);
+        let ray = vectors::inner::ray_from(centre, l, ahead, SUN_SHORTEST);
         return scan::inner::transmittance(points, uses, kinds, numbers, ray, distances, places);
     }
     1.0

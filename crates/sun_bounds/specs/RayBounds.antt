@@ -9,7 +9,7 @@ use lib.Dec.{lit<, lit≤}
 use lib.ListN.{length}
 use lib.Ieee.{isNan, le, lt, eq, ofBits}
 use Rattle.names.specs.Bits.{lit, inf32}
-use Rattle.names.specs.Numbers.{pointLimit, colourLimit, directionLimit}
+use Rattle.names.specs.Numbers.{lightDirectionLimit, originLimit, shortestLimit, directionLimit, flatLimit, sunShortest}
 use Rattle.names.specs.Scene.{Scene}
 use Rattle.names.specs.Passed.{passed}
 use Rattle.floats.specs.Choice.{magnitudeOf}
@@ -29,17 +29,17 @@ use Rattle.bounds.specs.VectorLaws.{each-up, add-each, scale-under, dot-at-most
 use Rattle.bounds.specs.NormalLaws.{thin-normal-within, thin-normal-under}
 use Rattle.grid_laws.specs.RowBounds.{within-each, each-within}
 use Rattle.grid_laws.specs.GridBounds.{diagonal-bounded, centre-bounded}
-use Rattle.triangle.specs.Meet.{flatLimit, solvedOf}
+use Rattle.triangle.specs.Meet.{solvedOf}
 use Rattle.triangle.specs.Places.{triangleAt}
 use Rattle.rays_bounds.specs.TestBounds.{NearPoints, near-place, Bounded, test-bounded}
 use Rattle.rays_bounds.specs.Departure.{NoDeparture, accepted-same}
-use Rattle.sun.specs.Sun.{sunShortest, aheadOf, sunRay, sunRows, sunRefusal}
+use Rattle.sun.specs.Sun.{aheadOf, sunRay, sunRows, sunRefusal}
 use Rattle.sun.specs.SunLaws.{sun-numbered, sun-ready}
 
 three-small : AtMost 3 0 (lit 0x40400000)
 three-small = unfold AtMost ofBits in lit≤ tt
 
-shortest-passes : upTo colourLimit sunShortest ≡ true
+shortest-passes : upTo shortestLimit sunShortest ≡ true
 shortest-passes = unfold upTo le lt eq ofBits in refl
 
 longest-passes : isNan inf32 ≡ false
@@ -57,14 +57,14 @@ module _ (axes : Axes) (corners : Corners) (scene : Scene) (direction : Vec3) (a
       let p = passed (sunRows axes corners scene direction active lightLong scratchLong distancesLong placesLong) (sun-numbered axes corners scene direction active lightLong scratchLong distancesLong placesLong) accepted in
       let a = axes-row axes .0 (p .0) in
       let d = direction-row direction .0 (p .1 .1 .1 .1 .1 .1 .0) in
-      let e = within-each pointLimit direction 1 12 point-value (d .0) in
+      let e = within-each lightDirectionLimit direction 1 12 point-value (d .0) in
       let f = at-most-finite _ 3 24 (dot-at-most direction direction 1 12 1 12 (lit< tt) (lit< tt) e e) in
       let centre = centre-bounded corners axes (p .0) (p .1 .0) (xOf axes i) (yOf axes i) (zOf axes i) (x-within axes i (a .width)) (y-within axes i (a .height)) (z-within axes i (a .width) (a .height) h) in
       let ahead = mul-at-most _ _ 7 11 3 0 (lit< tt) (lit< tt) (diagonal-bounded corners axes (p .0) (p .1 .0)) three-small in
       let moved = scale-under (normalV direction) _ 2688 0 19 4 (lit< tt) (lit< tt) (thin-normal-under direction (d .1) f) (at-most-up _ 21 11 43008 0 (lit≤ tt) ahead) in
       let start = add-each _ _ 12320 51072 0 (lit< tt) (lit< tt) centre moved in
       ray-row (sunRayAt axes corners direction i) .1 (
-        each-within colourLimit _ 1 16 colour-value (each-up _ 63392 0 1 16 (lit≤ tt) start),
+        each-within originLimit _ 1 16 colour-value (each-up _ 63392 0 1 16 (lit≤ tt) start),
         each-within directionLimit _ 1 1 direction-value (thin-normal-within direction (d .1) f),
         shortest-passes,
         longest-passes,

@@ -7,7 +7,7 @@ use Prim.Native.Nat.{ℕ, _+_, _*_}
 use lib.ListN.{getD}
 use lib.Ieee as Ieee
 use lib.Ieee.{Float, binary32}
-use Rattle.names.specs.Bits.{lit, zero32}
+use Rattle.names.specs.Bits.{zero32, quarter32}
 use Rattle.names.specs.Scene.{Scene}
 use Rattle.lists.specs.Fold.{fold}
 use Rattle.vectors.specs.Vectors.{addV, clampV}
@@ -15,13 +15,14 @@ use Rattle.vectors.specs.declared.Vec3.{Vec3}
 use Rattle.vectors.specs.declared.Ray.{Ray}
 use Rattle.limits.specs.declared.Lamp.{Lamp}
 use Rattle.limits.specs.Limits.{lampCount, lampAt}
-use Rattle.triangle.specs.Places.{vecAt, triangleAt}
+use Rattle.vectors.specs.Places.{vecAt}
+use Rattle.triangle.specs.Places.{triangleAt}
 use Rattle.scan.specs.Transmittance.{transmittanceOf}
 use Rattle.harmonics.specs.Harmonics.{raisedV, zeroV}
-use Rattle.bounce.specs.declared.Frame.{Frame}
+use Rattle.bounce.specs.declared.Basis.{Basis}
 use Rattle.vectors.specs.Rays.{pointAt, rayFrom}
 use Rattle.bounce.specs.declared.Way.{Way}
-use Rattle.bounce.specs.Hemisphere.{frameOf, skyDirection}
+use Rattle.bounce.specs.Hemisphere.{basisOf, skyDirection}
 use Rattle.bounce.specs.Light.{faceNormal, facingOf, blackOf, slantOf, sunlightOf, skylightOf, reflectedOf}
 use Rattle.bounce.specs.Lamps.{wayTo, unlitBy, lampRayFrom, lamplightOf}
 use Rattle.surface.specs.declared.Setting.{Setting}
@@ -63,14 +64,14 @@ surfaceOf scene ray place distance hit =
 unfoldable pub shadowRay : Setting → Surface → Ray
 shadowRay setting surface = rayFrom (surface .point) (setting .toward) (setting .biases .step) (setting .biases .shortest)
 
--- along hemisphere direction j of a frame
-unfoldable pub skyRayIn : Setting → Surface → Frame → ℕ → Ray
-skyRayIn setting surface frame j =
-    rayFrom (surface .point) (skyDirection frame j) (setting .biases .step) (setting .biases .shortest)
+-- along hemisphere direction j of a basis
+unfoldable pub skyRayIn : Setting → Surface → Basis → ℕ → Ray
+skyRayIn setting surface basis j =
+    rayFrom (surface .point) (skyDirection basis j) (setting .biases .step) (setting .biases .shortest)
 
 -- along hemisphere direction j of the surface's normal
 abbrev pub skyRay : Setting → Surface → ℕ → Ray
-skyRay setting surface j = skyRayIn setting surface (frameOf (surface .normal)) j
+skyRay setting surface j = skyRayIn setting surface (basisOf (surface .normal)) j
 
 -- to a lamp
 unfoldable pub lampRay : Setting → Surface → Way → Ray
@@ -94,7 +95,7 @@ seenOf scene setting surface = fold (seenAfter scene setting surface) 4 0 (seen 
 unfoldable pub skyOf : Scene → Setting → Surface → Traced
 skyOf scene setting surface =
     let s = seenOf scene setting surface in
-    traced (skylightOf (setting .ambient) (surface .normal) (Ieee.mul binary32 (s .sum) (lit 0x3e800000))) (s .rays)
+    traced (skylightOf (setting .ambient) (surface .normal) (Ieee.mul binary32 (s .sum) quarter32)) (s .rays)
 
 -- the sun's light, where the sun is above the surface
 unfoldable pub sunOf : Scene → Setting → Surface → Traced

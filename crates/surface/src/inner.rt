@@ -6,14 +6,13 @@ ghost use lib.ListN.{length, getD};
 ghost use Rattle.names.specs.Numbers.{lampLimit};
 ghost use Rattle.names.specs.Scene.{Sound, sceneOf};
 ghost use Rattle.limits.specs.Limits.{lampCount};
-ghost use Rattle.triangle.specs.Places.{vecAt};
 ghost use Rattle.bounce.specs.Hemisphere.{hemisphere};
 ghost use Rattle.surface.specs.Surface.{surfaceOf, shadowRay, skyRayIn, lampRay, seenBy, seenOf, sunOf, skyOf, daylightOf, litBy, fallenOn, bouncedBy};
 use super::Seen;
 use super::Setting;
 use super::Surface;
 use super::Traced;
-use bounce::Frame;
+use bounce::Basis;
 use bounce::Way;
 use limits::Lamp;
 use vectors::Ray;
@@ -41,8 +40,8 @@ pub fn surface_at(
     let met = vectors::inner::point_at(ray.origin, ray.direction, distance);
     let point = vectors::inner::point_at(met, normal, hit);
     let k = material(uses, place) * 7;
-    let albedo = vectors::clamp_each(three_at(numbers, k));
-    let emissive = harmonics::inner::raise(three_at(numbers, k + 3));
+    let albedo = vectors::clamp_each(vectors::inner::vec_at(numbers, k));
+    let emissive = harmonics::inner::raise(vectors::inner::vec_at(numbers, k + 3));
     Surface {
         point,
         normal,
@@ -307,18 +306,18 @@ fn see_sky(
     ensures { λ r. ⌜ r ≡ seenOf (sceneOf (now (points .entry)) (now (uses .entry)) (now (kinds .entry)) (now (numbers .entry))) setting surface ⌝ }
 {
     let table = bounce::inner::hemisphere_table();
-    let frame = bounce::inner::frame_of(surface.normal);
+    let basis = bounce::inner::basis_of(surface.normal);
     let mut seen = Seen { sum: 0.0, rays: 0 };
     let mut j = 0;
     while j < 4 {
-        let ray = sky_ray(setting, surface, frame, &table, j);
+        let ray = sky_ray(setting, surface, basis, &table, j);
         seen = see(points, uses, kinds, numbers, ray, seen, distances, places);
         j += 1;
     }
     seen
 }
 
-// The transmittance along ray j, added to the sum.
+// The transmittance along a ray, added to the sum.
 fn see(
     points: &[f32],
     uses: &[u32],
@@ -362,13 +361,13 @@ pub fn lamp_ray(setting: Setting, surface: Surface, way: Way) -> Ray
     bounce::inner::lamp_ray_from(surface.point, way, setting.biases.shortest)
 }
 
-// Along hemisphere direction j of the frame of a surface's normal.
-pub fn sky_ray(setting: Setting, surface: Surface, frame: Frame, table: &[f32; 12], j: usize) -> Ray
+// Along hemisphere direction j of the basis of a surface's normal.
+pub fn sky_ray(setting: Setting, surface: Surface, basis: Basis, table: &[f32; 12], j: usize) -> Ray
     requires { ⌜ now table ≡ hemisphere ⌝ }
     requires { ⌜ j < 4 ⌝ }
-    ensures { λ r. ⌜ r ≡ skyRayIn setting surface frame j ⌝ }
+    ensures { λ r. ⌜ r ≡ skyRayIn setting surface basis j ⌝ }
 {
-    let direction = bounce::inner::sky_direction(frame, table, j);
+    let direction = bounce::inner::sky_direction(basis, table, j);
     vectors::inner::ray_from(
         surface.point,
         direction,
@@ -378,18 +377,6 @@ pub fn sky_ray(setting: Setting, surface: Surface, frame: Frame, table: &[f32; 1
 }
 
 // ---- reading lists
-
-// Three numbers of a list.
-pub fn three_at(list: &[f32], k: usize) -> Vec3
-    requires { ⌜ k + 2 < length (now list) ⌝ }
-    ensures { λ r. ⌜ r ≡ vecAt (now (list .entry)) k ⌝ }
-{
-    Vec3 {
-        x: list[k],
-        y: list[k + 1],
-        z: list[k + 2],
-    }
-}
 
 // The place of the material that a triangle uses.
 fn material(uses: &[u32], place: usize) -> usize

@@ -5,6 +5,7 @@ use mathlib.Core.Bool.{Bool, true, false, cond, not, _&&_, false≢true}
 use lib.Ieee as Ieee
 use lib.Ieee.{Float, binary32}
 use Rattle.names.specs.Bits.{zero32, one32}
+use Rattle.names.specs.Numbers.{flatLimit}
 use Rattle.floats.specs.Choice.{magnitudeOf}
 use Rattle.vectors.specs.Vectors.{subV, dotV, crossV}
 use Rattle.vectors.specs.declared.Ray.{Ray}
@@ -14,7 +15,7 @@ use Rattle.triangle.specs.declared.HalfSolved.{HalfSolved}
 use Rattle.triangle.specs.declared.Meet.{Meet}
 use Rattle.triangle.specs.declared.Meet.the-variants.{Miss}
 use Rattle.triangle.specs.declared.Solved.{Solved}
-use Rattle.triangle.specs.Meet.{flatLimit, solvedOf, judgedOf, meetOf}
+use Rattle.triangle.specs.Meet.{solvedOf, judgedOf, meetOf}
 use Rattle.triangle.specs.Laws.{judged-missed}
 
 unfoldable pub halfSolvedOf : Ray → Triangle → HalfSolved

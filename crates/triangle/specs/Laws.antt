@@ -4,12 +4,13 @@ use mathlib.Core.Bool.{Bool, true, false, cond, false≢true}
 use lib.Ieee as Ieee
 use lib.Ieee.{Float, binary32}
 use Rattle.names.specs.Bits.{zero32, one32}
+use Rattle.names.specs.Numbers.{flatLimit}
 use Rattle.floats.specs.Choice.{magnitudeOf}
 use Rattle.vectors.specs.declared.Ray.{Ray}
 use Rattle.vectors.specs.declared.Triangle.{Triangle}
 use Rattle.triangle.specs.declared.Meet.{Meet}
 use Rattle.triangle.specs.declared.Meet.the-variants.{Miss, Hit}
-use Rattle.triangle.specs.Meet.{flatLimit, largest32, absentOf, solvedOf, judgedOf, meetOf}
+use Rattle.triangle.specs.Meet.{largest32, absentOf, solvedOf, judgedOf, meetOf}
 
 pub absent-missed : (ray : Ray) (triangle : Triangle) → absentOf triangle ≡ true → meetOf ray triangle ≡ Miss
 unfolding meetOf

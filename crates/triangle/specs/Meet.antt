@@ -6,7 +6,7 @@ use mathlib.Core.Bool.{Bool, cond}
 use lib.Ieee as Ieee
 use lib.Ieee.{Float, binary32}
 use Rattle.names.specs.Bits.{lit, zero32, one32}
-use Rattle.names.specs.Numbers.{thinLimit}
+use Rattle.names.specs.Numbers.{thinLimit, flatLimit}
 use Rattle.floats.specs.Choice.{magnitudeOf}
 use Rattle.vectors.specs.Vectors.{subV, dotV, crossV}
 use Rattle.vectors.specs.declared.Ray.{Ray}
@@ -14,10 +14,6 @@ use Rattle.vectors.specs.declared.Triangle.{Triangle}
 use Rattle.triangle.specs.declared.Meet.{Meet}
 use Rattle.triangle.specs.declared.Meet.the-variants.{Miss, Hit}
 use Rattle.triangle.specs.declared.Solved.{Solved}
-
--- "|det|≤1e-8"
-abbrev pub flatLimit : Float
-flatLimit = lit 0x322bcc77
 
 -- the largest finite f32
 abbrev pub largest32 : Float

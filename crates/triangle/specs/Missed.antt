@@ -11,13 +11,14 @@ use lib.Dec.{ltb}
 use lib.Ieee as Ieee
 use lib.Ieee.{Float, binary32}
 use Rattle.names.specs.Bits.{zero32, one32}
+use Rattle.names.specs.Numbers.{flatLimit}
 use Rattle.floats.specs.Choice.{magnitudeOf}
 use Rattle.vectors.specs.declared.Ray.{Ray}
 use Rattle.vectors.specs.declared.Triangle.{Triangle}
 use Rattle.triangle.specs.declared.Meet.{Meet}
 use Rattle.triangle.specs.declared.Meet.the-variants.{Miss, Hit}
 use Rattle.triangle.specs.declared.Solved.{Solved}
-use Rattle.triangle.specs.Meet.{flatLimit, largest32, solvedOf, judgedOf, meetOf}
+use Rattle.triangle.specs.Meet.{largest32, solvedOf, judgedOf, meetOf}
 use Rattle.triangle.specs.Laws.{judged-missed}
 use Rattle.triangle.specs.Places.{triangleAt}
 

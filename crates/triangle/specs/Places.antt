@@ -1,16 +1,9 @@
--- A triangle out of a lent list: nine numbers a triangle, p0 xyz, p1 xyz, p2 xyz. Places count the whole list, absent triangles too. Past the
--- list's end stands NaN; who reads shows the place in range.
+-- A triangle out of a lent list: nine numbers a triangle, p0 xyz, p1 xyz, p2 xyz. Places count the whole list, absent triangles too.
 use mathlib.Core.List.{List}
 use Prim.Native.Nat.{ℕ, _+_, _*_}
-use lib.ListN.{getD}
-use lib.Ieee.{Float, nan}
-use Rattle.vectors.specs.Vectors.{vec}
-use Rattle.vectors.specs.declared.Vec3.{Vec3}
+use lib.Ieee.{Float}
+use Rattle.vectors.specs.Places.{vecAt}
 use Rattle.vectors.specs.declared.Triangle.{Triangle}
-
--- three numbers from k on
-abbrev pub vecAt : List Float → ℕ → Vec3
-vecAt l k = vec (getD l k nan) (getD l (k + 1) nan) (getD l (k + 2) nan)
 
 -- the triangle at place i
 unfoldable pub triangleAt : List Float → ℕ → Triangle

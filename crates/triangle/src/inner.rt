@@ -3,22 +3,18 @@ ghost use mathlib.Core.Path.{_≡_};
 ghost use mathlib.Core.Bool.{cond};
 ghost use Prim.Native.Nat.{_+_, _*_, _≤_, _<_};
 ghost use lib.ListN.{length};
-ghost use Rattle.triangle.specs.Places.{vecAt, triangleAt};
+ghost use Rattle.triangle.specs.Places.{triangleAt};
 ghost use Rattle.triangle.specs.Meet.{absentOf, solvedOf, judgedOf, meetOf};
 ghost use Rattle.triangle.specs.Halves.{halfSolvedOf, restSolvedOf, besideOf};
 ghost use Rattle.triangle.specs.Missed.{outsideOf, Missed};
 use super::HalfSolved;
 use super::Meet;
 use super::Solved;
+use names::FLAT_LIMIT;
+use names::THIN_LIMIT;
 use vectors::Ray;
 use vectors::Triangle;
 use vectors::Vec3;
-
-// "A triangle whose cross has squared length at most 1e-12 is absent everywhere."
-const THIN: f32 = 1.0e-12;
-
-// "Miss if |det|≤1e-8"
-const FLAT: f32 = 1.0e-8;
 
 // the largest finite number: "A non-finite t is a miss"
 const LARGEST: f32 = 3.4028235e38;
@@ -50,7 +46,7 @@ pub fn absent(triangle: Triangle) -> bool
 {
     let p0 = triangle.p0;
     let n = vectors::cross(vectors::sub(triangle.p1, p0), vectors::sub(triangle.p2, p0));
-    vectors::dot(n, n) <= THIN
+    vectors::dot(n, n) <= THIN_LIMIT
 }
 
 // The determinant, u, v and t. Where the determinant is 0 the others are infinite or no number, and the judgement misses before it reads them.
@@ -106,7 +102,7 @@ fn beside(u: f32) -> bool
 fn judged(s: Solved, shortest: f32, longest: f32) -> Meet
     ensures { λ r. ⌜ r ≡ judgedOf s shortest longest ⌝ }
 {
-    if floats::magnitude(s.det) <= FLAT {
+    if floats::magnitude(s.det) <= FLAT_LIMIT {
         return Meet::Miss;
     }
     if 0.0 <= s.u {} else {
@@ -134,7 +130,7 @@ fn judged(s: Solved, shortest: f32, longest: f32) -> Meet
 }
 
 // How many triangles from place i on, at most k, the ray surely misses. The loop has no branch and no store, so that the compiler asks four triangles
-// at once, and counts in u16, of which SSE2 has the lesser of several at once.
+// at once, and counts in u16: SSE2 can take the lesser of each of eight pairs of them at once.
 pub fn clear(points: &[f32], i: usize, k: u16, ray: Ray) -> u16
     requires { ⌜ (i + k) * 9 ≤ length (now points) ⌝ }
     ensures { λ r. ⌜ (r ≤ k) × Missed (now (points .entry)) ray i (i + r) ⌝ }
@@ -143,7 +139,7 @@ pub fn clear(points: &[f32], i: usize, k: u16, ray: Ray) -> u16
     let mut j = 0;
     while j < k {
         let s = solve(ray, at(points, i + j as usize));
-        c = lesser(c, where_met(outside(s, ray.shortest, ray.longest), j, k));
+        c = lesser(c, left_open(outside(s, ray.shortest, ray.longest), j, k));
         j += 1;
     }
     c
@@ -157,7 +153,7 @@ fn outside(s: Solved, shortest: f32, longest: f32) -> bool
 }
 
 // k for a triangle that is missed, and its own place j for another.
-fn where_met(missed: bool, j: u16, k: u16) -> u16
+fn left_open(missed: bool, j: u16, k: u16) -> u16
     ensures { λ r. ⌜ r ≡ cond missed k j ⌝ }
 {
     if missed { k } else { j }
@@ -175,19 +171,8 @@ pub fn at(points: &[f32], i: usize) -> Triangle
     ensures { λ r. ⌜ r ≡ triangleAt (now (points .entry)) i ⌝ }
 {
     let k = i * 9;
-    let p0 = point(points, k);
-    let p1 = point(points, k + 3);
-    let p2 = point(points, k + 6);
+    let p0 = vectors::inner::vec_at(points, k);
+    let p1 = vectors::inner::vec_at(points, k + 3);
+    let p2 = vectors::inner::vec_at(points, k + 6);
     Triangle { p0, p1, p2 }
-}
-
-fn point(points: &[f32], k: usize) -> Vec3
-    requires { ⌜ k + 2 < length (now points) ⌝ }
-    ensures { λ r. ⌜ r ≡ vecAt (now (points .entry)) k ⌝ }
-{
-    Vec3 {
-        x: points[k],
-        y: points[k + 1],
-        z: points[k + 2],
-    }
 }

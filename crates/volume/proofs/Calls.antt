@@ -12,7 +12,7 @@ use Rattle.grid.specs.declared.Axes.{Axes}
 use Rattle.grid.specs.declared.Corners.{Corners}
 use Rattle.grid.specs.Grid.{voxels, AxesWithin}
 use Rattle.grid.specs.GridLaws.{voxels-most}
-use Rattle.names.specs.Numbers.{voxelLimit}
+use Rattle.names.specs.Numbers.{voxelLimit, figuresLimit}
 use Rattle.bytes_le.specs.Bytes.{floatsAt, bytesAt}
 use Rattle.limits.specs.Limits.{badAxes, badGrid}
 use Rattle.limits.specs.LimitsLaws.{axes-row}
@@ -24,7 +24,7 @@ use Rattle.volume_write.specs.FileBytes.{bytesFor, fileBytes, Lent}
 use Rattle.volume.specs.declared.Head.{Head}
 use Rattle.volume.specs.declared.Needed.{Needed}
 use Rattle.volume.specs.declared.Figures.{Figures}
-use Rattle.volume.specs.Volume.{noHead, headAnswer, fileRefusal, FileAxes, neededRefusal, VolumeBytes, wrongVolumeLists, readRefusal, VolumeRead, wrongBytes, badLists, writeRefusal, VolumeWritten, figuresLimit, zeroCount, noFigures, figuresAnswer, figuresRefusal, FileFigures}
+use Rattle.volume.specs.Volume.{noHead, headAnswer, fileRefusal, FileAxes, neededRefusal, VolumeBytes, wrongVolumeLists, readRefusal, VolumeRead, wrongBytes, badLists, writeRefusal, VolumeWritten, zeroCount, noFigures, figuresAnswer, figuresRefusal, FileFigures}
 use Rattle.volume.specs.VolumeLaws.{lists-row, BodiesRead}
 use borrow.Author.Tests.{eqb-true, not-false}
 

@@ -10,6 +10,7 @@ use lib.ListN.{length}
 use lib.Ieee as Ieee
 use lib.Ieee.{Float}
 use Rattle.names.specs.Bits.{zero32}
+use Rattle.names.specs.Numbers.{figuresLimit}
 use Rattle.names.specs.Refusals.{Row, row, firstOf, unlessRefused}
 use Rattle.vectors.specs.declared.Vec3.{Vec3}
 use Rattle.vectors.specs.Vectors.{vec}
@@ -106,9 +107,6 @@ pub record VolumeWritten (a : Axes) (c : Corners) (l v : List Float) (m o b : Li
   pub bytes : b′ ≡ unlessRefused (writeRefusal a c l v m o b) (fileBytes a c l v m o) b
 
 -- ---- the figures: 14, then 12
-
-abbrev pub figuresLimit : ℕ
-figuresLimit = 65536
 
 -- "light equal to zero": −0 too
 abbrev pub isZero : Float → Bool

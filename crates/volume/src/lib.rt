@@ -13,6 +13,7 @@ ghost use Rattle.volume.specs.Volume.{noHead, headAnswer, noFigures, fig
 ghost use Rattle.volume.specs.VolumeLaws.{Room, BodiesRead};
 use grid::Axes;
 use grid::Corners;
+use names::FIGURES_LIMIT;
 use vectors::Vec3;
 
 // What a file says of its grid: 12 or 3 and zeros, or 0, axes and corners.
@@ -41,9 +42,6 @@ pub struct Figures {
     pub active: u64,
     pub zeros: u64,
 }
-
-// "`volstat` input above 65,536 bytes"
-const FIGURES_LIMIT: usize = 65536;
 
 // The axes and corners of a file, or 12. Writes nothing: whoever is to read the file learns here which lists to lend.
 pub fn file_axes(bytes: &[u8]) -> Head

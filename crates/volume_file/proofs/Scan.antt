@@ -5,7 +5,7 @@ use mathlib.Core.Bool.{Bool, true, false, _||_}
 use native.Mathlib.Omega.{arith}
 use lib.Ieee.{Float}
 use Rattle.lists.specs.Fold.{ahead, tab}
-use Rattle.limits.specs.Some.{some}
+use Rattle.lists.specs.Some.{some}
 use Rattle.limits.specs.Limits.{outside}
 
 module _ (f : ℕ → Float) (b : Float) (n i : ℕ) (whole : Bool) where

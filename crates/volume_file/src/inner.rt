@@ -4,7 +4,7 @@ ghost use Prim.Native.Nat.{_+_, _*_, _<_, _≤_};
 ghost use lib.ListN.{length};
 ghost use Rattle.grid.specs.Grid.{AxesWithin};
 ghost use Rattle.bytes_le.specs.Bytes.{floatsAt, bytesAt};
-ghost use Rattle.limits.specs.Some.{some};
+ghost use Rattle.lists.specs.Some.{some};
 ghost use Rattle.limits.specs.Limits.{outside, badMask};
 ghost use Rattle.contents.specs.Contents.{offsetAt};
 ghost use Rattle.contents.specs.ContentsLaws.{Laid};
@@ -12,12 +12,9 @@ ghost use Rattle.names.specs.Numbers.{voxelLimit};
 ghost use Rattle.volume_file.specs.VolumeFile.{vectorAt, cornersAt, badBodies, faulty};
 use grid::Axes;
 use grid::Corners;
+use names::COEFFICIENT_LIMIT;
+use names::LIGHT_LIMIT;
 use vectors::Vec3;
-
-// "light or coefficient not finite or beyond ±2^64"
-const LIGHT_LIMIT: f32 = 18446744073709551616.0;
-// "13 lets a coefficient reach ±2^96"
-const COEFFICIENT_LIMIT: f32 = 79228162514264337593543950336.0;
 
 // Whether the bytes are no volume file.
 pub fn is_faulty(s: &[u8]) -> bool

@@ -9,7 +9,7 @@ use native.Mathlib.Omega.{arith}
 use borrow.Author.Tests.{eqb-true}
 use lib.Dec.{eqb}
 use lib.ListN.{length, getD, take, drop}
-use lib.Seq.{take-add, drop-drop, take-all, drop-cons}
+use lib.Seq.{take-add, drop-drop, take-all}
 use lib.Ieee as Ieee
 use lib.Ieee.Scale.{finite}
 use lib.Ieee.{Float, nan, isNan}
@@ -19,7 +19,7 @@ use Rattle.lists.specs.Fold.{tab, length-tab, getD-tab}
 use Rattle.grid.specs.Grid.{voxels}
 use Rattle.bytes_le.specs.Bytes.{word, u16At, u32At, f32At, floatsAt, bytesAt, bytes2, bytes4, encode}
 use Rattle.bytes_le.specs.BytesLaws.{half-bytes, word-bytes}
-use Rattle.bytes_le.specs.RoundTrip.{AllBytes, floats-kept}
+use Rattle.bytes_le.specs.RoundTrip.{AllBytes, one-cons, floats-kept}
 use Rattle.limits.specs.Limits.{within}
 use Rattle.limits.specs.LimitsLaws.{limit-finite, lights-row, coefficients-row, grid-row, vector-row}
 use Rattle.contents.specs.Contents.{mark, marked, axesAt, entriesAt, entryKindAt, offsetAt, lengthAt, contentsFrom, headOf, entryOf, bodiesFrom}
@@ -35,18 +35,15 @@ join s x y k a b j e f g =
     let d : drop a (drop k s) ≡ drop j s = drop-drop a k s ∙ ap (λ (i : ℕ). drop i s) g in
     rw (e, f, ← d) (sym (take-add a b (drop k s)))
 
-one-at : (s : List ℕ) (k m : ℕ) → k < length s → suc k ≡ m → drop k s ≡ getD s k 0 ∷ drop m s
-one-at s k m h e = drop-cons s k 0 h ∙ ap (λ (x : ℕ). getD s k 0 ∷ drop x s) e
-
 two-at : (s : List ℕ) (k : ℕ) → AllBytes s → k + 2 ≤ length s → bytes2 (u16At s k) ≡ bytesAt s k 2
 two-at s k h l =
     half-bytes (getD s k 0) (getD s (k + 1) 0) (h k) (h (k + 1))
-    ∙ sym (rw (one-at s k (k + 1) (omega arith) (omega arith), one-at s (k + 1) (k + 2) (omega arith) (omega arith)) refl)
+    ∙ sym (rw (one-cons s k (k + 1) (omega arith) (omega arith), one-cons s (k + 1) (k + 2) (omega arith) (omega arith)) refl)
 
 four-at : (s : List ℕ) (k : ℕ) → AllBytes s → k + 4 ≤ length s → bytes4 (u32At s k) ≡ bytesAt s k 4
 four-at s k h l =
     word-bytes (getD s k 0) (getD s (k + 1) 0) (getD s (k + 2) 0) (getD s (k + 3) 0) (h k) (h (k + 1)) (h (k + 2)) (h (k + 3))
-    ∙ sym (rw (one-at s k (k + 1) (omega arith) (omega arith), one-at s (k + 1) (k + 2) (omega arith) (omega arith), one-at s (k + 2) (k + 3) (omega arith) (omega arith), one-at s (k + 3) (k + 4) (omega arith) (omega arith)) refl)
+    ∙ sym (rw (one-cons s k (k + 1) (omega arith) (omega arith), one-cons s (k + 1) (k + 2) (omega arith) (omega arith), one-cons s (k + 2) (k + 3) (omega arith) (omega arith), one-cons s (k + 3) (k + 4) (omega arith) (omega arith)) refl)
 
 -- ---- the head
 
@@ -61,8 +58,8 @@ mark-at s l e =
     let m₂ : getD s 2 0 ≡ 82 = eqb-true (getD s 2 0) 82 (q .1) in
     let m₃ : getD s 3 0 ≡ 68 = eqb-true (getD s 3 0) 68 (p .1) in
     let d : drop 0 s ≡ 86 ∷ 71 ∷ 82 ∷ 68 ∷ drop 4 s =
-    one-at s 0 1 (omega arith) refl
-    ∙ rw (one-at s 1 2 (omega arith) refl, one-at s 2 3 (omega arith) refl, one-at s 3 4 (omega arith) refl, m₀, m₁, m₂, m₃) refl in
+    one-cons s 0 1 (omega arith) refl
+    ∙ rw (one-cons s 1 2 (omega arith) refl, one-cons s 2 3 (omega arith) refl, one-cons s 3 4 (omega arith) refl, m₀, m₁, m₂, m₃) refl in
     sym (ap (take 4) d)
 
 head-at : (s : List ℕ) → AllBytes s → 12 ≤ length s → marked s ≡ true → entriesAt s ≡ 5 → headOf (axesAt s) ≡ bytesAt s 0 12

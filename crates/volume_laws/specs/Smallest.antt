@@ -10,20 +10,21 @@ use lib.ListN.{length, replicate}
 use lib.Ieee as Ieee
 use lib.Ieee.{Float}
 use Rattle.names.specs.Bits.{lit, zero32, one32}
+use Rattle.names.specs.Numbers.{figuresLimit}
 use Rattle.names.specs.Refusals.{row, firstOf}
 use Rattle.lists.specs.Fold.{fold, tab}
 use Rattle.vectors.specs.Vectors.{vec}
 use Rattle.grid.specs.declared.Axes.{Axes}
 use Rattle.grid.specs.declared.Corners.{Corners}
 use Rattle.grid.specs.Grid.{voxels, edgesOf}
-use Rattle.limits.specs.Some.{some}
+use Rattle.lists.specs.Some.{some}
 use Rattle.limits.specs.Limits.{within, outsideV, badAxes, badCorners, badEdges, badMask, badLights, badCoefficients}
 use Rattle.marks.specs.Marks.{markedCount}
 use Rattle.bytes_le.specs.Bytes.{f32At, encode}
 use Rattle.contents.specs.Contents.{marked, headed, kindOf, bodyFits, entryGood, contentsFrom, offsetAt}
 use Rattle.volume_file.specs.VolumeFile.{voxelsAt, lightAt, volumeAt, activeAt, occupiedAt, cornersAt, badBodies, faulty}
 use Rattle.volume_write.specs.FileBytes.{bytesFor, contentsOf, fileBytes}
-use Rattle.volume.specs.Volume.{headAnswer, fileRefusal, neededRefusal, readRefusal, figuresLimit, figuresRefusal, figuresAnswer, zeroCount, wrongVolumeLists, wrongBytes, badLists, writeRefusal}
+use Rattle.volume.specs.Volume.{headAnswer, fileRefusal, neededRefusal, readRefusal, figuresRefusal, figuresAnswer, zeroCount, wrongVolumeLists, wrongBytes, badLists, writeRefusal}
 
 pub smallest : List ℕ
 smallest =

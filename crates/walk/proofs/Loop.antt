@@ -8,10 +8,10 @@ use native.Mathlib.Omega.{arith}
 use native.Mathlib.Nat.{sub-zero, zero-add}
 use lib.ListN.{length}
 use lib.Ieee.{Float}
+use Rattle.lists.specs.Laid.{length-replaced}
 use Rattle.marks.specs.Marks.{isMarked}
 use Rattle.spread.specs.Spread.{Walked, walked, more, walk}
 use Rattle.spread.specs.Walks.{so-far-stop, so-far-end, so-far-skip, so-far-take}
-use Rattle.spread.specs.Contents.{length-replaced}
 use Rattle.gather.specs.Gather.{gatheredOf}
 use Rattle.gather.specs.GatherLaws.{length-gathered, cost-least, cost-most}
 use Rattle.intake.specs.Intake.{BakeInput, voxelNumbers, bakeCost}

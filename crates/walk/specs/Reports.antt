@@ -4,7 +4,8 @@ use mathlib.Core.List.{List}
 use Prim.Native.Nat.{ℕ, _+_, _*_, _≤_}
 use lib.ListN.{length}
 use lib.Ieee.{Float}
-use Rattle.spread.specs.Spread.{Called, Walked, replaced}
+use Rattle.lists.specs.Laid.{replaced}
+use Rattle.spread.specs.Spread.{Called, Walked}
 use Rattle.gather.specs.Gather.{GatherInput, gatheredOf, costOf, Gatherable}
 use Rattle.intake.specs.Intake.{BakeInput, voxelNumbers, voxelCount, triangleCount}
 use Rattle.names.specs.Numbers.{skyNumbers, lampLimit}

@@ -1,6 +1,6 @@
 -- `geaidnosa::found_told` meets its contract: each arm is a clause of the definition of an enum's values.
 use mathlib.Core.Path.{_∙_}
-use Rattle.rays.specs.Rays.{foundValues}
+use Rattle.rays.specs.Rays.{valuesOfFound}
 use borrow.Author.Needs.{needs}
 use Rattle.geaidnosa.proofs.found_told.Statement.{statement}
 use Rattle.geaidnosa.proofs.found_told.Tie as tie
@@ -24,15 +24,15 @@ hit-at-requires : tie.Need-hit-at-requires
 hit-at-requires c κs = search needs
 
 returns : tie.Need-returns
-unfolding foundValues
+unfolding valuesOfFound
 returns c = c .no-hit .ensures ∙ cc
 
 returns-2 : tie.Need-returns-2
-unfolding foundValues
+unfolding valuesOfFound
 returns-2 c = c .no-hit2 .ensures ∙ cc
 
 returns-3 : tie.Need-returns-3
-unfolding foundValues
+unfolding valuesOfFound
 returns-3 c = rw (c .before .before .f2 .given .1) (c .hit-at .ensures)
 
 pub found-told-spec : {M : Type 1} → statement M

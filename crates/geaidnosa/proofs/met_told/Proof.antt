@@ -1,6 +1,6 @@
 -- `geaidnosa::met_told` meets its contract: each arm is a clause of the definition of an enum's values.
 use mathlib.Core.Path.{_∙_}
-use Rattle.rays.specs.Rays.{metValues}
+use Rattle.rays.specs.Rays.{valuesOfMet}
 use borrow.Author.Needs.{needs}
 use Rattle.geaidnosa.proofs.met_told.Statement.{statement}
 use Rattle.geaidnosa.proofs.met_told.Tie as tie
@@ -24,15 +24,15 @@ hit-at-requires : tie.Need-hit-at-requires
 hit-at-requires c κs = search needs
 
 returns : tie.Need-returns
-unfolding metValues
+unfolding valuesOfMet
 returns c = c .no-hit .ensures ∙ cc
 
 returns-2 : tie.Need-returns-2
-unfolding metValues
+unfolding valuesOfMet
 returns-2 c = c .no-hit2 .ensures ∙ cc
 
 returns-3 : tie.Need-returns-3
-unfolding metValues
+unfolding valuesOfMet
 returns-3 c = c .hit-at .ensures ∙ cc
 
 pub met-told-spec : {M : Type 1} → statement M

@@ -5,16 +5,16 @@ use Rattle.replay_fired.proofs.sky_rays.Statement.{statement}
 use Rattle.replay_fired.proofs.sky_rays.Tie as tie
 
 abbrev Inv-loop : tie.InvT-loop
-Inv-loop s voxel setting surface table frame so-far₀ j₀ so-far j = j ≤ 4
+Inv-loop s voxel setting surface table basis so-far₀ j₀ so-far j = j ≤ 4
 
 abbrev μ-loop : tie.MeasureT-loop
-μ-loop s voxel setting surface table frame so-far₀ j₀ so-far j = 4 - j
+μ-loop s voxel setting surface table basis so-far₀ j₀ so-far j = 4 - j
 
 hemisphere-table-requires : tie.Need-hemisphere-table-requires Inv-loop μ-loop
 hemisphere-table-requires c κs = search needs
 
-frame-of-requires : tie.Need-frame-of-requires Inv-loop μ-loop
-frame-of-requires c κs = search needs
+basis-of-requires : tie.Need-basis-of-requires Inv-loop μ-loop
+basis-of-requires c κs = search needs
 
 loop-holds : tie.Need-loop-holds Inv-loop μ-loop
 loop-holds c = search needs
@@ -44,7 +44,7 @@ sky-rays-spec =
     Inv-loop
     μ-loop
     hemisphere-table-requires
-    frame-of-requires
+    basis-of-requires
     loop-holds
     sky-ray-requires
     fire-requires

@@ -6,8 +6,7 @@ use Prim.Native.Nat.{ℕ, _+_, _-_, _*_, _≤_}
 use lib.ListN.{length, take}
 use lib.Seq.{take-all}
 use lib.Ieee.{Float}
-use Rattle.spread.specs.Spread.{laid}
-use Rattle.spread.specs.Contents.{laid-next}
+use Rattle.lists.specs.Laid.{laid, laid-next}
 use Rattle.ends.specs.Ends.{ambientAt, filledOf}
 use Rattle.ends.proofs.inner.fill.Statement.{statement}
 use Rattle.ends.proofs.inner.fill.Tie as tie

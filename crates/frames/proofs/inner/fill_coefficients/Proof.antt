@@ -8,9 +8,8 @@ use denote.Ref.{now}
 use lib.ListN.{length, take}
 use lib.Seq.{take-all}
 use lib.Ieee.{Float}
+use Rattle.lists.specs.Laid.{laid, laid-next}
 use Rattle.grid.specs.Grid.{voxels}
-use Rattle.spread.specs.Spread.{laid}
-use Rattle.spread.specs.Contents.{laid-next}
 use Rattle.lookup.specs.Place.{Inside, cellsOf}
 use Rattle.lookup.specs.Lookup.{coefficientBlend, coefficientsAtOf}
 use Rattle.frames.specs.Frames.{positionAt, coefficientFrameOf}

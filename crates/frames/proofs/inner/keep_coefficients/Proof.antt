@@ -9,8 +9,7 @@ use denote.Ref.{now}
 use lib.ListN.{length, take}
 use lib.Seq.{take-all}
 use lib.Ieee.{Float}
-use Rattle.spread.specs.Spread.{laid}
-use Rattle.spread.specs.Contents.{laid-next}
+use Rattle.lists.specs.Laid.{laid, laid-next}
 use Rattle.lookup.specs.declared.CoefficientsAt.{CoefficientsAt}
 use Rattle.lookup.specs.Lookup.{coefficientsAtOf}
 use Rattle.frames.specs.Frames.{positionAt, coefficientRefusalAt, leastRefused, coefficientFrameOf}

@@ -11,11 +11,11 @@ use Rattle.gather.proofs.inner.gather_along.Tie as tie
 direction-at-requires : tie.Need-direction-at-requires
 direction-at-requires c κs = search needs
 
-mul-three-at : tie.Need-mul-three-at
-mul-three-at c = search needs
+mul-vec-at : tie.Need-mul-vec-at
+mul-vec-at c = search needs
 
-three-at-requires : tie.Need-three-at-requires
-three-at-requires c κs = search needs
+vec-at-requires : tie.Need-vec-at-requires
+vec-at-requires c κs = search needs
 
 primary-ray-requires : tie.Need-primary-ray-requires
 primary-ray-requires c κs = search needs
@@ -47,7 +47,7 @@ same-length-2 c = search needs
 
 returns : tie.Need-returns
 unfolding gatheredAlong
-returns c = rw (← c .before .before .before .before .before .before .before .before .before .before .before .before .before .before .direction-at .ensures, ← c .before .before .before .before .before .before .before .before .before .before .before .before .before .three-at .ensures, ← c .before .before .before .before .before .before .before .before .before .before .before .before .primary-ray .ensures, ← c .before .before .before .before .before .before .before .before .before .look .ensures, ← c .before .before .before .before .add-radiance .ensures)
+returns c = rw (← c .before .before .before .before .before .before .before .before .before .before .before .before .before .before .direction-at .ensures, ← c .before .before .before .before .before .before .before .before .before .before .before .before .before .vec-at .ensures, ← c .before .before .before .before .before .before .before .before .before .before .before .before .primary-ray .ensures, ← c .before .before .before .before .before .before .before .before .before .look .ensures, ← c .before .before .before .before .add-radiance .ensures)
 
 pub gather-along-spec : {M : Type 1} → statement M
-gather-along-spec = tie.close (tie.spec direction-at-requires mul-three-at three-at-requires primary-ray-requires look-requires add-radiance-requires add-t19 add-t24 same-length same-length-2 returns)
+gather-along-spec = tie.close (tie.spec direction-at-requires mul-vec-at vec-at-requires primary-ray-requires look-requires add-radiance-requires add-t19 add-t24 same-length same-length-2 returns)

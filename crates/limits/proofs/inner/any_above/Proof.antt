@@ -5,7 +5,7 @@ use mathlib.Core.Bool.{_||_}
 use Prim.Native.Nat.{_≤_, _-_}
 use lib.ListN.{length, drop}
 use lib.Dec.{ltb}
-use Rattle.limits.specs.Some.{some, some-more, some-all}
+use Rattle.lists.specs.Some.{some, some-more, some-all}
 use Rattle.limits.proofs.inner.any_above.Statement.{statement}
 use Rattle.limits.proofs.inner.any_above.Tie as tie
 

@@ -5,7 +5,7 @@ use Prim.Native.Nat.{_≤_, _-_}
 use lib.ListN.{length, drop}
 use lib.Dec.{leb}
 use borrow.Author.Tests.{le-leb, lt-leb}
-use Rattle.limits.specs.Some.{some, some-found, some-next, some-end}
+use Rattle.lists.specs.Some.{some, some-found, some-next, some-end}
 use Rattle.limits.proofs.inner.any_from.Statement.{statement}
 use Rattle.limits.proofs.inner.any_from.Tie as tie
 

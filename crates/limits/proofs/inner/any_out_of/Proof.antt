@@ -5,7 +5,7 @@ use mathlib.Core.Bool.{_||_}
 use Prim.Native.Nat.{_≤_, _-_}
 use lib.ListN.{length, drop}
 use lib.Ieee.{nan}
-use Rattle.limits.specs.Some.{some, some-more, some-all}
+use Rattle.lists.specs.Some.{some, some-more, some-all}
 use Rattle.limits.specs.Limits.{outside}
 use Rattle.limits.proofs.inner.any_out_of.Statement.{statement}
 use Rattle.limits.proofs.inner.any_out_of.Tie as tie

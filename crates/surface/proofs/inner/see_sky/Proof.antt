@@ -24,18 +24,18 @@ record Turn (scene : Scene) (setting : Setting) (surface : Surface) (d₀ : List
   left : fold (seenAfter scene setting surface) (4 - j) j s ≡ seenOf scene setting surface
 
 abbrev Inv-loop : tie.InvT-loop
-Inv-loop points uses kinds numbers setting surface distances₀ places₀ table frame seen₀ j₀ distances places seen j =
+Inv-loop points uses kinds numbers setting surface distances₀ places₀ table basis seen₀ j₀ distances places seen j =
     Turn (sceneOf points uses kinds numbers) setting surface distances₀ places₀ distances places seen j
 
 abbrev μ-loop : tie.MeasureT-loop
-μ-loop points uses kinds numbers setting surface distances₀ places₀ table frame seen₀ j₀ distances places seen j =
+μ-loop points uses kinds numbers setting surface distances₀ places₀ table basis seen₀ j₀ distances places seen j =
     4 - j
 
 hemisphere-table-requires : tie.Need-hemisphere-table-requires Inv-loop μ-loop
 hemisphere-table-requires c κs = search needs
 
-frame-of-requires : tie.Need-frame-of-requires Inv-loop μ-loop
-frame-of-requires c κs = search needs
+basis-of-requires : tie.Need-basis-of-requires Inv-loop μ-loop
+basis-of-requires c κs = search needs
 
 loop-holds : tie.Need-loop-holds Inv-loop μ-loop
 unfolding seenOf
@@ -65,7 +65,7 @@ loop-again c =
     let a = l .before .before .before .before .before .before .before .before .before .args in
     let f = seenAfter (sceneOf (a .points .now) (a .uses .now) (a .kinds .now) (a .numbers .now)) (a .setting) (a .surface) in
     let h = c .before .before .before .before .before .before .before .before .before .loop-test .taken in
-    record { below = omega arith; rays = ap (λ (s : Seen). s .rays) (r .ensures) ∙ omega (arith, t .rays); distances = omega (arith, t .distances, r .kept .1 .1 .1 .1 .1 .1 .0); places = omega (arith, t .places, r .kept .1 .1 .1 .1 .1 .1 .1 .0); left = rw (r .ensures, c .before .before .before .before .before .before .before .sky-ray .ensures, l .before .frame-of .ensures) (sym (fold-step f (l .loop .j) 4 (l .loop .seen) h) ∙ t .left) }
+    record { below = omega arith; rays = ap (λ (s : Seen). s .rays) (r .ensures) ∙ omega (arith, t .rays); distances = omega (arith, t .distances, r .kept .1 .1 .1 .1 .1 .1 .0); places = omega (arith, t .places, r .kept .1 .1 .1 .1 .1 .1 .1 .0); left = rw (r .ensures, c .before .before .before .before .before .before .before .sky-ray .ensures, l .before .basis-of .ensures) (sym (fold-step f (l .loop .j) 4 (l .loop .seen) h) ∙ t .left) }
 
 same-length : tie.Need-same-length Inv-loop μ-loop
 same-length c = c .before .loop .inv .distances
@@ -86,7 +86,7 @@ see-sky-spec =
     Inv-loop
     μ-loop
     hemisphere-table-requires
-    frame-of-requires
+    basis-of-requires
     loop-holds
     sky-ray-requires
     see-requires

@@ -32,24 +32,24 @@ material-requires c κs = search needs
 mul-k : tie.Need-mul-k
 mul-k c = omega (arith, held c, c .before .before .before .before .before .before .before .before .before .before .pre .0 .materials)
 
-three-at-requires : tie.Need-three-at-requires
-three-at-requires c κs = omega (arith, held c, c .before .before .before .before .before .before .before .before .before .before .pre .0 .numbers)
+vec-at-requires : tie.Need-vec-at-requires
+vec-at-requires c κs = omega (arith, held c, c .before .before .before .before .before .before .before .before .before .before .pre .0 .numbers)
 
 clamp-each-requires : tie.Need-clamp-each-requires
 clamp-each-requires c κs = search needs
 
-add-three-at : tie.Need-add-three-at
-add-three-at c = omega (arith, held (c .before .before), c .before .before .before .before .before .before .before .before .before .before .before .before .pre .0 .materials)
+add-vec-at : tie.Need-add-vec-at
+add-vec-at c = omega (arith, held (c .before .before), c .before .before .before .before .before .before .before .before .before .before .before .before .pre .0 .materials)
 
-three-at-requires-2 : tie.Need-three-at-requires-2
-three-at-requires-2 c κs = omega (arith, held (c .before .before), c .before .before .before .before .before .before .before .before .before .before .before .before .pre .0 .numbers)
+vec-at-requires-2 : tie.Need-vec-at-requires-2
+vec-at-requires-2 c κs = omega (arith, held (c .before .before), c .before .before .before .before .before .before .before .before .before .before .before .before .pre .0 .numbers)
 
 raise-requires : tie.Need-raise-requires
 raise-requires c κs = search needs
 
 returns : tie.Need-returns
 unfolding surfaceOf
-returns c = rw (← c .before .before .before .before .before .before .before .before .before .at .ensures, ← c .before .before .before .before .before .before .before .before .face-normal .ensures, ← c .before .before .before .before .before .before .before .facing .ensures, ← c .before .before .before .before .before .before .point-at .ensures, ← c .before .before .before .before .before .point-at2 .ensures, ← c .before .before .before .before .material .ensures, ← c .before .before .before .three-at .ensures, ← c .before .before .clamp-each .ensures, ← c .before .three-at2 .ensures, ← c .raise .ensures)
+returns c = rw (← c .before .before .before .before .before .before .before .before .before .at .ensures, ← c .before .before .before .before .before .before .before .before .face-normal .ensures, ← c .before .before .before .before .before .before .before .facing .ensures, ← c .before .before .before .before .before .before .point-at .ensures, ← c .before .before .before .before .before .point-at2 .ensures, ← c .before .before .before .before .material .ensures, ← c .before .before .before .vec-at .ensures, ← c .before .before .clamp-each .ensures, ← c .before .vec-at2 .ensures, ← c .raise .ensures)
 
 pub surface-at-spec : {M : Type 1} → statement M
-surface-at-spec = tie.close (tie.spec at-requires face-normal-requires facing-requires point-at-requires point-at-requires-2 material-requires mul-k three-at-requires clamp-each-requires add-three-at three-at-requires-2 raise-requires returns)
+surface-at-spec = tie.close (tie.spec at-requires face-normal-requires facing-requires point-at-requires point-at-requires-2 material-requires mul-k vec-at-requires clamp-each-requires add-vec-at vec-at-requires-2 raise-requires returns)

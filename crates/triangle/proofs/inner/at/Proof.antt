@@ -7,26 +7,26 @@ use Rattle.triangle.proofs.inner.at.Tie as tie
 mul-k : tie.Need-mul-k
 mul-k c = search needs
 
-point-requires : tie.Need-point-requires
-point-requires c κs = search needs
+vec-at-requires : tie.Need-vec-at-requires
+vec-at-requires c κs = search needs
 
-add-point : tie.Need-add-point
-add-point c = search needs
+add-vec-at : tie.Need-add-vec-at
+add-vec-at c = search needs
 
-point-requires-2 : tie.Need-point-requires-2
-point-requires-2 c κs = search needs
+vec-at-requires-2 : tie.Need-vec-at-requires-2
+vec-at-requires-2 c κs = search needs
 
-add-point-2 : tie.Need-add-point-2
-add-point-2 c = search needs
+add-vec-at-2 : tie.Need-add-vec-at-2
+add-vec-at-2 c = search needs
 
-point-requires-3 : tie.Need-point-requires-3
-point-requires-3 c κs = search needs
+vec-at-requires-3 : tie.Need-vec-at-requires-3
+vec-at-requires-3 c κs = search needs
 
 returns : tie.Need-returns
 unfolding triangleAt
-returns c = rw (← c .before .before .point .ensures, ← c .before .point2 .ensures, ← c .point3 .ensures)
+returns c = rw (← c .before .before .vec-at .ensures, ← c .before .vec-at2 .ensures, ← c .vec-at3 .ensures)
 
 pub at-spec : {M : Type 1} → statement M
 at-spec =
     tie.close
-    (tie.spec mul-k point-requires add-point point-requires-2 add-point-2 point-requires-3 returns)
+    (tie.spec mul-k vec-at-requires add-vec-at vec-at-requires-2 add-vec-at-2 vec-at-requires-3 returns)

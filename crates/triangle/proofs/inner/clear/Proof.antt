@@ -39,8 +39,8 @@ solve-requires c κs = search needs
 outside-requires : tie.Need-outside-requires Inv-loop μ-loop
 outside-requires c κs = search needs
 
-where-met-requires : tie.Need-where-met-requires Inv-loop μ-loop
-where-met-requires c κs = search needs
+left-open-requires : tie.Need-left-open-requires Inv-loop μ-loop
+left-open-requires c κs = search needs
 
 lesser-requires : tie.Need-lesser-requires Inv-loop μ-loop
 lesser-requires c κs = search needs
@@ -62,7 +62,7 @@ loop-again c =
     let o = w .before in
     let at = o .before .before .before .before .loop in
     let a = o .before .before .before .before .before .before .args in
-    let next : c .lesser .result ≤ cond (o .outside .result) (a .k) (at .j) = rw (w .where-met .ensures) at (c .lesser .ensures .1) in
+    let next : c .lesser .result ≤ cond (o .outside .result) (a .k) (at .j) = rw (w .left-open .ensures) at (c .lesser .ensures .1) in
     let missed : at .j < c .lesser .result → meetOf (a .ray) (triangleAt (a .points .now) (a .i + at .j)) ≡ Miss =
     λ g. outside-missed _ _
     (rw (← o .before .before .at .ensures, ← o .before .solve .ensures, ← o .outside .ensures) (was-outside (o .outside .result) (at .j) (a .k) (c .lesser .result) next g)) in (
@@ -90,7 +90,7 @@ clear-spec =
     at-requires
     solve-requires
     outside-requires
-    where-met-requires
+    left-open-requires
     lesser-requires
     add-j
     loop-less

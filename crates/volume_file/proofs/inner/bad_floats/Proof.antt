@@ -6,7 +6,7 @@ use mathlib.Core.Path.{_≡_, refl}
 use native.Mathlib.Nat.{sub-zero}
 use Rattle.lists.specs.Fold.{tab}
 use Rattle.bytes_le.specs.Bytes.{f32At, floatsAt}
-use Rattle.limits.specs.Some.{some}
+use Rattle.lists.specs.Some.{some}
 use Rattle.limits.specs.Limits.{outside}
 use Rattle.volume_file.proofs.Scan.{found, next, none}
 use Rattle.volume_file.proofs.inner.bad_floats.Statement.{statement}

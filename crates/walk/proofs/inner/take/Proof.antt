@@ -3,8 +3,8 @@ use mathlib.Core.Path.{refl}
 use native.Mathlib.Omega.{arith}
 use borrow.Rule.Slice.PartMut.{post-is}
 use Prim.Native.Nat.{_+_, _*_}
+use Rattle.lists.specs.Laid.{replaced}
 use Rattle.grid.specs.GridLaws.{voxels-most}
-use Rattle.spread.specs.Spread.{replaced}
 use borrow.Author.Needs.{needs}
 use Rattle.walk.proofs.inner.take.Statement.{statement}
 use Rattle.walk.proofs.inner.take.Tie as tie

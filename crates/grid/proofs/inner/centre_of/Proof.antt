@@ -1,9 +1,9 @@
--- `gather::inner::centre_of` meets its contract: the coordinates of an index of the grid lie within its axes, and so are small.
+-- `grid::inner::centre_of` meets its contract: the coordinates of an index of the grid lie within its axes, and so are small.
 use native.Mathlib.Omega.{arith}
 use Rattle.grid.specs.GridLaws.{x-within, y-within, z-within}
 use borrow.Author.Needs.{needs}
-use Rattle.gather.proofs.inner.centre_of.Statement.{statement}
-use Rattle.gather.proofs.inner.centre_of.Tie as tie
+use Rattle.grid.proofs.inner.centre_of.Statement.{statement}
+use Rattle.grid.proofs.inner.centre_of.Tie as tie
 
 div-row : tie.Need-div-row
 div-row c = search needs
