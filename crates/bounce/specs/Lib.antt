@@ -2,5 +2,5 @@
 pub mod Biases
 pub mod Hemisphere
 pub mod Light
-pub mod LightLaws
 pub mod Lamps
+pub mod LightLaws

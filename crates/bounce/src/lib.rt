@@ -1,5 +1,5 @@
-// What a voxel's rays and a surface's light are made of, ray by ray, as gi.rs has them: biases, the rays themselves, the basis of a
-// normal with its four hemisphere directions, and the light that a surface gives back. Nothing here traces a ray.
+// What a surface's light is made of, as gi.rs has it and C-12 adds to it: biases, the basis of a normal with its four hemisphere directions, the way to a
+// lamp and its ray, and the light that a surface gives back. Nothing here traces a ray.
 use vectors::Vec3;
 
 pub mod inner;

@@ -2,7 +2,7 @@
 use mathlib.Core.Path.{_≡_, refl, sym, ap, _∙_, subst}
 use mathlib.Core.Logic.{_⊎_, inl, inr}
 use Prim.Native.Nat.{ℕ, zero, suc, _+_, _-_, _*_, _/_, _^_, _≤_, _<_, zero-le, compare}
-use mathlib.Core.Bool.{Bool, true, false, cond, _&&_, _||_, Bool·beq, false≢true, or-true}
+use mathlib.Core.Bool.{Bool, true, false, cond, _&&_, _||_, Bool·beq, false≢true, or-true, and-eq-true-iff}
 use native.Mathlib.Nat.{le-refl, le-trans, le-of-eq, le-of-lt, eq-or-lt-of-le, lt-of-le-of-lt, lt-of-lt-of-le, lt-irrefl, mul-one, zero-mul, mul-comm, mul-assoc, mul-left-comm, mul-right-comm, mul-mul-mul-comm, add-mul, mul-le-mul, mul-le-mul-right, mul-lt-mul-of-pos-right, le-of-mul-le-mul-right, mul-pos, div-one, mod-one, div-le-of-le-mul, add-le-add}
 use native.Mathlib.Omega.{arith}
 use lib.IntN.{ℤ, pos}
@@ -178,11 +178,7 @@ at-least-of-test (fin s m e) nan n k v f h = absurd v
 at-least-of-test (fin s m e) (inf t) n k v f h = absurd v
 at-least-of-test (fin s m e) (fin true l d) n k v f h = absurd (false≢true (sym (v .0)))
 at-least-of-test (fin false m e) (fin false l d) n k v f h = over-scaled m e l d n k (v .1) (or-le (l * up d * down e) (m * up e * down d) true h)
-at-least-of-test (fin true m e) (fin false l d) n k v f h = over-scaled m e l d n k (v .1) (le-of-eq (eqb-true (l * up d * down e) (m * up e * down d) (and-first (eqb (l * up d * down e) (m * up e * down d)) (eqb (l * up d * down e) 0) h)))
-  where
-    and-first : (p q : Bool) → (p && q) ≡ true → p ≡ true
-    and-first true q h = refl
-    and-first false q h = h
+at-least-of-test (fin true m e) (fin false l d) n k v f h = over-scaled m e l d n k (v .1) (le-of-eq (eqb-true (l * up d * down e) (m * up e * down d) ((and-eq-true-iff (eqb (l * up d * down e) (m * up e * down d)) (eqb (l * up d * down e) 0) .0 h) .0)))
 
 -- ---- the operations
 

@@ -7,11 +7,9 @@ use native.Mathlib.Nat.{mul-le-mul-right, lt-of-le-of-lt}
 use native.Mathlib.Omega.{arith}
 use lib.Dec.{lit<}
 use lib.ListN.{length}
-use lib.Ieee as Ieee
-use lib.Ieee.{Float, binary32}
+use lib.Ieee.{Float}
 use Rattle.names.specs.Bits.{half32, one32}
 use Rattle.names.specs.Passed.{passed}
-use Rattle.vectors.specs.declared.Vec3.{Vec3}
 use Rattle.vectors.specs.declared.Triangle.{Triangle}
 use Rattle.grid.specs.declared.Axes.{Axes}
 use Rattle.grid.specs.declared.Corners.{Corners}
@@ -21,19 +19,11 @@ use Rattle.bounds.specs.BoundsLaws.{at-most-up, add-at-most, sub-at-most, div-a
 use Rattle.bounds.specs.VectorLaws.{add-each, scale-each}
 use Rattle.triangle.specs.Places.{triangleAt}
 use Rattle.rays_bounds.specs.TestBounds.{NearPoints, near-place}
-use Rattle.samples.specs.Samples.{targetOf, sampleCount, sideOf, shareOf, pointOf}
+use Rattle.samples.specs.Samples.{targetOf, shareOf, pointOf, samplePoint}
 use Rattle.samples.specs.SamplesLaws.{side-most}
+use Rattle.occupy.specs.OccupiedLaws.{sideAt}
 use Rattle.masks.specs.Masks.{masksRows, masksRefusal}
 use Rattle.coordinate_laws.specs.Coordinates.{FiniteCoordinates, coordinates-finite}
-
--- the point of sample (iu, iv) of n a side
-abbrev pub samplePoint : Triangle → ℕ → ℕ → ℕ → Vec3
-samplePoint t n iu iv =
-    pointOf t (shareOf iu n) (shareOf iv n) (Ieee.sub binary32 (Ieee.sub binary32 one32 (shareOf iu n)) (shareOf iv n))
-
--- how many a side the triangle at place k has
-abbrev pub sideAt : Axes → Corners → List Float → ℕ → ℕ
-sideAt axes corners points k = sideOf (sampleCount (triangleAt points k) (smallestEdgeOf (edgesOf corners axes)))
 
 -- (i + 1/2) / n
 share-small : (i n : ℕ) → i < n → n ≤ 64 → AtMost 2 0 (shareOf i n)

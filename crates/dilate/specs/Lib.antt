@@ -1,6 +1,6 @@
 -- The active mask: what it is, what it means, and how dilating along the axes gives it.
 pub mod Active
-pub mod ActiveLaws
 pub mod ByAxes
+pub mod ActiveLaws
 pub mod LineLaws
 pub mod ByAxesLaws

@@ -3,7 +3,7 @@
 use mathlib.Core.Path.{_≡_, refl, sym, ap, _∙_}
 use mathlib.Core.Logic.{_⊎_, inl, inr}
 use Prim.Native.Nat.{ℕ, _+_, _*_, _<_}
-use mathlib.Core.Bool.{Bool, true, false, _&&_, _||_, Bool·beq, false≢true}
+use mathlib.Core.Bool.{Bool, true, false, _&&_, _||_, Bool·beq, false≢true, and-eq-true-iff}
 use native.Mathlib.Nat.{mul-comm, mul-right-comm, mul-mul-mul-comm, mul-pos, add-mul, zero-mul, mul-lt-mul-of-pos-right, lt-of-mul-lt-mul-right}
 use native.Mathlib.Omega.{arith}
 use lib.IntN.{ℤ}
@@ -19,11 +19,6 @@ same-bool : (p q : Bool) → (p ≡ true → q ≡ true) → (q ≡ true → p �
 same-bool true q f g = sym (f refl)
 same-bool false true f g = g refl
 same-bool false false f g = refl
-
-and-true : (p q : Bool) → (p && q) ≡ true → (p ≡ true) × (q ≡ true)
-and-true true true h = (refl, refl)
-and-true true false h = absurd (false≢true h)
-and-true false q h = absurd (false≢true h)
 
 or-true : (p q : Bool) → (p || q) ≡ true → (p ≡ true) ⊎ (q ≡ true)
 or-true true q h = inl refl
@@ -81,16 +76,16 @@ below-level true a false b h k =
     rw (eq-eqb a b e, eq-eqb a 0 z)
 
 level-not-below : (s : Bool) (a : ℕ) (t : Bool) (b : ℕ) → level s a t b ≡ true → below s a t b ≡ false
-level-not-below false a false b h = le-ltb a b (omega (arith, eqb-true a b (and-true (eqb a b) true h .0)))
-level-not-below true a true b h = le-ltb b a (omega (arith, eqb-true a b (and-true (eqb a b) true h .0)))
+level-not-below false a false b h = le-ltb a b (omega (arith, eqb-true a b ((and-eq-true-iff (eqb a b) true .0 h) .0)))
+level-not-below true a true b h = le-ltb b a (omega (arith, eqb-true a b ((and-eq-true-iff (eqb a b) true .0 h) .0)))
 level-not-below false a true b h = refl
 level-not-below true a false b h =
-    let p = and-true (eqb a b) (eqb a 0) h in
+    let p = and-eq-true-iff (eqb a b) (eqb a 0) .0 h in
     le-ltb 0 (a + b) (omega (arith, eqb-true a b (p .0), eqb-true a 0 (p .1)))
 
 level-swapped : (s : Bool) (a : ℕ) (t : Bool) (b : ℕ) → level s a t b ≡ true → level t b s a ≡ true
 level-swapped s a t b h =
-    let p = and-true (eqb a b) (Bool·beq s t || eqb a 0) h in
+    let p = and-eq-true-iff (eqb a b) (Bool·beq s t || eqb a 0) .0 h in
     let e = eqb-true a b (p .0) in
     ap (λ (z : Bool). z && (Bool·beq t s || eqb b 0)) (eq-eqb b a (sym e)) ∙ ap (λ (z : Bool). z || eqb b 0) (beq-swapped t s) ∙ ap (λ (z : ℕ). Bool·beq s t || eqb z 0) (sym e) ∙ p .1
   where

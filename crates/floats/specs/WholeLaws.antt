@@ -2,7 +2,7 @@
 pub mod Steps
 use mathlib.Core.Path.{_≡_, refl, sym, ap, _∙_, subst}
 use Prim.Native.Nat.{ℕ, zero, suc, _+_, _*_, _/_, _%_, _^_, _≤_, _<_}
-use mathlib.Core.Bool.{Bool, true, false, cond, _&&_, _||_, Bool·beq, false≢true}
+use mathlib.Core.Bool.{Bool, true, false, cond, _&&_, _||_, Bool·beq, false≢true, and-eq-true-iff}
 use native.Mathlib.Nat.{le-trans, le-of-eq, lt-of-not-le, mul-one, mul-right-comm, mul-lt-mul-of-pos-right, lt-of-mul-lt-mul-right, lt-of-lt-of-le, lt-of-le-of-lt, zero-mul, one-mul, add-mul, mul-assoc, mul-pos, zero-add, zero-div, mod-lt, div-mul-le-self, div-add-mod', div-lt-iff-lt-mul}
 use native.Mathlib.Omega.{arith}
 use borrow.Author.Tests.{ltb-true, ltb-false, lt-ltb, eq-eqb, eqb-true}
@@ -162,12 +162,8 @@ unfolding eq wholeOf ofBits
 whole-zero nan h = refl
 whole-zero (inf s) h = refl
 whole-zero (fin s m e) h =
-    let z : m * up e ≡ 0 = sym (mul-one (m * up e)) ∙ eqb-true (m * up e * 1) (0 * down e) (and-first (eqb (m * up e * 1) (0 * down e)) (Bool·beq s false || eqb (m * up e * 1) 0) h) ∙ zero-mul (down e) in
+    let z : m * up e ≡ 0 = sym (mul-one (m * up e)) ∙ eqb-true (m * up e * 1) (0 * down e) ((and-eq-true-iff (eqb (m * up e * 1) (0 * down e)) (Bool·beq s false || eqb (m * up e * 1) 0) .0 h) .0) ∙ zero-mul (down e) in
     ap (λ (q : ℕ). q / down e) z ∙ zero-div (down e)
-  where
-    and-first : (p q : Bool) → (p && q) ≡ true → p ≡ true
-    and-first true q h = refl
-    and-first false q h = h
 
 -- x is the float of that integer, −0 apart
 pub whole-is : (x : Float) → SmallWhole x → eq x zero32 ≡ false → ofInt binary32 (pos (wholeOf x)) ≡ x

@@ -13,7 +13,7 @@ pub fn of_digits(m: u64, e: u64) -> u32
     ((e / 2 + 51) * 8388608 + r) as u32
 }
 
-// The same of a number below 2^-126, whose digits are moved up until there are 24.
+// The root of a number below 2^-126, whose digits are first moved up until there are 24.
 pub fn of_small(t: u64) -> u32
     requires { ⌜ (0 < t) × (t < 8388608) ⌝ }
     ensures { λ b. ⌜ SmallRooted t b ⌝ }

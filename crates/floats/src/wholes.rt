@@ -28,7 +28,7 @@ pub fn integral(x: f32, u: u32) -> f32
     if s == 0 { y } else { -y }
 }
 
-// How many of the 24 digits of a number with the exponent's field f lie below its point: all 24 stands for more too.
+// How many of the 24 digits of a number with the exponent's field f lie below its point: 24 also where the point lies further up.
 fn places(f: u32) -> u32
     requires { ⌜ f < 150 ⌝ }
     ensures { λ k. ⌜ k ≡ cond (ltb f 126) 24 (150 - f) ⌝ }

@@ -137,7 +137,7 @@ voxelOf g i =
 unfoldable pub costOf : GatherInput → ℕ → ℕ
 costOf g i = voxelOf g i .rays
 
--- irradiance, raised to 0, and no darker than the floor
+-- irradiance, raised to 0, and blended towards the brightness floor where it is darker
 unfoldable pub finishedOf : Coefficients → Coefficients → Coefficients
 finishedOf sums ambient = flooredOf (raisedOf (irradianceOf sums)) ambient
 

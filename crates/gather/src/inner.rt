@@ -334,7 +334,7 @@ fn from_surface(
 
 // ---- its sixteen numbers
 
-// Irradiance, raised to 0, and no darker than the floor.
+// Irradiance, raised to 0, and blended towards the brightness floor where it is darker.
 fn finish(sums: Coefficients, ambient: Coefficients) -> Coefficients
     ensures { λ r. ⌜ r ≡ finishedOf sums ambient ⌝ }
 {

@@ -2,7 +2,7 @@
 -- brings at most 10 · 2^79, so that 64 of them sum to at most 1280 · 2^79 in each coefficient; irradiance at most doubles that, and the floor
 -- at most doubles it again.
 use mathlib.Core.Path.{_≡_, refl}
-use mathlib.Core.Bool.{Bool, true, false, _&&_, _||_, false≢true}
+use mathlib.Core.Bool.{Bool, true, false, _&&_, _||_, false≢true, and-eq-true-iff}
 use mathlib.Core.List.{List, [], _∷_}
 use Prim.Native.Nat.{ℕ, zero, suc, _+_, _*_, _/_, _%_, _<_, _≤_}
 use native.Mathlib.Nat.{le-of-lt, le-trans, mul-le-mul-right, add-zero}
@@ -107,14 +107,6 @@ pub record Rows (g : GatherInput) : Type 0 where
   pub lamps : badLamps (g .lamps) ≡ false
   pub lights : badLights (g .lights) ≡ false
 
-and-left : (a b : Bool) → (a && b) ≡ true → a ≡ true
-and-left true b h = refl
-and-left false b h = absurd (false≢true h)
-
-and-right : (a b : Bool) → (a && b) ≡ true → b ≡ true
-and-right true b h = h
-and-right false b h = absurd (false≢true h)
-
 colour-at-most : (x : Float) → within colourLimit x ≡ true → AtMost 1 16 x
 colour-at-most x h = within-at-most colourLimit x 1 16 colour-value h
 
@@ -131,7 +123,7 @@ minus-one = refl
 transmission-at-most : (x : Float) → upTo one32 x ≡ true → AtMost 1 0 x
 unfolding upTo
 transmission-at-most x h =
-    at-most-of-test x one32 1 0 one-value (le-transitive (Ieee.neg one32) zero32 x minus-one (and-left _ _ h)) (and-right (Ieee.le zero32 x) _ h)
+    at-most-of-test x one32 1 0 one-value (le-transitive (Ieee.neg one32) zero32 x minus-one ((and-eq-true-iff (Ieee.le zero32 x) (Ieee.le x one32) .0 h) .0)) ((and-eq-true-iff (Ieee.le zero32 x) (Ieee.le x one32) .0 h) .1)
 
 each-colour : (v : Vec3) → badColour v ≡ false → EachAtMost 1 16 v
 each-colour v h = within-each colourLimit v 1 16 colour-value h

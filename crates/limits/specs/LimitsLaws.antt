@@ -1,6 +1,6 @@
 -- What the rows mean: of each, what holds exactly when it is not given. And what follows once several have passed.
 use mathlib.Core.Path.{_≡_, refl, sym, ap, _∙_}
-use mathlib.Core.Bool.{Bool, true, false, not, _&&_, _||_, false≢true}
+use mathlib.Core.Bool.{Bool, true, false, not, _&&_, _||_, false≢true, and-eq-true-iff}
 use mathlib.Core.Logic.{_↔_}
 use mathlib.Core.List.{List, [], _∷_}
 use Prim.Native.Nat.{ℕ, zero, suc, _+_, _*_, _/_, _%_, _≤_, _<_}
@@ -50,13 +50,6 @@ any-of-three a b c = (out, in')
     in' : (a ≡ false) × (b ≡ false) × (c ≡ false) → a || b || c ≡ false
     in' h = or-in (a || b) c (or-in a b (h .0, h .1), h .2)
 
-and-out : (a b : Bool) → a && b ≡ true → (a ≡ true) × (b ≡ true)
-and-out true b e = (refl, e)
-and-out false b e = absurd (false≢true e)
-
-and-in : (a b : Bool) → a ≡ true → b ≡ true → a && b ≡ true
-and-in a b p q = rw p q
-
 -- ---- one number
 
 -- what lies within a finite bound is finite
@@ -72,7 +65,7 @@ limit-finite (fin t n d) (fin s m q) h e = refl
 -- and lies between the bounds
 pub within-between : (b x : Float) → (within b x ≡ true) ↔ ((Ieee.le (Ieee.neg b) x ≡ true) × (Ieee.le x b ≡ true))
 unfolding within
-within-between b x = (and-out _ _, λ h. and-in _ _ (h .0) (h .1))
+within-between b x = and-eq-true-iff _ _
 
 -- only NaN differs from itself
 pub differs : (x : Float) → Ieee.ne x x ≡ isNan x
@@ -156,7 +149,7 @@ share-row k len n h = (out, in')
   where
     out : not (eqb (len / k) n && eqb (len % k) 0) ≡ false → len ≡ n * k
     out e =
-        let p = and-out (eqb (len / k) n) (eqb (len % k) 0) (not-false _ e) in
+        let p = and-eq-true-iff (eqb (len / k) n) (eqb (len % k) 0) .0 (not-false _ e) in
         let q = eqb-true (len / k) n (p .0) in
         let r = eqb-true (len % k) 0 (p .1) in
         sym (div-add-mod' len k) ∙ rw (q, r) (add-zero (n * k))
