@@ -1,18 +1,21 @@
 -- How the scratch lists go by one: what is carried up on insertion, where a hit's rank is found, and that the pair of lists then holds the hits.
-use mathlib.Core.Path.{_≡_, refl, ap}
-use mathlib.Core.Bool.{Bool, true, false, cond}
-use mathlib.Core.List.{List, [], _∷_}
+use mathlib.Core.Path.{_≡_, refl, sym, ap, _∙_}
+use mathlib.Core.Bool.{Bool, true, false, cond, false≢true}
+use mathlib.Core.Logic.{⊎-elim}
+use mathlib.Core.List.{List, [], _∷_, _++_}
 use Prim.Native.Nat.{ℕ, zero, suc, _+_, _≤_, _<_, zero-le, suc-le-suc}
-use native.Mathlib.Nat.{le-of-suc-le-suc, not-suc-le-zero}
+use native.Mathlib.Nat.{le-of-suc-le-suc, not-suc-le-zero, eq-or-lt-of-le}
 use native.Mathlib.Numerals.{add-one}
 use native.Mathlib.Omega.{arith}
-use lib.ListN.{length, getD, set, take, drop}
-use lib.Seq.{drop-cons, length-take-le}
+use lib.ListN.{length, getD, set, take, drop, drop-of-length-le}
+use lib.Seq.{drop-cons, drop-drop, length-take-le, getD-take, take-suc, take-suc-set, append-snoc}
 use lib.Dec.{eqb}
 use lib.Ieee as Ieee
 use lib.Ieee.{Float, nan, binary32}
 use Rattle.names.specs.Bits.{zero32}
 use Rattle.scan.specs.Hits.{Struck, struck, before, insertOf, insertAt, rankOf, paired, placesOf}
+use Rattle.scan.specs.Merge.{insertAll, sortOf, mergeOf, takesSecond}
+use Rattle.scan.specs.MergeLaws.{insert-all-append, merge-first, merge-second}
 use Rattle.scan.specs.Transmittance.{faintLimit, kindAt, transmissionAt, passOf}
 
 module _ {ℓ} {A : Type ℓ} where
@@ -85,6 +88,106 @@ paired-places [] [] e = refl
 paired-places [] (j ∷ is) e = absurd (omega arith)
 paired-places (s ∷ ts) [] e = absurd (omega arith)
 paired-places (s ∷ ts) (j ∷ is) e = ap (λ (l : List ℕ). j ∷ l) (paired-places ts is (omega arith))
+
+-- ---- hits one after the other
+
+pub paired-append : (ts us : List Float) (is js : List ℕ) → length ts ≡ length is → paired (ts ++ us) (is ++ js) ≡ paired ts is ++ paired us js
+unfolding paired
+paired-append [] us [] js e = refl
+paired-append [] us (i ∷ is) js e = absurd (omega arith)
+paired-append (t ∷ ts) us [] js e = absurd (omega arith)
+paired-append (t ∷ ts) us (i ∷ is) js e = ap (λ (l : List Struck). struck t i ∷ l) (paired-append ts us is js (omega arith))
+
+-- the hits of the first m, in order, and the next inserted
+pub sort-next : (ts : List Float) (is : List ℕ) (m : ℕ) → m < length ts → m < length is
+    → sortOf (paired (take (m + 1) ts) (take (m + 1) is)) ≡ insertOf (struck (getD ts m nan) (getD is m 0)) (sortOf (paired (take m ts) (take m is)))
+unfolding insertAll paired
+sort-next ts is m p q =
+    rw (
+      add-one m,
+      take-suc ts m nan p,
+      take-suc is m 0 q,
+      paired-append (take m ts) (getD ts m nan ∷ []) (take m is) (getD is m 0 ∷ []) (length-take-le m ts (omega arith) ∙ sym (length-take-le m is (omega arith))),
+      insert-all-append [] (paired (take m ts) (take m is)),
+    )
+
+module _ {ℓ} {A : Type ℓ} where
+  -- what two lists share from m on, one on and at the head
+  pub drop-next : (s l : List A) (m : ℕ) → drop m s ≡ drop m l → drop (m + 1) s ≡ drop (m + 1) l
+  drop-next s l m e = sym (drop-drop 1 m s) ∙ ap (λ (r : List A). drop 1 r) e ∙ drop-drop 1 m l
+
+  pub head-same : (s l : List A) (m : ℕ) (d : A) → m < length s → m < length l → drop m s ≡ drop m l → getD s m d ≡ getD l m d
+  head-same s l m d p q e = ap (λ (r : List A). getD r 0 d) (sym (drop-cons s m d p) ∙ e ∙ drop-cons l m d q)
+
+-- a hit stored past the first k goes to them
+pub stored : (hs : List Struck) (ts : List Float) (is : List ℕ) (k : ℕ) (t : Float) (i : ℕ) → k < length ts → k < length is
+    → paired (take (k + 1) (set ts k t)) (take (k + 1) (set is k i)) ++ hs ≡ paired (take k ts) (take k is) ++ struck t i ∷ hs
+unfolding paired
+stored hs ts is k t i p q =
+    rw (
+      add-one k,
+      take-suc-set ts k t p,
+      take-suc-set is k i q,
+      paired-append (take k ts) (t ∷ []) (take k is) (i ∷ []) (length-take-le k ts (omega arith) ∙ sym (length-take-le k is (omega arith))),
+    ) (append-snoc (paired (take k ts) (take k is)) (struck t i) hs)
+
+-- ---- what is left of two halves that are merged
+
+pub rest-cons : (ts : List Float) (is : List ℕ) (j : ℕ) → j < length ts → j < length is
+    → paired (drop j ts) (drop j is) ≡ struck (getD ts j nan) (getD is j 0) ∷ paired (drop (j + 1) ts) (drop (j + 1) is)
+unfolding paired
+rest-cons ts is j p q = rw (add-one, drop-cons ts j nan p, drop-cons is j 0 q)
+
+pub rest-none : (ts : List Float) (is : List ℕ) (j : ℕ) → length ts ≤ j → paired (drop j ts) (drop j is) ≡ []
+unfolding paired
+rest-none ts is j p = rw (drop-of-length-le ts p)
+
+module _ (ts : List Float) (is : List ℕ) (half : ℕ) (e : length ts ≡ length is) (w : half ≤ length ts) where
+  abbrev pub firstFrom : ℕ → List Struck
+  firstFrom i = paired (drop i (take half ts)) (drop i (take half is))
+
+  abbrev pub secondFrom : ℕ → List Struck
+  secondFrom j = paired (drop j ts) (drop j is)
+
+  pub first-cons : (i : ℕ) → i < half → firstFrom i ≡ struck (getD ts i nan) (getD is i 0) ∷ firstFrom (i + 1)
+  first-cons i p =
+      rest-cons (take half ts) (take half is) i (rw (length-take-le half ts w) p) (rw (length-take-le half is (omega arith)) p)
+      ∙ rw (getD-take half ts i nan p, getD-take half is i 0 p) refl
+
+  pub first-none : firstFrom half ≡ []
+  first-none = rest-none (take half ts) (take half is) half (omega (arith, length-take-le half ts w))
+
+  -- the second's head is taken only where there is one
+  pub second-within : (i j : ℕ) → j ≤ length ts → takesSecond (firstFrom i) (secondFrom j) ≡ true → j < length ts
+  unfolding takesSecond
+  second-within i j p h =
+      ⊎-elim
+      (λ (q : j ≡ length ts). absurd (false≢true (rw (rest-none ts is j (omega arith)) at h)))
+      (λ (q : j < length ts). q)
+      (eq-or-lt-of-le p)
+
+  -- and the first's only where there is one, while something is left
+  pub first-within : (i j : ℕ) → i ≤ half → i + j < half + length ts → takesSecond (firstFrom i) (secondFrom j) ≡ false → i < half
+  unfolding takesSecond
+  first-within i j p l h =
+      ⊎-elim
+      (λ (q : i ≡ half). absurd (false≢true (sym (rw (q, first-none, rest-cons ts is j (omega arith) (omega arith)) at h))))
+      (λ (q : i < half). q)
+      (eq-or-lt-of-le p)
+
+  pub merge-takes-second : (i j : ℕ) → j < length ts → takesSecond (firstFrom i) (secondFrom j) ≡ true
+      → mergeOf (firstFrom i) (secondFrom j) ≡ struck (getD ts j nan) (getD is j 0) ∷ mergeOf (firstFrom i) (secondFrom (j + 1))
+  merge-takes-second i j p h =
+      let q = rest-cons ts is j p (omega arith) in
+      rw q (merge-second (firstFrom i) _ _ (rw q at h))
+
+  pub merge-takes-first : (i j : ℕ) → i < half → takesSecond (firstFrom i) (secondFrom j) ≡ false
+      → mergeOf (firstFrom i) (secondFrom j) ≡ struck (getD ts i nan) (getD is i 0) ∷ mergeOf (firstFrom (i + 1)) (secondFrom j)
+  merge-takes-first i j p h =
+      let q = first-cons i p in
+      rw q (merge-first _ _ (secondFrom j) (rw q at h))
+
+-- ---- the product
 
 -- the product, one hit on
 pub pass-step : (uses kinds : List ℕ) (numbers : List Float) (w : Float) (is : List ℕ) (j : ℕ) → j < length is

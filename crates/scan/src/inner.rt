@@ -1,14 +1,13 @@
 // The scans. Each takes the scene's four lists, which fit each other (`Sound`): the tests of the public calls have shown it.
 ghost use mathlib.Core.Path.{_≡_};
 ghost use Prim.Native.Nat.{ℕ, _+_, _*_, _≤_, _<_};
-ghost use lib.ListN.{length, getD, take};
+ghost use lib.ListN.{length, getD};
 ghost use Rattle.names.specs.Bits.{one32};
 ghost use Rattle.names.specs.Scene.{Sound, sceneOf};
 ghost use Rattle.triangle.specs.Meet.{meetOf};
 ghost use Rattle.triangle.specs.Places.{triangleAt};
 ghost use Rattle.triangle.specs.declared.Meet.the-variants.{Hit};
 ghost use Rattle.scan.specs.Nearest.{beats, nearerOf, nearestOf};
-ghost use Rattle.scan.specs.Hits.{struck, before, rankOf, insertAt, insertOf, paired};
 ghost use Rattle.scan.specs.FirstHit.{FirstFrom};
 ghost use Rattle.scan.specs.Transmittance.{kindAt, Fitting, passOf, transmittanceOf};
 use super::FirstHit;
@@ -104,12 +103,14 @@ pub fn transmittance(
                 if kind_at(uses, kinds, j) == 0 {
                     return 0.0;
                 }
-                add_hit(distances, places, m, t, j);
+                distances[m] = t;
+                places[m] = j;
                 m += 1;
                 i = j + 1;
             }
         }
     }
+    super::sort::in_order(&mut distances[..m], &mut places[..m]);
     product(uses, kinds, numbers, &places[..m])
 }
 
@@ -120,75 +121,6 @@ fn kind_at(uses: &[u32], kinds: &[u8], i: usize) -> u8
 {
     let k = uses[i] as usize;
     kinds[k]
-}
-
-// Puts a hit into its place among the first m.
-fn add_hit(distances: &mut [f32], places: &mut [usize], m: usize, t: f32, i: usize)
-    requires { ⌜ (m < length (now distances)) × (m < length (now places)) ⌝ }
-    ensures { λ _. ⌜ paired (take (m + 1) (now (distances .exit))) (take (m + 1) (now (places .exit))) ≡ insertOf (struck t i) (paired (take m (now (distances .entry))) (take m (now (places .entry)))) ⌝ }
-{
-    let j = rank(&distances[..m], &places[..m], t, i);
-    put_distance(distances, j, m, t);
-    put_place(places, j, m, i);
-}
-
-// Where a hit at distance t and place i goes: after each that it does not come before.
-fn rank(distances: &[f32], places: &[usize], t: f32, i: usize) -> usize
-    requires { ⌜ length (now distances) ≡ length (now places) ⌝ }
-    ensures { λ r. ⌜ r ≡ rankOf (struck t i) (paired (now (distances .entry)) (now (places .entry))) ⌝ }
-{
-    let mut j = 0;
-    while j < distances.len() {
-        if comes_before(t, i, distances[j], places[j]) {
-            return j;
-        }
-        j += 1;
-    }
-    j
-}
-
-// By distance, then by place.
-fn comes_before(t: f32, i: usize, s: f32, j: usize) -> bool
-    ensures { λ r. ⌜ r ≡ before (struck t i) (struck s j) ⌝ }
-{
-    if t < s {
-        return true;
-    }
-    if t == s {
-        return i < j;
-    }
-    false
-}
-
-// Puts x at place j among the first m, and carries what stood there up.
-fn put_distance(s: &mut [f32], j: usize, m: usize, x: f32)
-    requires { ⌜ (j ≤ m) × (m < length (now s)) ⌝ }
-    ensures { λ _. ⌜ take (m + 1) (now (s .exit)) ≡ insertAt j x (take m (now (s .entry))) ⌝ }
-{
-    let mut c = x;
-    let mut k = j;
-    while k < m {
-        let y = s[k];
-        s[k] = c;
-        c = y;
-        k += 1;
-    }
-    s[m] = c;
-}
-
-fn put_place(s: &mut [usize], j: usize, m: usize, x: usize)
-    requires { ⌜ (j ≤ m) × (m < length (now s)) ⌝ }
-    ensures { λ _. ⌜ take (m + 1) (now (s .exit)) ≡ insertAt j x (take m (now (s .entry))) ⌝ }
-{
-    let mut c = x;
-    let mut k = j;
-    while k < m {
-        let y = s[k];
-        s[k] = c;
-        c = y;
-        k += 1;
-    }
-    s[m] = c;
 }
 
 // The product of the transmissions at these places, in order: the scan's one use of the materials.

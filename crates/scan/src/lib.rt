@@ -2,6 +2,7 @@
 // by one search, which asks the test of one triangle; neither knows how it goes.
 
 pub mod inner; // inner.rt: the two scans, over lists that fit each other
+pub mod sort; // sort.rt: hits put in order
 
 // "Nearest: smallest t; among equal t the highest list place": nothing, or the hit's place, distance, u and v.
 pub enum Nearest {
