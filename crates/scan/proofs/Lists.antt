@@ -2,20 +2,21 @@
 use mathlib.Core.Path.{_≡_, refl, sym, ap, _∙_}
 use mathlib.Core.Bool.{Bool, true, false, cond, false≢true}
 use mathlib.Core.Logic.{⊎-elim}
-use mathlib.Core.List.{List, [], _∷_, _++_}
-use Prim.Native.Nat.{ℕ, zero, suc, _+_, _≤_, _<_, zero-le, suc-le-suc}
+use mathlib.Core.List.{List, [], _∷_, _++_, append-nil}
+use Prim.Native.Nat.{ℕ, zero, suc, _+_, _-_, _≤_, _<_, zero-le, suc-le-suc}
 use native.Mathlib.Nat.{le-of-suc-le-suc, not-suc-le-zero, eq-or-lt-of-le}
 use native.Mathlib.Numerals.{add-one}
 use native.Mathlib.Omega.{arith}
-use lib.ListN.{length, getD, set, take, drop, drop-of-length-le}
-use lib.Seq.{drop-cons, drop-drop, length-take-le, getD-take, take-suc, take-suc-set, append-snoc}
+use lib.ListN.{length, getD, set, take, drop, take-append-drop, length-drop, drop-of-length-le}
+use borrow.Rule.Slice.PartMut.{same-len-mid}
+use lib.Seq.{length-front, drop-cons, drop-drop, length-take-le, getD-take, take-suc, take-suc-set, append-snoc, take-all, take-at, drop-at}
 use lib.Dec.{eqb}
 use lib.Ieee as Ieee
 use lib.Ieee.{Float, nan, binary32}
 use Rattle.names.specs.Bits.{zero32}
 use Rattle.scan.specs.Hits.{Struck, struck, before, insertOf, insertAt, rankOf, paired, placesOf}
-use Rattle.scan.specs.Merge.{insertAll, sortOf, mergeOf, takesSecond}
-use Rattle.scan.specs.MergeLaws.{insert-all-append, merge-first, merge-second}
+use Rattle.scan.specs.Merge.{insertAll, sortOf, mergeOf, takesSecond, Numbers}
+use Rattle.scan.specs.MergeLaws.{insert-all-append, merge-first, merge-second, merge-sorts, numbers-first, numbers-second}
 use Rattle.scan.specs.Transmittance.{faintLimit, kindAt, transmissionAt, passOf}
 
 module _ {ℓ} {A : Type ℓ} where
@@ -186,6 +187,84 @@ module _ (ts : List Float) (is : List ℕ) (half : ℕ) (e : length ts ≡ lengt
   merge-takes-first i j p h =
       let q = first-cons i p in
       rw q (merge-first _ _ (secondFrom j) (rw q at h))
+
+-- ---- two parts lent one after the other
+
+-- a list when its first part is back and holds x, and when its second is back and holds y
+abbrev pub firstBack {ℓ} : {A : Type ℓ} → List A → ℕ → List A → List A
+firstBack l half x = x ++ drop half l
+
+abbrev pub secondLent {ℓ} : {A : Type ℓ} → List A → ℕ → List A → List A
+secondLent l half x = take (length (firstBack l half x) - half) (drop half (firstBack l half x))
+
+abbrev pub secondBack {ℓ} : {A : Type ℓ} → List A → ℕ → List A → List A → List A
+secondBack l half x y =
+    take half (firstBack l half x) ++ (y ++ drop (length (firstBack l half x) - half) (drop half (firstBack l half x)))
+
+module _ {A : Type 0} (l x : List A) (half : ℕ) (w : half ≤ length l) (e : length x ≡ length (take half l)) where
+  long : length x ≡ half
+  long = e ∙ length-take-le half l w
+
+  whole : length (firstBack l half x) ≡ length l
+  whole = length-front l x half e
+
+  -- what is lent second is the second half
+  pub second-lent : secondLent l half x ≡ drop half l
+  second-lent =
+      rw (drop-at x (drop half l) half long)
+      (take-all (length (firstBack l half x) - half) (drop half l) (omega (arith, length-drop half l, whole)))
+
+  module _ (y : List A) where
+    pub back-first : take half (secondBack l half x y) ≡ x
+    back-first = rw (take-at x (drop half l) half long) (take-at x _ half long)
+
+    pub back-second : drop half (secondBack l half x y) ≡ y
+    back-second =
+        rw (
+          take-at x (drop half l) half long,
+          drop-at x (drop half l) half long,
+          drop-at x (y ++ drop (length (firstBack l half x) - half) (drop half l)) half long,
+          drop-of-length-le (drop half l) {i = length (firstBack l half x) - half} (omega (arith, length-drop half l, whole)),
+        ) (append-nil y)
+
+    pub back-length : length y ≡ length (secondLent l half x) → length (secondBack l half x y) ≡ length l
+    back-length f = same-len-mid half (length (firstBack l half x) - half) (firstBack l half x) y f ∙ whole
+
+pub paired-halves : (ts : List Float) (is : List ℕ) (half : ℕ) → length ts ≡ length is → half ≤ length ts
+    → paired ts is ≡ paired (take half ts) (take half is) ++ paired (drop half ts) (drop half is)
+paired-halves ts is half e h =
+    sym (
+      sym (paired-append (take half ts) (drop half ts) (take half is) (drop half is) (length-take-le half ts h ∙ sym (length-take-le half is (omega arith))))
+      ∙ rw (take-append-drop half ts, take-append-drop half is)
+    )
+
+pub numbers-halves : (ts : List Float) (is : List ℕ) (half : ℕ) → length ts ≡ length is → half ≤ length ts → Numbers (paired ts is)
+    → Numbers (paired (take half ts) (take half is)) × Numbers (paired (drop half ts) (drop half is))
+numbers-halves ts is half e w n =
+    let m = rw (paired-halves ts is half e w) at n in (numbers-first (paired (take half ts) (take half is)) _ m, numbers-second (paired (take half ts) (take half is)) _ m)
+
+-- both halves put in order and merged are the whole in order
+pub halves-in-order : (ts x y : List Float) (is p q : List ℕ) (half : ℕ) → length ts ≡ length is → half ≤ length ts → Numbers (paired ts is)
+    → length x ≡ length (take half ts) → length p ≡ length (take half is)
+    → paired x p ≡ sortOf (paired (take half ts) (take half is))
+    → paired y q ≡ sortOf (paired (secondLent ts half x) (secondLent is half p))
+    → mergeOf (paired (take half (secondBack ts half x y)) (take half (secondBack is half p q)))
+    (paired (drop half (secondBack ts half x y)) (drop half (secondBack is half p q)))
+    ≡ sortOf (paired ts is)
+halves-in-order ts x y is p q half e w n f g first second =
+    let v : half ≤ length is = omega arith in
+    rw (
+      back-first ts x half w f y,
+      back-first is p half v g q,
+      back-second ts x half w f y,
+      back-second is p half v g q,
+      first,
+      second,
+      second-lent ts x half w f,
+      second-lent is p half v g,
+      merge-sorts (paired (take half ts) (take half is)) (paired (drop half ts) (drop half is)) (numbers-halves ts is half e w n .1),
+      ← paired-halves ts is half e w,
+    )
 
 -- ---- the product
 

@@ -38,9 +38,17 @@ fn many(distances: &mut [f32], places: &mut [usize])
     let n = distances.len();
     let mut ts = [0.0; MOST];
     let mut is = [0; MOST];
-    copy_distances(distances, &mut ts[..n]);
-    copy_places(places, &mut is[..n]);
-    by_halves(distances, places, &mut ts[..n], &mut is[..n]);
+    with_room(distances, places, &mut ts[..n], &mut is[..n]);
+}
+
+// Puts hits in order with two lists as long, which may hold anything.
+fn with_room(distances: &mut [f32], places: &mut [usize], ts: &mut [f32], is: &mut [usize])
+    requires { ⌜ (length (now distances) ≡ length (now places)) × (length (now ts) ≡ length (now distances)) × (length (now is) ≡ length (now places)) × Numbers (paired (now distances) (now places)) ⌝ }
+    ensures { λ _. ⌜ paired (now (distances .exit)) (now (places .exit)) ≡ sortOf (paired (now (distances .entry)) (now (places .entry))) ⌝ }
+{
+    copy_distances(distances, ts);
+    copy_places(places, is);
+    by_halves(distances, places, ts, is);
 }
 
 // Puts hits in order. The last two lists hold the same hits; their halves are put in order, and merged into the first two.

@@ -1,4 +1,16 @@
-use Prim.Native.Nat.{ℕ, _<_}
+-- `scan::sort::by_halves` meets its contract; the measure is how many hits there are. The two calls of itself put the halves of the lists in order that hold
+-- the same hits, and both merged are the whole in order (`halves-in-order`).
+use mathlib.Core.Path.{_≡_, refl, sym, ap, _∙_}
+use mathlib.Core.List.{List}
+use Prim.Native.Nat.{ℕ, _/_, _<_}
+use native.Mathlib.Omega.{arith}
+use lib.ListN.{length, take, drop, length-drop}
+use lib.Seq.{length-take-le, length-front}
+use lib.Ieee.{Float}
+use Rattle.scan.specs.Hits.{paired}
+use Rattle.scan.specs.Merge.{Numbers}
+use borrow.Author.Needs.{needs}
+use Rattle.scan.proofs.Lists.{second-lent, back-length, numbers-halves, halves-in-order}
 use borrow.Fn.Kinds.{In}
 use borrow.Fn.PlainCycle.{Measures, is, falls, and}
 use Rattle.scan.proofs.sort.by_halves.Reads as by-halves
@@ -10,7 +22,7 @@ use Rattle.scan.proofs.sort.+by_halves.{statement}
 use Rattle.scan.proofs.sort.+by_halves.Tie.{close}
 
 abbrev μ-by-halves : Measures 4 by-halves-kinds.ps ℕ
-μ-by-halves κs a = ?
+μ-by-halves κs a = length (a .0 .now)
 
 abbrev by-halves-at : ℕ → In 4 by-halves-kinds.ps
 by-halves-at t = and 4 by-halves-kinds.ps (is 4 by-halves-kinds.ps μ-by-halves t) by-halves.Pre
@@ -19,7 +31,6 @@ abbrev by-halves-below : ℕ → In 4 by-halves-kinds.ps
 by-halves-below t =
     and 4 by-halves-kinds.ps (falls 4 by-halves-kinds.ps _<_ μ-by-halves t) by-halves.Pre
 
--- src/sort.rt:53:9
 by-halves-one-by-one-requires : (t : ℕ) → by-halves-lts.Need-one-by-one-requires (
   one-by-one-reads.Asked,
   one-by-one-reads.Learnt,
@@ -28,9 +39,8 @@ by-halves-one-by-one-requires : (t : ℕ) → by-halves-lts.Need-one-by-one-requ
   merge-reads.Asked,
   merge-reads.Learnt,
 ) (by-halves-at t) by-halves.Post
-by-halves-one-by-one-requires t c κs = ?
+by-halves-one-by-one-requires t c κs = c .before .before .before .before .before .before .before .pre .1 .0
 
--- src/sort.rt:54:9
 by-halves-same-length : (t : ℕ) → by-halves-lts.Need-same-length (
   one-by-one-reads.Asked,
   one-by-one-reads.Learnt,
@@ -39,9 +49,8 @@ by-halves-same-length : (t : ℕ) → by-halves-lts.Need-same-length (
   merge-reads.Asked,
   merge-reads.Learnt,
 ) (by-halves-at t) by-halves.Post
-by-halves-same-length t c = ?
+by-halves-same-length t c = search needs
 
--- src/sort.rt:54:9
 by-halves-same-length-2 : (t : ℕ) → by-halves-lts.Need-same-length-2 (
   one-by-one-reads.Asked,
   one-by-one-reads.Learnt,
@@ -50,9 +59,8 @@ by-halves-same-length-2 : (t : ℕ) → by-halves-lts.Need-same-length-2 (
   merge-reads.Asked,
   merge-reads.Learnt,
 ) (by-halves-at t) by-halves.Post
-by-halves-same-length-2 t c = ?
+by-halves-same-length-2 t c = search needs
 
--- src/sort.rt:54:9
 by-halves-returns : (t : ℕ) → by-halves-lts.Need-returns (
   one-by-one-reads.Asked,
   one-by-one-reads.Learnt,
@@ -61,9 +69,8 @@ by-halves-returns : (t : ℕ) → by-halves-lts.Need-returns (
   merge-reads.Asked,
   merge-reads.Learnt,
 ) (by-halves-at t) by-halves.Post
-by-halves-returns t c = ?
+by-halves-returns t c = c .before .before .before .before .one-by-one .ensures
 
--- src/sort.rt:57:15
 by-halves-slice-relend-prefix-by-halves :
     (t : ℕ) → by-halves-lts.Need-slice-relend-prefix-by-halves (
       one-by-one-reads.Asked,
@@ -73,9 +80,15 @@ by-halves-slice-relend-prefix-by-halves :
       merge-reads.Asked,
       merge-reads.Learnt,
     ) (by-halves-at t) by-halves.Post
-by-halves-slice-relend-prefix-by-halves t c = ?
+by-halves-slice-relend-prefix-by-halves t c =
+    let s = c .before .before .before .before .before in
+    let a = s .args in
+    let q = s .pre .1 in
+    let h = length (a .distances .now) / 2 in
+    let k = ap (λ (l : List Float). length l) (q .1) in
+    let j = ap (λ (l : List ℕ). length l) (q .2) in
+    omega arith
 
--- src/sort.rt:57:15
 by-halves-slice-aggregate-by-halves : (t : ℕ) → by-halves-lts.Need-slice-aggregate-by-halves (
   one-by-one-reads.Asked,
   one-by-one-reads.Learnt,
@@ -84,9 +97,15 @@ by-halves-slice-aggregate-by-halves : (t : ℕ) → by-halves-lts.Need-slice-agg
   merge-reads.Asked,
   merge-reads.Learnt,
 ) (by-halves-at t) by-halves.Post
-by-halves-slice-aggregate-by-halves t c = ?
+by-halves-slice-aggregate-by-halves t c =
+    let s = c .before .before .before .before .before .before in
+    let a = s .args in
+    let q = s .pre .1 in
+    let h = length (a .distances .now) / 2 in
+    let k = ap (λ (l : List Float). length l) (q .1) in
+    let j = ap (λ (l : List ℕ). length l) (q .2) in
+    sym (length-take-le h (a .ts .now) (omega arith))
 
--- src/sort.rt:57:32
 by-halves-slice-relend-prefix-by-halves-2 :
     (t : ℕ) → by-halves-lts.Need-slice-relend-prefix-by-halves-2 (
       one-by-one-reads.Asked,
@@ -96,9 +115,15 @@ by-halves-slice-relend-prefix-by-halves-2 :
       merge-reads.Asked,
       merge-reads.Learnt,
     ) (by-halves-at t) by-halves.Post
-by-halves-slice-relend-prefix-by-halves-2 t c = ?
+by-halves-slice-relend-prefix-by-halves-2 t c =
+    let s = c .before .before .before .before .before .before in
+    let a = s .args in
+    let q = s .pre .1 in
+    let h = length (a .distances .now) / 2 in
+    let k = ap (λ (l : List Float). length l) (q .1) in
+    let j = ap (λ (l : List ℕ). length l) (q .2) in
+    omega arith
 
--- src/sort.rt:57:32
 by-halves-slice-aggregate-by-halves-2 : (t : ℕ) → by-halves-lts.Need-slice-aggregate-by-halves-2 (
   one-by-one-reads.Asked,
   one-by-one-reads.Learnt,
@@ -107,9 +132,15 @@ by-halves-slice-aggregate-by-halves-2 : (t : ℕ) → by-halves-lts.Need-slice-a
   merge-reads.Asked,
   merge-reads.Learnt,
 ) (by-halves-at t) by-halves.Post
-by-halves-slice-aggregate-by-halves-2 t c = ?
+by-halves-slice-aggregate-by-halves-2 t c =
+    let s = c .before .before .before .before .before .before .before in
+    let a = s .args in
+    let q = s .pre .1 in
+    let h = length (a .distances .now) / 2 in
+    let k = ap (λ (l : List Float). length l) (q .1) in
+    let j = ap (λ (l : List ℕ). length l) (q .2) in
+    sym (length-take-le h (a .is .now) (omega arith))
 
--- src/sort.rt:57:49
 by-halves-slice-relend-prefix-by-halves-3 :
     (t : ℕ) → by-halves-lts.Need-slice-relend-prefix-by-halves-3 (
       one-by-one-reads.Asked,
@@ -119,9 +150,15 @@ by-halves-slice-relend-prefix-by-halves-3 :
       merge-reads.Asked,
       merge-reads.Learnt,
     ) (by-halves-at t) by-halves.Post
-by-halves-slice-relend-prefix-by-halves-3 t c = ?
+by-halves-slice-relend-prefix-by-halves-3 t c =
+    let s = c .before .before .before .before .before .before .before in
+    let a = s .args in
+    let q = s .pre .1 in
+    let h = length (a .distances .now) / 2 in
+    let k = ap (λ (l : List Float). length l) (q .1) in
+    let j = ap (λ (l : List ℕ). length l) (q .2) in
+    omega arith
 
--- src/sort.rt:57:49
 by-halves-slice-aggregate-by-halves-3 : (t : ℕ) → by-halves-lts.Need-slice-aggregate-by-halves-3 (
   one-by-one-reads.Asked,
   one-by-one-reads.Learnt,
@@ -130,9 +167,15 @@ by-halves-slice-aggregate-by-halves-3 : (t : ℕ) → by-halves-lts.Need-slice-a
   merge-reads.Asked,
   merge-reads.Learnt,
 ) (by-halves-at t) by-halves.Post
-by-halves-slice-aggregate-by-halves-3 t c = ?
+by-halves-slice-aggregate-by-halves-3 t c =
+    let s = c .before .before .before .before .before .before .before .before in
+    let a = s .args in
+    let q = s .pre .1 in
+    let h = length (a .distances .now) / 2 in
+    let k = ap (λ (l : List Float). length l) (q .1) in
+    let j = ap (λ (l : List ℕ). length l) (q .2) in
+    sym (length-take-le h (a .distances .now) (omega arith))
 
--- src/sort.rt:57:73
 by-halves-slice-relend-prefix-by-halves-4 :
     (t : ℕ) → by-halves-lts.Need-slice-relend-prefix-by-halves-4 (
       one-by-one-reads.Asked,
@@ -142,9 +185,15 @@ by-halves-slice-relend-prefix-by-halves-4 :
       merge-reads.Asked,
       merge-reads.Learnt,
     ) (by-halves-at t) by-halves.Post
-by-halves-slice-relend-prefix-by-halves-4 t c = ?
+by-halves-slice-relend-prefix-by-halves-4 t c =
+    let s = c .before .before .before .before .before .before .before .before in
+    let a = s .args in
+    let q = s .pre .1 in
+    let h = length (a .distances .now) / 2 in
+    let k = ap (λ (l : List Float). length l) (q .1) in
+    let j = ap (λ (l : List ℕ). length l) (q .2) in
+    omega arith
 
--- src/sort.rt:57:73
 by-halves-slice-aggregate-by-halves-4 : (t : ℕ) → by-halves-lts.Need-slice-aggregate-by-halves-4 (
   one-by-one-reads.Asked,
   one-by-one-reads.Learnt,
@@ -153,9 +202,15 @@ by-halves-slice-aggregate-by-halves-4 : (t : ℕ) → by-halves-lts.Need-slice-a
   merge-reads.Asked,
   merge-reads.Learnt,
 ) (by-halves-at t) by-halves.Post
-by-halves-slice-aggregate-by-halves-4 t c = ?
+by-halves-slice-aggregate-by-halves-4 t c =
+    let s = c .before .before .before .before .before .before .before .before .before in
+    let a = s .args in
+    let q = s .pre .1 in
+    let h = length (a .distances .now) / 2 in
+    let k = ap (λ (l : List Float). length l) (q .1) in
+    let j = ap (λ (l : List ℕ). length l) (q .2) in
+    sym (length-take-le h (a .places .now) (omega arith))
 
--- src/sort.rt:57:5
 by-halves-by-halves-requires : (t : ℕ) → by-halves-lts.Need-by-halves-requires (
   one-by-one-reads.Asked,
   one-by-one-reads.Learnt,
@@ -164,9 +219,24 @@ by-halves-by-halves-requires : (t : ℕ) → by-halves-lts.Need-by-halves-requir
   merge-reads.Asked,
   merge-reads.Learnt,
 ) (by-halves-at t) by-halves.Post
-by-halves-by-halves-requires t c κs = ?
+by-halves-by-halves-requires t c κs =
+    let s = c .before .before .before .before .before .before .before .before .before in
+    let a = s .args in
+    let q = s .pre .1 in
+    let h = length (a .distances .now) / 2 in
+    let k = ap (λ (l : List Float). length l) (q .1) in
+    let j = ap (λ (l : List ℕ). length l) (q .2) in
+    let n : Numbers (paired (a .ts .now) (a .is .now)) = rw (q .1, q .2) (q .3) in
+    (
+      omega (arith, s .pre .0, length-take-le h (a .ts .now) (omega arith)),
+      (
+        length-take-le h (a .ts .now) (omega arith) ∙ sym (length-take-le h (a .is .now) (omega arith)),
+        ap (λ (l : List Float). take h l) (sym (q .1)),
+        ap (λ (l : List ℕ). take h l) (sym (q .2)),
+        numbers-halves (a .ts .now) (a .is .now) h (omega arith) (omega arith) n .0,
+      ),
+    )
 
--- src/sort.rt:58:15
 by-halves-mul-by-halves : (t : ℕ) → by-halves-lts.Need-mul-by-halves (
   one-by-one-reads.Asked,
   one-by-one-reads.Learnt,
@@ -175,9 +245,16 @@ by-halves-mul-by-halves : (t : ℕ) → by-halves-lts.Need-mul-by-halves (
   merge-reads.Asked,
   merge-reads.Learnt,
 ) (by-halves-at t) by-halves.Post
-by-halves-mul-by-halves t c = ?
+by-halves-mul-by-halves t c =
+    let s = c .before .before .before .before .before .before .before .before .before .before .before .before .before .before .before .before .before .before in
+    let a = s .args in
+    let q = s .pre .1 in
+    let h = length (a .distances .now) / 2 in
+    let k = ap (λ (l : List Float). length l) (q .1) in
+    let j = ap (λ (l : List ℕ). length l) (q .2) in
+    let x = c .before .before .before .before .before .before .before .before .by-halves in
+    omega (arith, length-front (a .ts .now) (x .last .0) h (x .kept .0))
 
--- src/sort.rt:58:15
 by-halves-sub-by-halves : (t : ℕ) → by-halves-lts.Need-sub-by-halves (
   one-by-one-reads.Asked,
   one-by-one-reads.Learnt,
@@ -186,9 +263,16 @@ by-halves-sub-by-halves : (t : ℕ) → by-halves-lts.Need-sub-by-halves (
   merge-reads.Asked,
   merge-reads.Learnt,
 ) (by-halves-at t) by-halves.Post
-by-halves-sub-by-halves t c = ?
+by-halves-sub-by-halves t c =
+    let s = c .before .before .before .before .before .before .before .before .before .before .before .before .before .before .before .before .before .before in
+    let a = s .args in
+    let q = s .pre .1 in
+    let h = length (a .distances .now) / 2 in
+    let k = ap (λ (l : List Float). length l) (q .1) in
+    let j = ap (λ (l : List ℕ). length l) (q .2) in
+    let x = c .before .before .before .before .before .before .before .before .by-halves in
+    omega (arith, length-front (a .ts .now) (x .last .0) h (x .kept .0))
 
--- src/sort.rt:58:15
 by-halves-part-by-halves-start : (t : ℕ) → by-halves-lts.Need-part-by-halves-start (
   one-by-one-reads.Asked,
   one-by-one-reads.Learnt,
@@ -197,9 +281,16 @@ by-halves-part-by-halves-start : (t : ℕ) → by-halves-lts.Need-part-by-halves
   merge-reads.Asked,
   merge-reads.Learnt,
 ) (by-halves-at t) by-halves.Post
-by-halves-part-by-halves-start t c = ?
+by-halves-part-by-halves-start t c =
+    let s = c .before .before .before .before .before .before .before .before .before .before .before .before .before .before .before .before .before .before in
+    let a = s .args in
+    let q = s .pre .1 in
+    let h = length (a .distances .now) / 2 in
+    let k = ap (λ (l : List Float). length l) (q .1) in
+    let j = ap (λ (l : List ℕ). length l) (q .2) in
+    let x = c .before .before .before .before .before .before .before .before .by-halves in
+    omega (arith, length-front (a .ts .now) (x .last .0) h (x .kept .0))
 
--- src/sort.rt:58:15
 by-halves-part-by-halves-end : (t : ℕ) → by-halves-lts.Need-part-by-halves-end (
   one-by-one-reads.Asked,
   one-by-one-reads.Learnt,
@@ -208,9 +299,16 @@ by-halves-part-by-halves-end : (t : ℕ) → by-halves-lts.Need-part-by-halves-e
   merge-reads.Asked,
   merge-reads.Learnt,
 ) (by-halves-at t) by-halves.Post
-by-halves-part-by-halves-end t c = ?
+by-halves-part-by-halves-end t c =
+    let s = c .before .before .before .before .before .before .before .before .before .before .before .before .before .before .before .before .before .before in
+    let a = s .args in
+    let q = s .pre .1 in
+    let h = length (a .distances .now) / 2 in
+    let k = ap (λ (l : List Float). length l) (q .1) in
+    let j = ap (λ (l : List ℕ). length l) (q .2) in
+    let x = c .before .before .before .before .before .before .before .before .by-halves in
+    omega (arith, length-front (a .ts .now) (x .last .0) h (x .kept .0))
 
--- src/sort.rt:58:32
 by-halves-mul-by-halves-2 : (t : ℕ) → by-halves-lts.Need-mul-by-halves-2 (
   one-by-one-reads.Asked,
   one-by-one-reads.Learnt,
@@ -219,9 +317,16 @@ by-halves-mul-by-halves-2 : (t : ℕ) → by-halves-lts.Need-mul-by-halves-2 (
   merge-reads.Asked,
   merge-reads.Learnt,
 ) (by-halves-at t) by-halves.Post
-by-halves-mul-by-halves-2 t c = ?
+by-halves-mul-by-halves-2 t c =
+    let s = c .before .before .before .before .before .before .before .before .before .before .before .before .before .before .before .before .before .before .before in
+    let a = s .args in
+    let q = s .pre .1 in
+    let h = length (a .distances .now) / 2 in
+    let k = ap (λ (l : List Float). length l) (q .1) in
+    let j = ap (λ (l : List ℕ). length l) (q .2) in
+    let x = c .before .before .before .before .before .before .before .before .before .by-halves in
+    omega (arith, length-front (a .is .now) (x .last .1 .0) h (x .kept .1 .0))
 
--- src/sort.rt:58:32
 by-halves-sub-by-halves-2 : (t : ℕ) → by-halves-lts.Need-sub-by-halves-2 (
   one-by-one-reads.Asked,
   one-by-one-reads.Learnt,
@@ -230,9 +335,16 @@ by-halves-sub-by-halves-2 : (t : ℕ) → by-halves-lts.Need-sub-by-halves-2 (
   merge-reads.Asked,
   merge-reads.Learnt,
 ) (by-halves-at t) by-halves.Post
-by-halves-sub-by-halves-2 t c = ?
+by-halves-sub-by-halves-2 t c =
+    let s = c .before .before .before .before .before .before .before .before .before .before .before .before .before .before .before .before .before .before .before in
+    let a = s .args in
+    let q = s .pre .1 in
+    let h = length (a .distances .now) / 2 in
+    let k = ap (λ (l : List Float). length l) (q .1) in
+    let j = ap (λ (l : List ℕ). length l) (q .2) in
+    let x = c .before .before .before .before .before .before .before .before .before .by-halves in
+    omega (arith, length-front (a .is .now) (x .last .1 .0) h (x .kept .1 .0))
 
--- src/sort.rt:58:32
 by-halves-part-by-halves-start-2 : (t : ℕ) → by-halves-lts.Need-part-by-halves-start-2 (
   one-by-one-reads.Asked,
   one-by-one-reads.Learnt,
@@ -241,9 +353,16 @@ by-halves-part-by-halves-start-2 : (t : ℕ) → by-halves-lts.Need-part-by-halv
   merge-reads.Asked,
   merge-reads.Learnt,
 ) (by-halves-at t) by-halves.Post
-by-halves-part-by-halves-start-2 t c = ?
+by-halves-part-by-halves-start-2 t c =
+    let s = c .before .before .before .before .before .before .before .before .before .before .before .before .before .before .before .before .before .before .before in
+    let a = s .args in
+    let q = s .pre .1 in
+    let h = length (a .distances .now) / 2 in
+    let k = ap (λ (l : List Float). length l) (q .1) in
+    let j = ap (λ (l : List ℕ). length l) (q .2) in
+    let x = c .before .before .before .before .before .before .before .before .before .by-halves in
+    omega (arith, length-front (a .is .now) (x .last .1 .0) h (x .kept .1 .0))
 
--- src/sort.rt:58:32
 by-halves-part-by-halves-end-2 : (t : ℕ) → by-halves-lts.Need-part-by-halves-end-2 (
   one-by-one-reads.Asked,
   one-by-one-reads.Learnt,
@@ -252,9 +371,16 @@ by-halves-part-by-halves-end-2 : (t : ℕ) → by-halves-lts.Need-part-by-halves
   merge-reads.Asked,
   merge-reads.Learnt,
 ) (by-halves-at t) by-halves.Post
-by-halves-part-by-halves-end-2 t c = ?
+by-halves-part-by-halves-end-2 t c =
+    let s = c .before .before .before .before .before .before .before .before .before .before .before .before .before .before .before .before .before .before .before in
+    let a = s .args in
+    let q = s .pre .1 in
+    let h = length (a .distances .now) / 2 in
+    let k = ap (λ (l : List Float). length l) (q .1) in
+    let j = ap (λ (l : List ℕ). length l) (q .2) in
+    let x = c .before .before .before .before .before .before .before .before .before .by-halves in
+    omega (arith, length-front (a .is .now) (x .last .1 .0) h (x .kept .1 .0))
 
--- src/sort.rt:58:49
 by-halves-mul-by-halves-3 : (t : ℕ) → by-halves-lts.Need-mul-by-halves-3 (
   one-by-one-reads.Asked,
   one-by-one-reads.Learnt,
@@ -263,9 +389,16 @@ by-halves-mul-by-halves-3 : (t : ℕ) → by-halves-lts.Need-mul-by-halves-3 (
   merge-reads.Asked,
   merge-reads.Learnt,
 ) (by-halves-at t) by-halves.Post
-by-halves-mul-by-halves-3 t c = ?
+by-halves-mul-by-halves-3 t c =
+    let s = c .before .before .before .before .before .before .before .before .before .before .before .before .before .before .before .before .before .before .before .before in
+    let a = s .args in
+    let q = s .pre .1 in
+    let h = length (a .distances .now) / 2 in
+    let k = ap (λ (l : List Float). length l) (q .1) in
+    let j = ap (λ (l : List ℕ). length l) (q .2) in
+    let x = c .before .before .before .before .before .before .before .before .before .before .by-halves in
+    omega (arith, length-front (a .distances .now) (x .last .1 .1 .0) h (x .kept .1 .1 .0))
 
--- src/sort.rt:58:49
 by-halves-sub-by-halves-3 : (t : ℕ) → by-halves-lts.Need-sub-by-halves-3 (
   one-by-one-reads.Asked,
   one-by-one-reads.Learnt,
@@ -274,9 +407,16 @@ by-halves-sub-by-halves-3 : (t : ℕ) → by-halves-lts.Need-sub-by-halves-3 (
   merge-reads.Asked,
   merge-reads.Learnt,
 ) (by-halves-at t) by-halves.Post
-by-halves-sub-by-halves-3 t c = ?
+by-halves-sub-by-halves-3 t c =
+    let s = c .before .before .before .before .before .before .before .before .before .before .before .before .before .before .before .before .before .before .before .before in
+    let a = s .args in
+    let q = s .pre .1 in
+    let h = length (a .distances .now) / 2 in
+    let k = ap (λ (l : List Float). length l) (q .1) in
+    let j = ap (λ (l : List ℕ). length l) (q .2) in
+    let x = c .before .before .before .before .before .before .before .before .before .before .by-halves in
+    omega (arith, length-front (a .distances .now) (x .last .1 .1 .0) h (x .kept .1 .1 .0))
 
--- src/sort.rt:58:49
 by-halves-part-by-halves-start-3 : (t : ℕ) → by-halves-lts.Need-part-by-halves-start-3 (
   one-by-one-reads.Asked,
   one-by-one-reads.Learnt,
@@ -285,9 +425,16 @@ by-halves-part-by-halves-start-3 : (t : ℕ) → by-halves-lts.Need-part-by-halv
   merge-reads.Asked,
   merge-reads.Learnt,
 ) (by-halves-at t) by-halves.Post
-by-halves-part-by-halves-start-3 t c = ?
+by-halves-part-by-halves-start-3 t c =
+    let s = c .before .before .before .before .before .before .before .before .before .before .before .before .before .before .before .before .before .before .before .before in
+    let a = s .args in
+    let q = s .pre .1 in
+    let h = length (a .distances .now) / 2 in
+    let k = ap (λ (l : List Float). length l) (q .1) in
+    let j = ap (λ (l : List ℕ). length l) (q .2) in
+    let x = c .before .before .before .before .before .before .before .before .before .before .by-halves in
+    omega (arith, length-front (a .distances .now) (x .last .1 .1 .0) h (x .kept .1 .1 .0))
 
--- src/sort.rt:58:49
 by-halves-part-by-halves-end-3 : (t : ℕ) → by-halves-lts.Need-part-by-halves-end-3 (
   one-by-one-reads.Asked,
   one-by-one-reads.Learnt,
@@ -296,9 +443,16 @@ by-halves-part-by-halves-end-3 : (t : ℕ) → by-halves-lts.Need-part-by-halves
   merge-reads.Asked,
   merge-reads.Learnt,
 ) (by-halves-at t) by-halves.Post
-by-halves-part-by-halves-end-3 t c = ?
+by-halves-part-by-halves-end-3 t c =
+    let s = c .before .before .before .before .before .before .before .before .before .before .before .before .before .before .before .before .before .before .before .before in
+    let a = s .args in
+    let q = s .pre .1 in
+    let h = length (a .distances .now) / 2 in
+    let k = ap (λ (l : List Float). length l) (q .1) in
+    let j = ap (λ (l : List ℕ). length l) (q .2) in
+    let x = c .before .before .before .before .before .before .before .before .before .before .by-halves in
+    omega (arith, length-front (a .distances .now) (x .last .1 .1 .0) h (x .kept .1 .1 .0))
 
--- src/sort.rt:58:73
 by-halves-mul-by-halves-4 : (t : ℕ) → by-halves-lts.Need-mul-by-halves-4 (
   one-by-one-reads.Asked,
   one-by-one-reads.Learnt,
@@ -307,9 +461,16 @@ by-halves-mul-by-halves-4 : (t : ℕ) → by-halves-lts.Need-mul-by-halves-4 (
   merge-reads.Asked,
   merge-reads.Learnt,
 ) (by-halves-at t) by-halves.Post
-by-halves-mul-by-halves-4 t c = ?
+by-halves-mul-by-halves-4 t c =
+    let s = c .before .before .before .before .before .before .before .before .before .before .before .before .before .before .before .before .before .before .before .before .before in
+    let a = s .args in
+    let q = s .pre .1 in
+    let h = length (a .distances .now) / 2 in
+    let k = ap (λ (l : List Float). length l) (q .1) in
+    let j = ap (λ (l : List ℕ). length l) (q .2) in
+    let x = c .before .before .before .before .before .before .before .before .before .before .before .by-halves in
+    omega (arith, length-front (a .places .now) (x .last .1 .1 .1 .0) h (x .kept .1 .1 .1 .0))
 
--- src/sort.rt:58:73
 by-halves-sub-by-halves-4 : (t : ℕ) → by-halves-lts.Need-sub-by-halves-4 (
   one-by-one-reads.Asked,
   one-by-one-reads.Learnt,
@@ -318,9 +479,16 @@ by-halves-sub-by-halves-4 : (t : ℕ) → by-halves-lts.Need-sub-by-halves-4 (
   merge-reads.Asked,
   merge-reads.Learnt,
 ) (by-halves-at t) by-halves.Post
-by-halves-sub-by-halves-4 t c = ?
+by-halves-sub-by-halves-4 t c =
+    let s = c .before .before .before .before .before .before .before .before .before .before .before .before .before .before .before .before .before .before .before .before .before in
+    let a = s .args in
+    let q = s .pre .1 in
+    let h = length (a .distances .now) / 2 in
+    let k = ap (λ (l : List Float). length l) (q .1) in
+    let j = ap (λ (l : List ℕ). length l) (q .2) in
+    let x = c .before .before .before .before .before .before .before .before .before .before .before .by-halves in
+    omega (arith, length-front (a .places .now) (x .last .1 .1 .1 .0) h (x .kept .1 .1 .1 .0))
 
--- src/sort.rt:58:73
 by-halves-part-by-halves-start-4 : (t : ℕ) → by-halves-lts.Need-part-by-halves-start-4 (
   one-by-one-reads.Asked,
   one-by-one-reads.Learnt,
@@ -329,9 +497,16 @@ by-halves-part-by-halves-start-4 : (t : ℕ) → by-halves-lts.Need-part-by-halv
   merge-reads.Asked,
   merge-reads.Learnt,
 ) (by-halves-at t) by-halves.Post
-by-halves-part-by-halves-start-4 t c = ?
+by-halves-part-by-halves-start-4 t c =
+    let s = c .before .before .before .before .before .before .before .before .before .before .before .before .before .before .before .before .before .before .before .before .before in
+    let a = s .args in
+    let q = s .pre .1 in
+    let h = length (a .distances .now) / 2 in
+    let k = ap (λ (l : List Float). length l) (q .1) in
+    let j = ap (λ (l : List ℕ). length l) (q .2) in
+    let x = c .before .before .before .before .before .before .before .before .before .before .before .by-halves in
+    omega (arith, length-front (a .places .now) (x .last .1 .1 .1 .0) h (x .kept .1 .1 .1 .0))
 
--- src/sort.rt:58:73
 by-halves-part-by-halves-end-4 : (t : ℕ) → by-halves-lts.Need-part-by-halves-end-4 (
   one-by-one-reads.Asked,
   one-by-one-reads.Learnt,
@@ -340,9 +515,16 @@ by-halves-part-by-halves-end-4 : (t : ℕ) → by-halves-lts.Need-part-by-halves
   merge-reads.Asked,
   merge-reads.Learnt,
 ) (by-halves-at t) by-halves.Post
-by-halves-part-by-halves-end-4 t c = ?
+by-halves-part-by-halves-end-4 t c =
+    let s = c .before .before .before .before .before .before .before .before .before .before .before .before .before .before .before .before .before .before .before .before .before in
+    let a = s .args in
+    let q = s .pre .1 in
+    let h = length (a .distances .now) / 2 in
+    let k = ap (λ (l : List Float). length l) (q .1) in
+    let j = ap (λ (l : List ℕ). length l) (q .2) in
+    let x = c .before .before .before .before .before .before .before .before .before .before .before .by-halves in
+    omega (arith, length-front (a .places .now) (x .last .1 .1 .1 .0) h (x .kept .1 .1 .1 .0))
 
--- src/sort.rt:58:5
 by-halves-by-halves-requires-2 : (t : ℕ) → by-halves-lts.Need-by-halves-requires-2 (
   one-by-one-reads.Asked,
   one-by-one-reads.Learnt,
@@ -351,9 +533,31 @@ by-halves-by-halves-requires-2 : (t : ℕ) → by-halves-lts.Need-by-halves-requ
   merge-reads.Asked,
   merge-reads.Learnt,
 ) (by-halves-at t) by-halves.Post
-by-halves-by-halves-requires-2 t c κs = ?
+by-halves-by-halves-requires-2 t c κs =
+    let s = c .before .before .before .before .before .before .before .before .before .before .before .before .before .before .before .before .before .before .before .before .before .before in
+    let a = s .args in
+    let q = s .pre .1 in
+    let h = length (a .distances .now) / 2 in
+    let k = ap (λ (l : List Float). length l) (q .1) in
+    let j = ap (λ (l : List ℕ). length l) (q .2) in
+    let n : Numbers (paired (a .ts .now) (a .is .now)) = rw (q .1, q .2) (q .3) in
+    let x = c .before .before .before .before .before .before .before .before .before .before .before .before .by-halves in
+    let st = second-lent (a .ts .now) (x .last .0) h (omega arith) (x .kept .0) in
+    let si = second-lent (a .is .now) (x .last .1 .0) h (omega arith) (x .kept .1 .0) in
+    let sd = second-lent (a .distances .now) (x .last .1 .1 .0) h (omega arith) (x .kept .1 .1 .0) in
+    let sp = second-lent (a .places .now) (x .last .1 .1 .1 .0) h (omega arith) (x .kept .1 .1 .1 .0) in
+    let lt = ap (λ (l : List Float). length l) st in
+    let li = ap (λ (l : List ℕ). length l) si in
+    (
+      omega (arith, s .pre .0, lt, length-drop h (a .ts .now)),
+      (
+        omega (arith, lt, li, length-drop h (a .ts .now), length-drop h (a .is .now)),
+        sd ∙ ap (λ (l : List Float). drop h l) (sym (q .1)) ∙ sym st,
+        sp ∙ ap (λ (l : List ℕ). drop h l) (sym (q .2)) ∙ sym si,
+        rw (st, si) (numbers-halves (a .ts .now) (a .is .now) h (omega arith) (omega arith) n .1),
+      ),
+    )
 
--- src/sort.rt:59:5
 by-halves-merge-requires : (t : ℕ) → by-halves-lts.Need-merge-requires (
   one-by-one-reads.Asked,
   one-by-one-reads.Learnt,
@@ -362,9 +566,21 @@ by-halves-merge-requires : (t : ℕ) → by-halves-lts.Need-merge-requires (
   merge-reads.Asked,
   merge-reads.Learnt,
 ) (by-halves-at t) by-halves.Post
-by-halves-merge-requires t c κs = ?
+by-halves-merge-requires t c κs =
+    let s = c .before .before .before .before .before .before .before .before .before .before .before .before .before .before .before .before .before .before .before .before .before .before .before .before .before .before .before .before .before .before .before .before .before .before .before in
+    let a = s .args in
+    let q = s .pre .1 in
+    let h = length (a .distances .now) / 2 in
+    let k = ap (λ (l : List Float). length l) (q .1) in
+    let j = ap (λ (l : List ℕ). length l) (q .2) in
+    let x = c .before .before .before .before .before .before .before .before .before .before .before .before .before .before .before .before .before .before .before .before .before .before .before .before .before .by-halves in
+    let y = c .before .before .before .before .before .before .before .before .before .before .before .before .by-halves2 in
+    let bt = back-length (a .ts .now) (x .last .0) h (omega arith) (x .kept .0) (y .last .0) (y .kept .0) in
+    let bi = back-length (a .is .now) (x .last .1 .0) h (omega arith) (x .kept .1 .0) (y .last .1 .0) (y .kept .1 .0) in
+    let bd = back-length (a .distances .now) (x .last .1 .1 .0) h (omega arith) (x .kept .1 .1 .0) (y .last .1 .1 .0) (y .kept .1 .1 .0) in
+    let bp = back-length (a .places .now) (x .last .1 .1 .1 .0) h (omega arith) (x .kept .1 .1 .1 .0) (y .last .1 .1 .1 .0) (y .kept .1 .1 .1 .0) in
+    (omega (arith, bt, bi), omega (arith, bt), omega (arith, bd, bt), omega (arith, bp, bt))
 
--- src/sort.rt:47:1
 by-halves-same-length-3 : (t : ℕ) → by-halves-lts.Need-same-length-3 (
   one-by-one-reads.Asked,
   one-by-one-reads.Learnt,
@@ -373,9 +589,18 @@ by-halves-same-length-3 : (t : ℕ) → by-halves-lts.Need-same-length-3 (
   merge-reads.Asked,
   merge-reads.Learnt,
 ) (by-halves-at t) by-halves.Post
-by-halves-same-length-3 t c = ?
+by-halves-same-length-3 t c =
+    let s = c .before .before .before .before .before .before .before .before .before .before .before .before .before .before .before .before .before .before .before .before .before .before .before .before .before .before .before .before .before .before .before .before .before .before .before .before .before .before .before .before in
+    let a = s .args in
+    let q = s .pre .1 in
+    let h = length (a .distances .now) / 2 in
+    let k = ap (λ (l : List Float). length l) (q .1) in
+    let j = ap (λ (l : List ℕ). length l) (q .2) in
+    let x = c .before .before .before .before .before .before .before .before .before .before .before .before .before .before .before .before .before .before .before .before .before .before .before .before .before .before .before .before .before .before .by-halves in
+    let y = c .before .before .before .before .before .before .before .before .before .before .before .before .before .before .before .before .before .by-halves2 in
+    let bd = back-length (a .distances .now) (x .last .1 .1 .0) h (omega arith) (x .kept .1 .1 .0) (y .last .1 .1 .0) (y .kept .1 .1 .0) in
+    omega (arith, bd)
 
--- src/sort.rt:47:1
 by-halves-same-length-4 : (t : ℕ) → by-halves-lts.Need-same-length-4 (
   one-by-one-reads.Asked,
   one-by-one-reads.Learnt,
@@ -384,9 +609,18 @@ by-halves-same-length-4 : (t : ℕ) → by-halves-lts.Need-same-length-4 (
   merge-reads.Asked,
   merge-reads.Learnt,
 ) (by-halves-at t) by-halves.Post
-by-halves-same-length-4 t c = ?
+by-halves-same-length-4 t c =
+    let s = c .before .before .before .before .before .before .before .before .before .before .before .before .before .before .before .before .before .before .before .before .before .before .before .before .before .before .before .before .before .before .before .before .before .before .before .before .before .before .before .before in
+    let a = s .args in
+    let q = s .pre .1 in
+    let h = length (a .distances .now) / 2 in
+    let k = ap (λ (l : List Float). length l) (q .1) in
+    let j = ap (λ (l : List ℕ). length l) (q .2) in
+    let x = c .before .before .before .before .before .before .before .before .before .before .before .before .before .before .before .before .before .before .before .before .before .before .before .before .before .before .before .before .before .before .by-halves in
+    let y = c .before .before .before .before .before .before .before .before .before .before .before .before .before .before .before .before .before .by-halves2 in
+    let bp = back-length (a .places .now) (x .last .1 .1 .1 .0) h (omega arith) (x .kept .1 .1 .1 .0) (y .last .1 .1 .1 .0) (y .kept .1 .1 .1 .0) in
+    omega (arith, bp)
 
--- src/sort.rt:47:1
 by-halves-same-length-5 : (t : ℕ) → by-halves-lts.Need-same-length-5 (
   one-by-one-reads.Asked,
   one-by-one-reads.Learnt,
@@ -395,9 +629,18 @@ by-halves-same-length-5 : (t : ℕ) → by-halves-lts.Need-same-length-5 (
   merge-reads.Asked,
   merge-reads.Learnt,
 ) (by-halves-at t) by-halves.Post
-by-halves-same-length-5 t c = ?
+by-halves-same-length-5 t c =
+    let s = c .before .before .before .before .before .before .before .before .before .before .before .before .before .before .before .before .before .before .before .before .before .before .before .before .before .before .before .before .before .before .before .before .before .before .before .before .before .before .before .before in
+    let a = s .args in
+    let q = s .pre .1 in
+    let h = length (a .distances .now) / 2 in
+    let k = ap (λ (l : List Float). length l) (q .1) in
+    let j = ap (λ (l : List ℕ). length l) (q .2) in
+    let x = c .before .before .before .before .before .before .before .before .before .before .before .before .before .before .before .before .before .before .before .before .before .before .before .before .before .before .before .before .before .before .by-halves in
+    let y = c .before .before .before .before .before .before .before .before .before .before .before .before .before .before .before .before .before .by-halves2 in
+    let bt = back-length (a .ts .now) (x .last .0) h (omega arith) (x .kept .0) (y .last .0) (y .kept .0) in
+    bt
 
--- src/sort.rt:47:1
 by-halves-same-length-6 : (t : ℕ) → by-halves-lts.Need-same-length-6 (
   one-by-one-reads.Asked,
   one-by-one-reads.Learnt,
@@ -406,9 +649,18 @@ by-halves-same-length-6 : (t : ℕ) → by-halves-lts.Need-same-length-6 (
   merge-reads.Asked,
   merge-reads.Learnt,
 ) (by-halves-at t) by-halves.Post
-by-halves-same-length-6 t c = ?
+by-halves-same-length-6 t c =
+    let s = c .before .before .before .before .before .before .before .before .before .before .before .before .before .before .before .before .before .before .before .before .before .before .before .before .before .before .before .before .before .before .before .before .before .before .before .before .before .before .before .before in
+    let a = s .args in
+    let q = s .pre .1 in
+    let h = length (a .distances .now) / 2 in
+    let k = ap (λ (l : List Float). length l) (q .1) in
+    let j = ap (λ (l : List ℕ). length l) (q .2) in
+    let x = c .before .before .before .before .before .before .before .before .before .before .before .before .before .before .before .before .before .before .before .before .before .before .before .before .before .before .before .before .before .before .by-halves in
+    let y = c .before .before .before .before .before .before .before .before .before .before .before .before .before .before .before .before .before .by-halves2 in
+    let bi = back-length (a .is .now) (x .last .1 .0) h (omega arith) (x .kept .1 .0) (y .last .1 .0) (y .kept .1 .0) in
+    bi
 
--- src/sort.rt:47:1
 by-halves-returns-2 : (t : ℕ) → by-halves-lts.Need-returns-2 (
   one-by-one-reads.Asked,
   one-by-one-reads.Learnt,
@@ -417,7 +669,19 @@ by-halves-returns-2 : (t : ℕ) → by-halves-lts.Need-returns-2 (
   merge-reads.Asked,
   merge-reads.Learnt,
 ) (by-halves-at t) by-halves.Post
-by-halves-returns-2 t c = ?
+by-halves-returns-2 t c =
+    let s = c .before .before .before .before .before .before .before .before .before .before .before .before .before .before .before .before .before .before .before .before .before .before .before .before .before .before .before .before .before .before .before .before .before .before .before .before .before .before .before .before in
+    let a = s .args in
+    let q = s .pre .1 in
+    let h = length (a .distances .now) / 2 in
+    let k = ap (λ (l : List Float). length l) (q .1) in
+    let j = ap (λ (l : List ℕ). length l) (q .2) in
+    let n : Numbers (paired (a .ts .now) (a .is .now)) = rw (q .1, q .2) (q .3) in
+    let x = c .before .before .before .before .before .before .before .before .before .before .before .before .before .before .before .before .before .before .before .before .before .before .before .before .before .before .before .before .before .before .by-halves in
+    let y = c .before .before .before .before .before .before .before .before .before .before .before .before .before .before .before .before .before .by-halves2 in
+    c .before .before .before .before .merge .ensures
+    ∙ halves-in-order (a .ts .now) (x .last .0) (y .last .0) (a .is .now) (x .last .1 .0) (y .last .1 .0) h (omega arith) (omega arith) n (x .kept .0) (x .kept .1 .0) (x .ensures) (y .ensures)
+    ∙ rw (q .1, q .2) refl
 
 pub +by-halves-spec : {M : Type 1} → statement M
 +by-halves-spec = close μ-by-halves λ t. by-halves-lts.spec (
