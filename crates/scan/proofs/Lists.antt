@@ -121,16 +121,20 @@ module _ {ℓ} {A : Type ℓ} where
   head-same s l m d p q e = ap (λ (r : List A). getD r 0 d) (sym (drop-cons s m d p) ∙ e ∙ drop-cons l m d q)
 
 -- a hit stored past the first k goes to them
-pub stored : (hs : List Struck) (ts : List Float) (is : List ℕ) (k : ℕ) (t : Float) (i : ℕ) → k < length ts → k < length is
-    → paired (take (k + 1) (set ts k t)) (take (k + 1) (set is k i)) ++ hs ≡ paired (take k ts) (take k is) ++ struck t i ∷ hs
+pub stored : (ts : List Float) (is : List ℕ) (k : ℕ) (t : Float) (i : ℕ) → k < length ts → k < length is
+    → paired (take (k + 1) (set ts k t)) (take (k + 1) (set is k i)) ≡ paired (take k ts) (take k is) ++ (struck t i ∷ [])
 unfolding paired
-stored hs ts is k t i p q =
+stored ts is k t i p q =
     rw (
       add-one k,
       take-suc-set ts k t p,
       take-suc-set is k i q,
       paired-append (take k ts) (t ∷ []) (take k is) (i ∷ []) (length-take-le k ts (omega arith) ∙ sym (length-take-le k is (omega arith))),
-    ) (append-snoc (paired (take k ts) (take k is)) (struck t i) hs)
+    )
+
+pub stored-then : (hs : List Struck) (ts : List Float) (is : List ℕ) (k : ℕ) (t : Float) (i : ℕ) → k < length ts → k < length is
+    → paired (take (k + 1) (set ts k t)) (take (k + 1) (set is k i)) ++ hs ≡ paired (take k ts) (take k is) ++ struck t i ∷ hs
+stored-then hs ts is k t i p q = rw (stored ts is k t i p q) (append-snoc (paired (take k ts) (take k is)) (struck t i) hs)
 
 -- ---- what is left of two halves that are merged
 

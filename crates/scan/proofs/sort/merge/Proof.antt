@@ -8,7 +8,7 @@ use lib.ListN.{length, take, drop, length-set}
 use lib.Seq.{take-all}
 use Rattle.scan.specs.Hits.{Struck, paired}
 use Rattle.scan.specs.Merge.{mergeOf}
-use Rattle.scan.proofs.Lists.{stored, rest-none, first-none, second-within, first-within, merge-takes-second, merge-takes-first}
+use Rattle.scan.proofs.Lists.{stored-then, rest-none, first-none, second-within, first-within, merge-takes-second, merge-takes-first}
 use Rattle.scan.proofs.sort.merge.Statement.{statement}
 use Rattle.scan.proofs.sort.merge.Tie as tie
 
@@ -87,7 +87,7 @@ loop-again c =
       omega arith,
       length-set (at .ts) (at .k) _ ∙ at .inv .4,
       length-set (at .is) (at .k) _ ∙ at .inv .5,
-      stored _ (at .ts) (at .is) (at .k) _ _ (omega arith) (omega arith) ∙ ap (λ (l : List Struck). paired (take (at .k) (at .ts)) (take (at .k) (at .is)) ++ l) (sym e) ∙ at .inv .6,
+      stored-then _ (at .ts) (at .is) (at .k) _ _ (omega arith) (omega arith) ∙ ap (λ (l : List Struck). paired (take (at .k) (at .ts)) (take (at .k) (at .is)) ++ l) (sym e) ∙ at .inv .6,
     )
 
 mul-ts-3 : tie.Need-mul-ts-3 Inv-loop μ-loop
@@ -135,7 +135,7 @@ loop-again-2 c =
       omega arith,
       length-set (at .ts) (at .k) _ ∙ at .inv .4,
       length-set (at .is) (at .k) _ ∙ at .inv .5,
-      stored _ (at .ts) (at .is) (at .k) _ _ (omega arith) (omega arith) ∙ ap (λ (l : List Struck). paired (take (at .k) (at .ts)) (take (at .k) (at .is)) ++ l) (sym e) ∙ at .inv .6,
+      stored-then _ (at .ts) (at .is) (at .k) _ _ (omega arith) (omega arith) ∙ ap (λ (l : List Struck). paired (take (at .k) (at .ts)) (take (at .k) (at .is)) ++ l) (sym e) ∙ at .inv .6,
     )
 
 same-length : tie.Need-same-length Inv-loop μ-loop
