@@ -9,15 +9,15 @@ use native.Mathlib.Numerals.{add-one}
 use native.Mathlib.Omega.{arith}
 use lib.ListN.{length, getD, set, take, drop, take-append-drop, length-drop, drop-of-length-le}
 use borrow.Rule.Slice.PartMut.{same-len-mid}
-use lib.Seq.{length-front, drop-cons, drop-drop, length-take-le, getD-take, take-suc, take-suc-set, append-snoc, take-all, take-at, drop-at}
-use lib.Dec.{eqb}
+use lib.Seq.{length-front, drop-cons, length-take-le, getD-take, take-suc-set, append-snoc, take-all, take-at, drop-at}
 use lib.Ieee as Ieee
 use lib.Ieee.{Float, nan, binary32}
 use Rattle.names.specs.Bits.{zero32}
 use Rattle.scan.specs.Hits.{Struck, struck, before, insertOf, insertAt, rankOf, paired, placesOf}
-use Rattle.scan.specs.Merge.{insertAll, sortOf, mergeOf, takesSecond, Numbers}
+use Rattle.scan.specs.Merge.{sortOf, insertAll, mergeOf, takesSecond, Numbers}
 use Rattle.scan.specs.MergeLaws.{insert-all-append, merge-first, merge-second, merge-sorts, numbers-first, numbers-second}
-use Rattle.scan.specs.Transmittance.{faintLimit, kindAt, transmissionAt, passOf}
+use Rattle.scan.specs.OpaqueLaws.{clearPassOf}
+use Rattle.scan.specs.Transmittance.{faintLimit, transmissionAt}
 
 module _ {ℓ} {A : Type ℓ} where
   step : (s : List A) (m k : ℕ) (c d : A) → k < m → m ≤ length s → insertAt (suc k) (getD s k d) (take m (set s k c)) ≡ insertAt k c (take m s)
@@ -98,27 +98,6 @@ paired-append [] us [] js e = refl
 paired-append [] us (i ∷ is) js e = absurd (omega arith)
 paired-append (t ∷ ts) us [] js e = absurd (omega arith)
 paired-append (t ∷ ts) us (i ∷ is) js e = ap (λ (l : List Struck). struck t i ∷ l) (paired-append ts us is js (omega arith))
-
--- the hits of the first m, in order, and the next inserted
-pub sort-next : (ts : List Float) (is : List ℕ) (m : ℕ) → m < length ts → m < length is
-    → sortOf (paired (take (m + 1) ts) (take (m + 1) is)) ≡ insertOf (struck (getD ts m nan) (getD is m 0)) (sortOf (paired (take m ts) (take m is)))
-unfolding insertAll paired
-sort-next ts is m p q =
-    rw (
-      add-one m,
-      take-suc ts m nan p,
-      take-suc is m 0 q,
-      paired-append (take m ts) (getD ts m nan ∷ []) (take m is) (getD is m 0 ∷ []) (length-take-le m ts (omega arith) ∙ sym (length-take-le m is (omega arith))),
-      insert-all-append [] (paired (take m ts) (take m is)),
-    )
-
-module _ {ℓ} {A : Type ℓ} where
-  -- what two lists share from m on, one on and at the head
-  pub drop-next : (s l : List A) (m : ℕ) → drop m s ≡ drop m l → drop (m + 1) s ≡ drop (m + 1) l
-  drop-next s l m e = sym (drop-drop 1 m s) ∙ ap (λ (r : List A). drop 1 r) e ∙ drop-drop 1 m l
-
-  pub head-same : (s l : List A) (m : ℕ) (d : A) → m < length s → m < length l → drop m s ≡ drop m l → getD s m d ≡ getD l m d
-  head-same s l m d p q e = ap (λ (r : List A). getD r 0 d) (sym (drop-cons s m d p) ∙ e ∙ drop-cons l m d q)
 
 -- a hit stored past the first k goes to them
 pub stored : (ts : List Float) (is : List ℕ) (k : ℕ) (t : Float) (i : ℕ) → k < length ts → k < length is
@@ -270,13 +249,31 @@ halves-in-order ts x y is p q half e w n f g first second =
       ← paired-halves ts is half e w,
     )
 
+-- the first part put in order, and the rest inserted
+pub then-inserted : (ts x : List Float) (is p : List ℕ) (k : ℕ) → length ts ≡ length is → k ≤ length ts
+    → length x ≡ length (take k ts) → length p ≡ length (take k is) → paired x p ≡ sortOf (paired (take k ts) (take k is))
+    → insertAll (paired (take k (firstBack ts k x)) (take k (firstBack is k p))) (paired (drop k (firstBack ts k x)) (drop k (firstBack is k p)))
+    ≡ sortOf (paired ts is)
+then-inserted ts x is p k e w f g h =
+    let v : k ≤ length is = omega arith in
+    let a = f ∙ length-take-le k ts w in
+    let b = g ∙ length-take-le k is v in
+    rw (
+      take-at x (drop k ts) k a,
+      take-at p (drop k is) k b,
+      drop-at x (drop k ts) k a,
+      drop-at p (drop k is) k b,
+      h,
+      ← insert-all-append [] (paired (take k ts) (take k is)) (paired (drop k ts) (drop k is)),
+      ← paired-halves ts is k e w,
+    )
+
 -- ---- the product
 
 -- the product, one hit on
-pub pass-step : (uses kinds : List ℕ) (numbers : List Float) (w : Float) (is : List ℕ) (j : ℕ) → j < length is
-    → passOf uses kinds numbers w (drop j is)
-    ≡ cond (eqb (kindAt uses kinds (getD is j 0)) 0) zero32
-    (cond (Ieee.le (Ieee.mul binary32 w (transmissionAt uses numbers (getD is j 0))) faintLimit) zero32
-    (passOf uses kinds numbers (Ieee.mul binary32 w (transmissionAt uses numbers (getD is j 0))) (drop (j + 1) is)))
-unfolding passOf
-pass-step uses kinds numbers w is j h = rw (add-one, drop-cons is j 0)
+pub clear-step : (uses : List ℕ) (numbers : List Float) (w : Float) (is : List ℕ) (j : ℕ) → j < length is
+    → clearPassOf uses numbers w (drop j is)
+    ≡ cond (Ieee.le (Ieee.mul binary32 w (transmissionAt uses numbers (getD is j 0))) faintLimit) zero32
+    (clearPassOf uses numbers (Ieee.mul binary32 w (transmissionAt uses numbers (getD is j 0))) (drop (j + 1) is))
+unfolding clearPassOf
+clear-step uses numbers w is j h = rw (add-one, drop-cons is j 0)

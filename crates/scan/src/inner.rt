@@ -9,8 +9,8 @@ ghost use Rattle.triangle.specs.Places.{triangleAt};
 ghost use Rattle.triangle.specs.declared.Meet.the-variants.{Hit};
 ghost use Rattle.scan.specs.Nearest.{beats, nearerOf, nearestOf};
 ghost use Rattle.scan.specs.FirstHit.{FirstFrom};
-ghost use Rattle.scan.specs.Transmittance.{kindAt, Fitting, passOf, transmittanceOf};
-use super::FirstHit;
+ghost use Rattle.scan.specs.OpaqueLaws.{clearPassOf};
+ghost use Rattle.scan.specs.Transmittance.{kindAt, transmittanceOf};
 use super::Nearest;
 use triangle::Meet;
 use vectors::Ray;
@@ -32,10 +32,10 @@ pub fn nearest(points: &[f32], uses: &[u32], kinds: &[u8], numbers: &[f32], ray:
     while i < n {
         let f = first_hit(points, i, n, ray);
         match f {
-            FirstHit::Nothing => {
+            Nearest::Nothing => {
                 i = n;
             }
-            FirstHit::At(j, t, u, v) => {
+            Nearest::At(j, t, u, v) => {
                 best = nearer(best, j, t, u, v);
                 i = j + 1;
             }
@@ -96,10 +96,10 @@ pub fn transmittance(
     while i < n {
         let f = first_hit(points, i, n, ray);
         match f {
-            FirstHit::Nothing => {
+            Nearest::Nothing => {
                 i = n;
             }
-            FirstHit::At(j, t, _, _) => {
+            Nearest::At(j, t, _, _) => {
                 if kind_at(uses, kinds, j) == 0 {
                     return 0.0;
                 }
@@ -111,7 +111,7 @@ pub fn transmittance(
         }
     }
     super::sort::in_order(&mut distances[..m], &mut places[..m]);
-    product(uses, kinds, numbers, &places[..m])
+    product(uses, numbers, &places[..m])
 }
 
 // The kind of the material that the triangle at place i uses: 0 is opaque.
@@ -123,20 +123,17 @@ fn kind_at(uses: &[u32], kinds: &[u8], i: usize) -> u8
     kinds[k]
 }
 
-// The product of the transmissions at these places, in order: the scan's one use of the materials.
-fn product(uses: &[u32], kinds: &[u8], numbers: &[f32], places: &[usize]) -> f32
-    requires { ⌜ Fitting (now uses) (now kinds) (now numbers) ⌝ }
+// The product of the transmissions at these places, in order. None is opaque: the scan ends at the first that is.
+fn product(uses: &[u32], numbers: &[f32], places: &[usize]) -> f32
+    requires { ⌜ ((i : ℕ) → i < length (now uses) → getD (now uses) i 0 * 7 + 6 < length (now numbers)) ⌝ }
     requires { ⌜ ((j : ℕ) → j < length (now places) → getD (now places) j 0 < length (now uses)) ⌝ }
-    ensures { λ r. ⌜ r ≡ passOf (now (uses .entry)) (now (kinds .entry)) (now (numbers .entry)) one32 (now (places .entry)) ⌝ }
+    ensures { λ r. ⌜ r ≡ clearPassOf (now (uses .entry)) (now (numbers .entry)) one32 (now (places .entry)) ⌝ }
 {
     let mut w = 1.0;
     let mut j = 0;
     while j < places.len() {
         let p = places[j];
         let k = uses[p] as usize;
-        if kinds[k] == 0 {
-            return 0.0;
-        }
         w = w * numbers[k * 7 + 6];
         if w <= FAINT {
             return 0.0;
@@ -154,7 +151,7 @@ const RUN: usize = 8;
 
 // The first hit from place i up to place n, in the list's order. Runs of triangles that are surely missed are passed over; the test decides of a
 // triangle that may be met.
-pub fn first_hit(points: &[f32], from: usize, n: usize, ray: Ray) -> FirstHit
+pub fn first_hit(points: &[f32], from: usize, n: usize, ray: Ray) -> Nearest
     requires { ⌜ (from ≤ n) × (n * 9 ≤ length (now points)) ⌝ }
     ensures { λ r. ⌜ FirstFrom (now (points .entry)) ray from n r ⌝ }
 {
@@ -172,12 +169,12 @@ pub fn first_hit(points: &[f32], from: usize, n: usize, ray: Ray) -> FirstHit
                     i = j + 1;
                 }
                 Meet::Hit(t, u, v) => {
-                    return FirstHit::At(j, t, u, v);
+                    return Nearest::At(j, t, u, v);
                 }
             }
         }
     }
-    FirstHit::Nothing
+    Nearest::Nothing
 }
 
 // How many of those left are looked over at once.

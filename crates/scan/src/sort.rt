@@ -3,9 +3,8 @@
 ghost use mathlib.Core.Path.{_≡_};
 ghost use Prim.Native.Nat.{_+_, _≤_, _<_};
 ghost use lib.ListN.{length, take, drop};
-ghost use Rattle.names.specs.Numbers.{triangleLimit};
 ghost use Rattle.scan.specs.Hits.{struck, before, rankOf, insertAt, insertOf, paired};
-ghost use Rattle.scan.specs.Merge.{sortOf, mergeOf, takesSecond, Numbers};
+ghost use Rattle.scan.specs.Merge.{insertAll, sortOf, mergeOf, takesSecond, Numbers};
 
 // As many hits as a ray can have.
 const MOST: usize = 4096;
@@ -18,11 +17,11 @@ const SHORT: usize = 8;
 
 // Puts hits in order.
 pub fn in_order(distances: &mut [f32], places: &mut [usize])
-    requires { ⌜ (length (now distances) ≡ length (now places)) × (length (now distances) ≤ triangleLimit) × Numbers (paired (now distances) (now places)) ⌝ }
+    requires { ⌜ (length (now distances) ≡ length (now places)) × Numbers (paired (now distances) (now places)) ⌝ }
     ensures { λ _. ⌜ paired (now (distances .exit)) (now (places .exit)) ≡ sortOf (paired (now (distances .entry)) (now (places .entry))) ⌝ }
 {
     if distances.len() <= FEW {
-        one_by_one(distances, places);
+        one_by_one(distances, places, 0);
         return;
     }
     many(distances, places);
@@ -30,12 +29,18 @@ pub fn in_order(distances: &mut [f32], places: &mut [usize])
 
 // ---- many, by halves
 
-// Puts hits in order with room for as many again.
+// Puts hits in order with room for as many again. No ray has more hits than there is room for; if one had, those past it would be inserted one by one. A
+// function that calls itself is not made part of its caller, so that only a ray with many hits takes the room.
 fn many(distances: &mut [f32], places: &mut [usize])
-    requires { ⌜ (length (now distances) ≡ length (now places)) × (length (now distances) ≤ triangleLimit) × Numbers (paired (now distances) (now places)) ⌝ }
+    requires { ⌜ (length (now distances) ≡ length (now places)) × Numbers (paired (now distances) (now places)) ⌝ }
     ensures { λ _. ⌜ paired (now (distances .exit)) (now (places .exit)) ≡ sortOf (paired (now (distances .entry)) (now (places .entry))) ⌝ }
 {
     let n = distances.len();
+    if MOST < n {
+        many(&mut distances[..MOST], &mut places[..MOST]);
+        one_by_one(distances, places, MOST);
+        return;
+    }
     let mut ts = [0.0; MOST];
     let mut is = [0; MOST];
     with_room(distances, places, &mut ts[..n], &mut is[..n]);
@@ -58,7 +63,7 @@ fn by_halves(distances: &mut [f32], places: &mut [usize], ts: &mut [f32], is: &m
 {
     let n = distances.len();
     if n <= SHORT {
-        one_by_one(distances, places);
+        one_by_one(distances, places, 0);
         return;
     }
     let half = n / 2;
@@ -129,13 +134,13 @@ fn copy_places(from: &[usize], to: &mut [usize])
 
 // ---- few, one by one
 
-// Puts hits in order, each among those before it.
-fn one_by_one(distances: &mut [f32], places: &mut [usize])
-    requires { ⌜ length (now distances) ≡ length (now places) ⌝ }
-    ensures { λ _. ⌜ paired (now (distances .exit)) (now (places .exit)) ≡ sortOf (paired (now (distances .entry)) (now (places .entry))) ⌝ }
+// Puts the hits from place `from` on, one after the other, into their places among those before them.
+fn one_by_one(distances: &mut [f32], places: &mut [usize], from: usize)
+    requires { ⌜ (length (now distances) ≡ length (now places)) × (from ≤ length (now distances)) ⌝ }
+    ensures { λ _. ⌜ paired (now (distances .exit)) (now (places .exit)) ≡ insertAll (paired (take from (now (distances .entry))) (take from (now (places .entry)))) (paired (drop from (now (distances .entry))) (drop from (now (places .entry)))) ⌝ }
 {
     let n = distances.len();
-    let mut m = 0;
+    let mut m = from;
     while m < n {
         let t = distances[m];
         let i = places[m];

@@ -1,20 +1,22 @@
 -- `scan::inner::transmittance` meets its contract. The loop's invariant: the first m of the two lists, put in order, are the hits of the first i
--- triangles, and each distance is a number. The triangles before the first hit are missed and add none. An opaque hit is the whole answer; otherwise
+-- triangles, each distance is a number and no hit is opaque. The triangles before the first hit are missed and add none. An opaque hit is the whole answer; otherwise
 -- the product is taken over the places of all hits, each of which stands in the list of uses.
 use mathlib.Core.Path.{_≡_, refl, sym, ap, _∙_}
-use mathlib.Core.List.{List, [], _++_}
+use mathlib.Core.List.{List, [], _++_, List·Memᴰ·not-nil}
 use Prim.Native.Nat.{_≤_, _-_}
 use native.Mathlib.Numerals.{add-one}
 use native.Mathlib.Omega.{arith}
+use borrow.Author.Tests.{ne-eqb}
 use lib.ListN.{length, take, drop, length-set}
 use lib.Seq.{length-take-le, length-front, take-at}
+use Rattle.names.specs.Bits.{one32}
 use Rattle.scan.specs.BeforeLaws.{hit-number}
 use Rattle.scan.specs.FirstHit.{FirstFrom, hits-over, hits-first}
 use Rattle.scan.specs.Hits.{Struck, paired, hitsOf, placesOf}
 use Rattle.scan.specs.HitLaws.{places-below}
 use Rattle.scan.specs.Merge.{insertAll, sortOf, Numbers}
 use Rattle.scan.specs.MergeLaws.{insert-all-append, numbers-append}
-use Rattle.scan.specs.OpaqueLaws.{opaque-dark}
+use Rattle.scan.specs.OpaqueLaws.{NoneOpaque, opaque-dark, clear-pass, none-opaque-put}
 use Rattle.scan.specs.Transmittance.{transmittanceOf}
 use borrow.Author.Needs.{needs}
 use Rattle.scan.proofs.Lists.{paired-places, stored}
@@ -25,13 +27,14 @@ abbrev Inv-loop : tie.InvT-loop
 Inv-loop points uses kinds numbers ray distances₀ places₀ n m₀ i₀ distances places m i =
     (i ≤ n) × (m ≤ i) × (length distances ≡ length distances₀) × (length places ≡ length places₀)
     × (sortOf (paired (take m distances) (take m places)) ≡ hitsOf points ray i) × Numbers (paired (take m distances) (take m places))
+    × NoneOpaque uses kinds (hitsOf points ray i)
 
 abbrev μ-loop : tie.MeasureT-loop
 μ-loop points uses kinds numbers ray distances₀ places₀ n m₀ i₀ distances places m i = n - i
 
 loop-holds : tie.Need-loop-holds Inv-loop μ-loop
 unfolding hitsOf paired insertAll
-loop-holds c = (search needs, search needs, refl, refl, refl, tt)
+loop-holds c = (search needs, search needs, refl, refl, refl, tt, λ h m. absurd (List·Memᴰ·not-nil m))
 
 first-hit-requires : tie.Need-first-hit-requires Inv-loop μ-loop
 first-hit-requires c κs = (omega arith, omega arith)
@@ -45,13 +48,15 @@ loop-less c = omega arith
 loop-again : tie.Need-loop-again Inv-loop μ-loop
 loop-again c =
     let f = c .before .before in
-    let at = f .before .before .loop in (
+    let at = f .before .before .loop in
+    let missed = hits-over _ _ _ _ (at .inv .0) (rw (c .enum-told .given .1) at (f .first-hit .ensures)) in (
       omega arith,
       omega arith,
       at .inv .2,
       at .inv .3,
-      at .inv .4 ∙ sym (hits-over _ _ _ _ (at .inv .0) (rw (c .enum-told .given .1) at (f .first-hit .ensures))),
+      at .inv .4 ∙ sym missed,
       at .inv .5,
+      rw missed (at .inv .6),
     )
 
 enum-known-f : tie.Need-enum-known-f Inv-loop μ-loop
@@ -117,6 +122,8 @@ loop-again-2 c =
       length-set (at .places) (at .m) _ ∙ at .inv .3,
       rw (one, insert-all-append [] (paired (take (at .m) (at .distances)) (take (at .m) (at .places))), at .inv .4, add-one) (sym (hits-first _ _ _ _ _ _ _ _ g)),
       rw one (numbers-append (paired (take (at .m) (at .distances)) (take (at .m) (at .places))) _ (at .inv .5) (hit-number _ _ _ _ _ (g .3), tt)),
+      rw (add-one, hits-first _ _ _ _ _ _ _ _ g)
+          (none-opaque-put _ _ _ _ (rw (sym (c .before .kind-at .ensures)) (ne-eqb _ 0 (c .if1 .left))) (at .inv .6)),
     )
 
 slice-relend-prefix-in-order : tie.Need-slice-relend-prefix-in-order Inv-loop μ-loop
@@ -138,10 +145,9 @@ slice-aggregate-in-order-2 c =
 in-order-requires : tie.Need-in-order-requires Inv-loop μ-loop
 in-order-requires c κs =
     let at = c .before .before .before .loop in
-    let s = c .before .before .before .before .before .before .before .before .before .before in
     let d = length-take-le (at .m) (at .distances) (omega arith) in
     let p = length-take-le (at .m) (at .places) (omega arith) in
-    (d ∙ sym p, omega (arith, d, s .pre .0 .triangles), at .inv .5)
+    (d ∙ sym p, at .inv .5)
 
 -- and the list of places is as long as it was
 places-long : (c : tie.After-in-order Inv-loop μ-loop)
@@ -174,7 +180,7 @@ all-hits c =
 product-requires : tie.Need-product-requires Inv-loop μ-loop
 product-requires c κs =
     let s = c .before .before .before .before .before .before .before .before .before .before .before .before .before .before .before .before in (
-      record { numbers = s .pre .0 .numbers; within = s .pre .0 .within },
+      (λ i h. omega (arith, s .pre .0 .within i h)),
       rw (all-hits (c .before .before .before .before .before)) (places-below (s .args .points .now) (s .args .ray) (length (s .args .uses .now))),
     )
 
@@ -192,7 +198,13 @@ same-length-4 c =
 
 returns-2 : tie.Need-returns-2 Inv-loop μ-loop
 unfolding transmittanceOf
-returns-2 c = rw (c .product .ensures, all-hits (c .before .before .before .before .before .before))
+returns-2 c =
+    let o = c .before .before .before .before .before .before in
+    let at = o .before .before .before .before .loop in
+    let a = o .before .before .before .before .before .before .before .before .before .before .before .args in
+    let e : at .i ≡ length (a .uses .now) = omega arith in
+    rw (c .product .ensures, all-hits o)
+        (sym (clear-pass (a .uses .now) (a .kinds .now) (a .numbers .now) one32 (hitsOf (a .points .now) (a .ray) (length (a .uses .now))) (rw e at (at .inv .6))))
 
 pub transmittance-spec : {M : Type 1} → statement M
 transmittance-spec =

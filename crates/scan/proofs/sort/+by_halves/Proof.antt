@@ -39,7 +39,7 @@ by-halves-one-by-one-requires : (t : ℕ) → by-halves-lts.Need-one-by-one-requ
   merge-reads.Asked,
   merge-reads.Learnt,
 ) (by-halves-at t) by-halves.Post
-by-halves-one-by-one-requires t c κs = c .before .before .before .before .before .before .before .pre .1 .0
+by-halves-one-by-one-requires t c κs = (c .before .before .before .before .before .before .before .pre .1 .0, omega arith)
 
 by-halves-same-length : (t : ℕ) → by-halves-lts.Need-same-length (
   one-by-one-reads.Asked,
@@ -69,6 +69,7 @@ by-halves-returns : (t : ℕ) → by-halves-lts.Need-returns (
   merge-reads.Asked,
   merge-reads.Learnt,
 ) (by-halves-at t) by-halves.Post
+unfolding paired
 by-halves-returns t c = c .before .before .before .before .one-by-one .ensures
 
 by-halves-slice-relend-prefix-by-halves :

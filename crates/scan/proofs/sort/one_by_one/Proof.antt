@@ -1,29 +1,27 @@
--- `scan::sort::one_by_one` meets its contract. The loop's invariant: the first m are those that stood there, in order, and the others are as they were.
-use mathlib.Core.Path.{_≡_, refl, sym, _∙_}
+-- `scan::sort::one_by_one` meets its contract. The loop's invariant: the first m, and those from m on inserted one after the other, are what is asked for.
+use mathlib.Core.Path.{_≡_, refl, sym, ap, _∙_}
+use mathlib.Core.List.{List}
 use Prim.Native.Nat.{_+_, _≤_, _-_}
-use native.Mathlib.Numerals.{add-one}
 use native.Mathlib.Omega.{arith}
 use lib.ListN.{length, take, drop}
-use lib.Ieee.{nan}
 use lib.Seq.{take-all}
-use Rattle.scan.specs.Hits.{paired}
-use Rattle.scan.specs.Merge.{sortOf, insertAll}
-use Rattle.scan.proofs.Lists.{sort-next, drop-next, head-same}
+use Rattle.scan.specs.Hits.{Struck, paired}
+use Rattle.scan.specs.Merge.{insertAll}
+use Rattle.scan.proofs.Lists.{rest-cons, rest-none}
 use Rattle.scan.proofs.sort.one_by_one.Statement.{statement}
 use Rattle.scan.proofs.sort.one_by_one.Tie as tie
 
 abbrev Inv-loop : tie.InvT-loop
-Inv-loop distances₀ places₀ n m₀ distances places m =
+Inv-loop distances₀ places₀ from n m₀ distances places m =
     (m ≤ n) × (length distances ≡ length distances₀) × (length places ≡ length places₀)
-    × (paired (take m distances) (take m places) ≡ sortOf (paired (take m distances₀) (take m places₀)))
-    × (drop m distances ≡ drop m distances₀) × (drop m places ≡ drop m places₀)
+    × (insertAll (paired (take m distances) (take m places)) (paired (drop m distances) (drop m places))
+    ≡ insertAll (paired (take from distances₀) (take from places₀)) (paired (drop from distances₀) (drop from places₀)))
 
 abbrev μ-loop : tie.MeasureT-loop
-μ-loop distances₀ places₀ n m₀ distances places m = n - m
+μ-loop distances₀ places₀ from n m₀ distances places m = n - m
 
 loop-holds : tie.Need-loop-holds Inv-loop μ-loop
-unfolding paired insertAll
-loop-holds c = (omega arith, refl, refl, refl, refl, refl)
+loop-holds c = (omega arith, refl, refl, refl)
 
 mul-t : tie.Need-mul-t Inv-loop μ-loop
 mul-t c = omega arith
@@ -47,19 +45,16 @@ loop-less : tie.Need-loop-less Inv-loop μ-loop
 loop-less c = omega arith
 
 loop-again : tie.Need-loop-again Inv-loop μ-loop
+unfolding insertAll
 loop-again c =
     let added = c .before .before .before .before in
     let at = added .before .before .before .before .before .before .loop in
-    let s = added .before .before .before .before .before .before .before .before .before in
-    let m = at .m in
-    let e = head-same (at .distances) (s .args .distances .now) m nan (omega arith) (omega arith) (at .inv .4) in
-    let f = head-same (at .places) (s .args .places .now) m 0 (omega arith) (omega arith) (at .inv .5) in (
+    (
       omega arith,
       added .add-hit .kept .0 ∙ at .inv .1,
       added .add-hit .kept .1 .0 ∙ at .inv .2,
-      added .add-hit .ensures .0 ∙ rw (at .inv .3, e, f) (sym (sort-next (s .args .distances .now) (s .args .places .now) m (omega arith) (omega arith))),
-      added .add-hit .ensures .1 ∙ drop-next (at .distances) (s .args .distances .now) m (at .inv .4),
-      added .add-hit .ensures .2 ∙ drop-next (at .places) (s .args .places .now) m (at .inv .5),
+      rw (added .add-hit .ensures .0, added .add-hit .ensures .1, added .add-hit .ensures .2)
+          (rw (rest-cons (at .distances) (at .places) (at .m) (omega arith) (omega arith)) at (at .inv .3)),
     )
 
 same-length : tie.Need-same-length Inv-loop μ-loop
@@ -69,14 +64,13 @@ same-length-2 : tie.Need-same-length-2 Inv-loop μ-loop
 same-length-2 c = c .before .loop .inv .2
 
 returns : tie.Need-returns Inv-loop μ-loop
+unfolding insertAll
 returns c =
-    let s = c .before .before .before .before in
     let at = c .before .loop in
     rw (
+      rest-none (at .distances) (at .places) (at .m) (omega arith),
       take-all (at .m) (at .distances) (omega arith),
       take-all (at .m) (at .places) (omega arith),
-      take-all (at .m) (s .args .distances .now) (omega arith),
-      take-all (at .m) (s .args .places .now) (omega arith),
     ) at (at .inv .3)
 
 pub one-by-one-spec : {M : Type 1} → statement M
