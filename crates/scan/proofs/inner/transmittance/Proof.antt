@@ -12,7 +12,7 @@ use lib.Seq.{length-take-le, length-front, take-at}
 use Rattle.names.specs.Bits.{one32}
 use Rattle.scan.specs.BeforeLaws.{hit-number}
 use Rattle.scan.specs.FirstHit.{FirstFrom, hits-over, hits-first}
-use Rattle.scan.specs.Hits.{Struck, paired, hitsOf, placesOf}
+use Rattle.scan.specs.Hits.{Struck, struck, paired, hitsOf, placesOf}
 use Rattle.scan.specs.HitLaws.{places-below}
 use Rattle.scan.specs.Merge.{insertAll, sortOf, Numbers}
 use Rattle.scan.specs.MergeLaws.{insert-all-append, numbers-append}
@@ -115,7 +115,9 @@ loop-again-2 c =
     let h = c .before .before .before in
     let at = h .before .before .before .before .loop in
     let g = rw (h .f .given .1) at (h .before .before .first-hit .ensures) in
-    let one = stored (at .distances) (at .places) (at .m) (h .f .given .0 .1 .0) (h .f .given .0 .0) (omega arith) (omega arith) in (
+    let one = stored (at .distances) (at .places) (at .m) (h .f .given .0 .1 .0) (h .f .given .0 .0) (omega arith) (omega arith) in
+    let a = h .before .before .before .before .before .before .before .before .before .before .before .args in
+    let clear = rw (c .before .kind-at .ensures) at (ne-eqb (c .before .kind-at .result) 0 (c .if1 .left)) in (
       omega (arith, g .1),
       omega (arith, g .0),
       length-set (at .distances) (at .m) _ ∙ at .inv .2,
@@ -123,7 +125,7 @@ loop-again-2 c =
       rw (one, insert-all-append [] (paired (take (at .m) (at .distances)) (take (at .m) (at .places))), at .inv .4, add-one) (sym (hits-first _ _ _ _ _ _ _ _ g)),
       rw one (numbers-append (paired (take (at .m) (at .distances)) (take (at .m) (at .places))) _ (at .inv .5) (hit-number _ _ _ _ _ (g .3), tt)),
       rw (add-one, hits-first _ _ _ _ _ _ _ _ g)
-          (none-opaque-put _ _ _ _ (rw (sym (c .before .kind-at .ensures)) (ne-eqb _ 0 (c .if1 .left))) (at .inv .6)),
+          (none-opaque-put (a .uses .now) (a .kinds .now) (struck (h .f .given .0 .1 .0) (h .f .given .0 .0)) (hitsOf (a .points .now) (a .ray) (at .i)) clear (at .inv .6)),
     )
 
 slice-relend-prefix-in-order : tie.Need-slice-relend-prefix-in-order Inv-loop μ-loop

@@ -1,4 +1,11 @@
+-- `scan::sort::many` meets its contract; the measure is how many hits there are. What is past the room is inserted after the rest is in order.
+use mathlib.Core.Path.{sym, _∙_}
 use Prim.Native.Nat.{ℕ, _<_}
+use native.Mathlib.Omega.{arith}
+use lib.ListN.{length}
+use lib.Seq.{length-take-le, length-front}
+use borrow.Author.Needs.{needs}
+use Rattle.scan.proofs.Lists.{numbers-halves, then-inserted}
 use borrow.Fn.Kinds.{In}
 use borrow.Fn.PlainCycle.{Measures, is, falls, and}
 use Rattle.scan.proofs.sort.many.Reads as many
@@ -10,7 +17,7 @@ use Rattle.scan.proofs.sort.+many.{statement}
 use Rattle.scan.proofs.sort.+many.Tie.{close}
 
 abbrev μ-many : Measures 2 many-kinds.ps ℕ
-μ-many κs a = ?
+μ-many κs a = length (a .0 .now)
 
 abbrev many-at : ℕ → In 2 many-kinds.ps
 many-at t = and 2 many-kinds.ps (is 2 many-kinds.ps μ-many t) many.Pre
@@ -18,7 +25,6 @@ many-at t = and 2 many-kinds.ps (is 2 many-kinds.ps μ-many t) many.Pre
 abbrev many-below : ℕ → In 2 many-kinds.ps
 many-below t = and 2 many-kinds.ps (falls 2 many-kinds.ps _<_ μ-many t) many.Pre
 
--- src/sort.rt:40:14
 many-slice-relend-prefix-many : (t : ℕ) → many-lts.Need-slice-relend-prefix-many (
   many-below t,
   many.Post,
@@ -27,9 +33,8 @@ many-slice-relend-prefix-many : (t : ℕ) → many-lts.Need-slice-relend-prefix-
   with-room-reads.Asked,
   with-room-reads.Learnt,
 ) (many-at t) many.Post
-many-slice-relend-prefix-many t c = ?
+many-slice-relend-prefix-many t c = omega arith
 
--- src/sort.rt:40:14
 many-slice-aggregate-many : (t : ℕ) → many-lts.Need-slice-aggregate-many (
   many-below t,
   many.Post,
@@ -38,9 +43,8 @@ many-slice-aggregate-many : (t : ℕ) → many-lts.Need-slice-aggregate-many (
   with-room-reads.Asked,
   with-room-reads.Learnt,
 ) (many-at t) many.Post
-many-slice-aggregate-many t c = ?
+many-slice-aggregate-many t c = sym (length-take-le 4096 (c .before .before .before .before .args .distances .now) (omega arith))
 
--- src/sort.rt:40:38
 many-slice-relend-prefix-many-2 : (t : ℕ) → many-lts.Need-slice-relend-prefix-many-2 (
   many-below t,
   many.Post,
@@ -49,9 +53,8 @@ many-slice-relend-prefix-many-2 : (t : ℕ) → many-lts.Need-slice-relend-prefi
   with-room-reads.Asked,
   with-room-reads.Learnt,
 ) (many-at t) many.Post
-many-slice-relend-prefix-many-2 t c = ?
+many-slice-relend-prefix-many-2 t c = omega arith
 
--- src/sort.rt:40:38
 many-slice-aggregate-many-2 : (t : ℕ) → many-lts.Need-slice-aggregate-many-2 (
   many-below t,
   many.Post,
@@ -60,9 +63,8 @@ many-slice-aggregate-many-2 : (t : ℕ) → many-lts.Need-slice-aggregate-many-2
   with-room-reads.Asked,
   with-room-reads.Learnt,
 ) (many-at t) many.Post
-many-slice-aggregate-many-2 t c = ?
+many-slice-aggregate-many-2 t c = sym (length-take-le 4096 (c .before .before .before .before .before .args .places .now) (omega arith))
 
--- src/sort.rt:40:9
 many-many-requires : (t : ℕ) → many-lts.Need-many-requires (
   many-below t,
   many.Post,
@@ -71,9 +73,13 @@ many-many-requires : (t : ℕ) → many-lts.Need-many-requires (
   with-room-reads.Asked,
   with-room-reads.Learnt,
 ) (many-at t) many.Post
-many-many-requires t c κs = ?
+many-many-requires t c κs =
+    let s = c .before .before .before .before .before in
+    let a = s .args in
+    let d = length-take-le 4096 (a .distances .now) (omega arith) in
+    let p = length-take-le 4096 (a .places .now) (omega arith) in
+    (omega (arith, d, s .pre .0), (d ∙ sym p, numbers-halves (a .distances .now) (a .places .now) 4096 (s .pre .1 .0) (omega arith) (s .pre .1 .1) .0))
 
--- src/sort.rt:41:9
 many-one-by-one-requires : (t : ℕ) → many-lts.Need-one-by-one-requires (
   many-below t,
   many.Post,
@@ -82,9 +88,13 @@ many-one-by-one-requires : (t : ℕ) → many-lts.Need-one-by-one-requires (
   with-room-reads.Asked,
   with-room-reads.Learnt,
 ) (many-at t) many.Post
-many-one-by-one-requires t c κs = ?
+many-one-by-one-requires t c κs =
+    let x = c .before .before .before .before .before .before .many in
+    let a = c .before .before .before .before .before .before .before .before .before .before .before .before .args in
+    let d = length-front (a .distances .now) (x .last .0) 4096 (x .kept .0) in
+    let p = length-front (a .places .now) (x .last .1 .0) 4096 (x .kept .1 .0) in
+    (omega (arith, d, p), omega (arith, d))
 
--- src/sort.rt:42:9
 many-same-length : (t : ℕ) → many-lts.Need-same-length (
   many-below t,
   many.Post,
@@ -93,9 +103,10 @@ many-same-length : (t : ℕ) → many-lts.Need-same-length (
   with-room-reads.Asked,
   with-room-reads.Learnt,
 ) (many-at t) many.Post
-many-same-length t c = ?
+many-same-length t c =
+    let x = c .before .before .before .before .before .before .before .before .before .before .before .many in
+    c .before .before .before .before .one-by-one .kept .0 ∙ length-front (c .before .before .before .before .before .before .before .before .before .before .before .before .before .before .before .before .before .args .distances .now) (x .last .0) 4096 (x .kept .0)
 
--- src/sort.rt:42:9
 many-same-length-2 : (t : ℕ) → many-lts.Need-same-length-2 (
   many-below t,
   many.Post,
@@ -104,9 +115,10 @@ many-same-length-2 : (t : ℕ) → many-lts.Need-same-length-2 (
   with-room-reads.Asked,
   with-room-reads.Learnt,
 ) (many-at t) many.Post
-many-same-length-2 t c = ?
+many-same-length-2 t c =
+    let x = c .before .before .before .before .before .before .before .before .before .before .before .many in
+    c .before .before .before .before .one-by-one .kept .1 .0 ∙ length-front (c .before .before .before .before .before .before .before .before .before .before .before .before .before .before .before .before .before .args .places .now) (x .last .1 .0) 4096 (x .kept .1 .0)
 
--- src/sort.rt:42:9
 many-returns : (t : ℕ) → many-lts.Need-returns (
   many-below t,
   many.Post,
@@ -115,9 +127,13 @@ many-returns : (t : ℕ) → many-lts.Need-returns (
   with-room-reads.Asked,
   with-room-reads.Learnt,
 ) (many-at t) many.Post
-many-returns t c = ?
+many-returns t c =
+    let x = c .before .before .before .before .before .before .before .before .before .before .before .many in
+    let s = c .before .before .before .before .before .before .before .before .before .before .before .before .before .before .before .before .before in
+    let a = s .args in
+    c .before .before .before .before .one-by-one .ensures
+    ∙ then-inserted (a .distances .now) (x .last .0) (a .places .now) (x .last .1 .0) 4096 (s .pre .1 .0) (omega arith) (x .kept .0) (x .kept .1 .0) (x .ensures)
 
--- src/sort.rt:46:34
 many-array-borrow-prefix-ts : (t : ℕ) → many-lts.Need-array-borrow-prefix-ts (
   many-below t,
   many.Post,
@@ -126,9 +142,8 @@ many-array-borrow-prefix-ts : (t : ℕ) → many-lts.Need-array-borrow-prefix-ts
   with-room-reads.Asked,
   with-room-reads.Learnt,
 ) (many-at t) many.Post
-many-array-borrow-prefix-ts t c = ?
+many-array-borrow-prefix-ts t c = search needs
 
--- src/sort.rt:46:34
 many-slice-aggregate-with-room : (t : ℕ) → many-lts.Need-slice-aggregate-with-room (
   many-below t,
   many.Post,
@@ -137,9 +152,8 @@ many-slice-aggregate-with-room : (t : ℕ) → many-lts.Need-slice-aggregate-wit
   with-room-reads.Asked,
   with-room-reads.Learnt,
 ) (many-at t) many.Post
-many-slice-aggregate-with-room t c = ?
+many-slice-aggregate-with-room t c = sym (length-take-le _ _ (c .before .before .before .if1 .left))
 
--- src/sort.rt:46:48
 many-array-borrow-prefix-is : (t : ℕ) → many-lts.Need-array-borrow-prefix-is (
   many-below t,
   many.Post,
@@ -148,9 +162,8 @@ many-array-borrow-prefix-is : (t : ℕ) → many-lts.Need-array-borrow-prefix-is
   with-room-reads.Asked,
   with-room-reads.Learnt,
 ) (many-at t) many.Post
-many-array-borrow-prefix-is t c = ?
+many-array-borrow-prefix-is t c = search needs
 
--- src/sort.rt:46:48
 many-slice-aggregate-with-room-2 : (t : ℕ) → many-lts.Need-slice-aggregate-with-room-2 (
   many-below t,
   many.Post,
@@ -159,9 +172,8 @@ many-slice-aggregate-with-room-2 : (t : ℕ) → many-lts.Need-slice-aggregate-w
   with-room-reads.Asked,
   with-room-reads.Learnt,
 ) (many-at t) many.Post
-many-slice-aggregate-with-room-2 t c = ?
+many-slice-aggregate-with-room-2 t c = sym (length-take-le _ _ (c .before .before .before .before .if1 .left))
 
--- src/sort.rt:46:5
 many-with-room-requires : (t : ℕ) → many-lts.Need-with-room-requires (
   many-below t,
   many.Post,
@@ -170,9 +182,11 @@ many-with-room-requires : (t : ℕ) → many-lts.Need-with-room-requires (
   with-room-reads.Asked,
   with-room-reads.Learnt,
 ) (many-at t) many.Post
-many-with-room-requires t c κs = ?
+many-with-room-requires t c κs =
+    let p = c .before .before .before .before .before .before .before .pre .1 in
+    let h = c .before .before .before .before .if1 .left in
+    (p .0, length-take-le _ _ h, length-take-le _ _ h ∙ p .0, p .1)
 
--- src/sort.rt:34:1
 many-same-length-3 : (t : ℕ) → many-lts.Need-same-length-3 (
   many-below t,
   many.Post,
@@ -181,9 +195,8 @@ many-same-length-3 : (t : ℕ) → many-lts.Need-same-length-3 (
   with-room-reads.Asked,
   with-room-reads.Learnt,
 ) (many-at t) many.Post
-many-same-length-3 t c = ?
+many-same-length-3 t c = search needs
 
--- src/sort.rt:34:1
 many-same-length-4 : (t : ℕ) → many-lts.Need-same-length-4 (
   many-below t,
   many.Post,
@@ -192,9 +205,8 @@ many-same-length-4 : (t : ℕ) → many-lts.Need-same-length-4 (
   with-room-reads.Asked,
   with-room-reads.Learnt,
 ) (many-at t) many.Post
-many-same-length-4 t c = ?
+many-same-length-4 t c = search needs
 
--- src/sort.rt:34:1
 many-returns-2 : (t : ℕ) → many-lts.Need-returns-2 (
   many-below t,
   many.Post,
@@ -203,7 +215,7 @@ many-returns-2 : (t : ℕ) → many-lts.Need-returns-2 (
   with-room-reads.Asked,
   with-room-reads.Learnt,
 ) (many-at t) many.Post
-many-returns-2 t c = ?
+many-returns-2 t c = search needs
 
 pub +many-spec : {M : Type 1} → statement M
 +many-spec = close μ-many λ t. many-lts.spec (
