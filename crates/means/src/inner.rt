@@ -50,33 +50,22 @@ fn square_at(src: &[f32], w: usize, h: usize, d: usize, i: usize) -> f32
     requires { ⌜ (0 < w) × (0 < h) × (d * h * w ≡ length (now src)) × (i < length (now src)) ⌝ }
     ensures { λ r. ⌜ r ≡ squareAt (now (src .entry)) w h d i ⌝ }
 {
-    let q = mean_at(src, 1, w, h, d, i);
+    let q = mean_at(src, w, h, d, i);
     q * q
 }
 
-fn mean_at(src: &[f32], stride: usize, w: usize, h: usize, d: usize, i: usize) -> f32
-    requires { ⌜ (0 < stride) × (0 < w) × (0 < h) × (d * h * w * stride ≡ length (now src)) × (i < length (now src)) ⌝ }
-    ensures { λ r. ⌜ r ≡ meanAt (now (src .entry)) stride w h d i ⌝ }
+fn mean_at(src: &[f32], w: usize, h: usize, d: usize, i: usize) -> f32
+    requires { ⌜ (0 < w) × (0 < h) × (d * h * w ≡ length (now src)) × (i < length (now src)) ⌝ }
+    ensures { λ r. ⌜ r ≡ meanAt (now (src .entry)) 1 w h d i ⌝ }
 {
-    let v = i / stride;
-    let r = v / w;
-    mean_in(src, stride, i % stride, w, h, d, v % w, r % h, r / h)
+    let r = i / w;
+    mean_in(src, w, h, d, i % w, r % h, r / h)
 }
 
-// The mean of the numbers at place c of the voxels round (x, y, z).
-fn mean_in(
-    src: &[f32],
-    stride: usize,
-    c: usize,
-    w: usize,
-    h: usize,
-    d: usize,
-    x: usize,
-    y: usize,
-    z: usize,
-) -> f32
-    requires { ⌜ (c < stride) × (x < w) × (y < h) × (z < d) × (d * h * w * stride ≤ length (now src)) ⌝ }
-    ensures { λ r. ⌜ r ≡ meanIn (now (src .entry)) stride c w h d x y z ⌝ }
+// The mean of the numbers of the voxels round (x, y, z).
+fn mean_in(src: &[f32], w: usize, h: usize, d: usize, x: usize, y: usize, z: usize) -> f32
+    requires { ⌜ (x < w) × (y < h) × (z < d) × (d * h * w ≤ length (now src)) ⌝ }
+    ensures { λ r. ⌜ r ≡ meanIn (now (src .entry)) 1 0 w h d x y z ⌝ }
 {
     let f = first_near(x);
     let t = past_near(x, w);
@@ -84,7 +73,7 @@ fn mean_in(
     let u = past_near(y, h);
     let m = first_near(z);
     let n = past_near(z, d);
-    let s = box_sum(src, stride, c, w, h, f, t, g, u, m, n, 0.0);
+    let s = box_sum(src, w, h, f, t, g, u, m, n, 0.0);
     s / cells(t - f, u - g, n - m)
 }
 
@@ -120,8 +109,6 @@ fn cells(a: usize, b: usize, c: usize) -> f32
 // The planes from m to n added to s, of each the rows from g to u, of each the cells from f to t.
 fn box_sum(
     src: &[f32],
-    stride: usize,
-    c: usize,
     w: usize,
     h: usize,
     f: usize,
@@ -132,50 +119,39 @@ fn box_sum(
     n: usize,
     s: f32,
 ) -> f32
-    requires { ⌜ (c < stride) × (f ≤ t) × (t ≤ w) × (g ≤ u) × (u ≤ h) × (m ≤ n) × (0 < w) × (0 < h) × (n * h * w * stride ≤ length (now src)) ⌝ }
-    ensures { λ r. ⌜ r ≡ boxSum (now (src .entry)) stride c w h f t g u m n s ⌝ }
+    requires { ⌜ (f ≤ t) × (t ≤ w) × (g ≤ u) × (u ≤ h) × (m ≤ n) × (0 < w) × (0 < h) × (n * h * w ≤ length (now src)) ⌝ }
+    ensures { λ r. ⌜ r ≡ boxSum (now (src .entry)) 1 0 w h f t g u m n s ⌝ }
 {
     let mut sum = s;
     let mut z = m;
     while z < n {
-        sum = plane_sum(src, stride, c, w, f, t, z * h, g, u, sum);
+        sum = plane_sum(src, w, f, t, z * h, g, u, sum);
         z += 1;
     }
     sum
 }
 
-fn plane_sum(
-    src: &[f32],
-    stride: usize,
-    c: usize,
-    w: usize,
-    f: usize,
-    t: usize,
-    plane: usize,
-    g: usize,
-    u: usize,
-    s: f32,
-) -> f32
-    requires { ⌜ (c < stride) × (f ≤ t) × (t ≤ w) × (g ≤ u) × (0 < w) × ((plane + u) * w * stride ≤ length (now src)) ⌝ }
-    ensures { λ r. ⌜ r ≡ planeSum (now (src .entry)) stride c w f t plane g u s ⌝ }
+fn plane_sum(src: &[f32], w: usize, f: usize, t: usize, plane: usize, g: usize, u: usize, s: f32) -> f32
+    requires { ⌜ (f ≤ t) × (t ≤ w) × (g ≤ u) × (0 < w) × ((plane + u) * w ≤ length (now src)) ⌝ }
+    ensures { λ r. ⌜ r ≡ planeSum (now (src .entry)) 1 0 w f t plane g u s ⌝ }
 {
     let mut sum = s;
     let mut y = g;
     while y < u {
-        sum = row_sum(src, stride, c, (plane + y) * w, f, t, sum);
+        sum = row_sum(src, (plane + y) * w, f, t, sum);
         y += 1;
     }
     sum
 }
 
-fn row_sum(src: &[f32], stride: usize, c: usize, row: usize, f: usize, t: usize, s: f32) -> f32
-    requires { ⌜ (c < stride) × (f ≤ t) × ((row + t) * stride ≤ length (now src)) ⌝ }
-    ensures { λ r. ⌜ r ≡ rowSum (now (src .entry)) stride c row f t s ⌝ }
+fn row_sum(src: &[f32], row: usize, f: usize, t: usize, s: f32) -> f32
+    requires { ⌜ (f ≤ t) × (row + t ≤ length (now src)) ⌝ }
+    ensures { λ r. ⌜ r ≡ rowSum (now (src .entry)) 1 0 row f t s ⌝ }
 {
     let mut sum = s;
     let mut x = f;
     while x < t {
-        sum = sum + src[(row + x) * stride + c];
+        sum = sum + src[row + x];
         x += 1;
     }
     sum

@@ -217,8 +217,8 @@ pub paired-halves : (ts : List Float) (is : List ℕ) (half : ℕ) → length ts
     → paired ts is ≡ paired (take half ts) (take half is) ++ paired (drop half ts) (drop half is)
 paired-halves ts is half e h =
     sym (
-      sym (paired-append (take half ts) (drop half ts) (take half is) (drop half is) (length-take-le half ts h ∙ sym (length-take-le half is (omega arith))))
-      ∙ rw (take-append-drop half ts, take-append-drop half is)
+    sym (paired-append (take half ts) (drop half ts) (take half is) (drop half is) (length-take-le half ts h ∙ sym (length-take-le half is (omega arith))))
+    ∙ rw (take-append-drop half ts, take-append-drop half is)
     )
 
 pub numbers-halves : (ts : List Float) (is : List ℕ) (half : ℕ) → length ts ≡ length is → half ≤ length ts → Numbers (paired ts is)

@@ -10,7 +10,7 @@ ghost use Rattle.scan.specs.Merge.{insertAll, sortOf, mergeOf, takesSeco
 const MOST: usize = 4096;
 
 // Up to so many hits are inserted one by one: with more, what is lent for merging pays.
-const FEW: usize = 64;
+const FEW: usize = 96;
 
 // Halves of up to so many hits are not halved again.
 const SHORT: usize = 8;
@@ -67,8 +67,18 @@ fn by_halves(distances: &mut [f32], places: &mut [usize], ts: &mut [f32], is: &m
         return;
     }
     let half = n / 2;
-    by_halves(&mut ts[..half], &mut is[..half], &mut distances[..half], &mut places[..half]);
-    by_halves(&mut ts[half..], &mut is[half..], &mut distances[half..], &mut places[half..]);
+    by_halves(
+        &mut ts[..half],
+        &mut is[..half],
+        &mut distances[..half],
+        &mut places[..half],
+    );
+    by_halves(
+        &mut ts[half..],
+        &mut is[half..],
+        &mut distances[half..],
+        &mut places[half..],
+    );
     merge(ts, is, half, distances, places);
 }
 

@@ -4,7 +4,6 @@ use native.Mathlib.Omega.{arith}
 use native.Mathlib.Nat.{mul-le-mul-right}
 use mathlib.Core.Path.{sym}
 use Prim.Native.Nat.{_≤_}
-use Rattle.lists.specs.Fold.{scaled}
 use Rattle.means.specs.BoxLaws.{mean-by-rows}
 use Rattle.means.proofs.inner.mean_in.Statement.{statement}
 use Rattle.means.proofs.inner.mean_in.Tie as tie
@@ -30,9 +29,7 @@ past-near-requires-3 c κs = search needs
 box-sum-requires : tie.Need-box-sum-requires
 box-sum-requires c κs =
     let a = c .before .before .before .before .before .before .before .args in
-    let p = c .before .before .before .before .before .before .before .pre in
     let n : c .past-near3 .result ≤ a .d = omega arith in (
-      p .0,
       omega arith,
       omega arith,
       omega arith,
@@ -40,7 +37,7 @@ box-sum-requires c κs =
       omega arith,
       omega arith,
       omega arith,
-      scaled (a .stride) (mul-le-mul-right (a .w) (mul-le-mul-right (a .h) n)) (p .4),
+      omega (arith, mul-le-mul-right (a .w) (mul-le-mul-right (a .h) n)),
     )
 
 sub-cells : tie.Need-sub-cells

@@ -206,7 +206,7 @@ returns-2 c =
     let a = o .before .before .before .before .before .before .before .before .before .before .before .args in
     let e : at .i ≡ length (a .uses .now) = omega arith in
     rw (c .product .ensures, all-hits o)
-        (sym (clear-pass (a .uses .now) (a .kinds .now) (a .numbers .now) one32 (hitsOf (a .points .now) (a .ray) (length (a .uses .now))) (rw e at (at .inv .6))))
+    (sym (clear-pass (a .uses .now) (a .kinds .now) (a .numbers .now) one32 (hitsOf (a .points .now) (a .ray) (length (a .uses .now))) (rw e at (at .inv .6))))
 
 pub transmittance-spec : {M : Type 1} → statement M
 transmittance-spec =

@@ -227,8 +227,7 @@ by-halves-by-halves-requires t c κs =
     let h = length (a .distances .now) / 2 in
     let k = ap (λ (l : List Float). length l) (q .1) in
     let j = ap (λ (l : List ℕ). length l) (q .2) in
-    let n : Numbers (paired (a .ts .now) (a .is .now)) = rw (q .1, q .2) (q .3) in
-    (
+    let n : Numbers (paired (a .ts .now) (a .is .now)) = rw (q .1, q .2) (q .3) in (
       omega (arith, s .pre .0, length-take-le h (a .ts .now) (omega arith)),
       (
         length-take-le h (a .ts .now) (omega arith) ∙ sym (length-take-le h (a .is .now) (omega arith)),
@@ -548,8 +547,7 @@ by-halves-by-halves-requires-2 t c κs =
     let sd = second-lent (a .distances .now) (x .last .1 .1 .0) h (omega arith) (x .kept .1 .1 .0) in
     let sp = second-lent (a .places .now) (x .last .1 .1 .1 .0) h (omega arith) (x .kept .1 .1 .1 .0) in
     let lt = ap (λ (l : List Float). length l) st in
-    let li = ap (λ (l : List ℕ). length l) si in
-    (
+    let li = ap (λ (l : List ℕ). length l) si in (
       omega (arith, s .pre .0, lt, length-drop h (a .ts .now)),
       (
         omega (arith, lt, li, length-drop h (a .ts .now), length-drop h (a .is .now)),

@@ -53,8 +53,7 @@ returns c =
     let r = d .before .before in
     let a = r .before .before .before .before .before .args in
     let e : length (take (a .m) (a .distances .now)) ≡ length (take (a .m) (a .places .now)) =
-    length-take-le (a .m) (a .distances .now) (omega arith) ∙ sym (length-take-le (a .m) (a .places .now) (omega arith)) in
-    (
+    length-take-le (a .m) (a .distances .now) (omega arith) ∙ sym (length-take-le (a .m) (a .places .now) (omega arith)) in (
       rw (d .put-distance .ensures .0, p .put-place .ensures .0, r .rank .ensures) (paired-put (a .t) (a .i) (take (a .m) (a .distances .now)) (take (a .m) (a .places .now)) e),
       d .put-distance .ensures .1,
       p .put-place .ensures .1,

@@ -48,8 +48,7 @@ loop-again : tie.Need-loop-again Inv-loop μ-loop
 unfolding insertAll
 loop-again c =
     let added = c .before .before .before .before in
-    let at = added .before .before .before .before .before .before .loop in
-    (
+    let at = added .before .before .before .before .before .before .loop in (
       omega arith,
       added .add-hit .kept .0 ∙ at .inv .1,
       added .add-hit .kept .1 .0 ∙ at .inv .2,
