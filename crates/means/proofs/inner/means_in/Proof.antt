@@ -29,29 +29,20 @@ module _ (src : List Float) (w h d x y z : ℕ) {f t g u m n : ℕ} {s : List Fl
       ap₂ (div binary32) (ap (λ (l : List Float). getD l j nan) es ∙ getD-each _ j p ∙ ap (boxSum src 16 j w h f t g u m n) (getD-replicate 16 j zero32 nan p)) ek
       ∙ rw (ef, et, eg, eu, em, en) (sym (mean-by-rows src 16 j w h d x y z)))
 
-first-near-requires : tie.Need-first-near-requires
-first-near-requires c κs = search needs
+near-requires : tie.Need-near-requires
+near-requires c κs = search needs
 
-past-near-requires : tie.Need-past-near-requires
-past-near-requires c κs = search needs
+near-requires-2 : tie.Need-near-requires-2
+near-requires-2 c κs = search needs
 
-first-near-requires-2 : tie.Need-first-near-requires-2
-first-near-requires-2 c κs = search needs
-
-past-near-requires-2 : tie.Need-past-near-requires-2
-past-near-requires-2 c κs = search needs
-
-first-near-requires-3 : tie.Need-first-near-requires-3
-first-near-requires-3 c κs = search needs
-
-past-near-requires-3 : tie.Need-past-near-requires-3
-past-near-requires-3 c κs = search needs
+near-requires-3 : tie.Need-near-requires-3
+near-requires-3 c κs = search needs
 
 box-sums-requires : tie.Need-box-sums-requires
 box-sums-requires c κs =
-    let a = c .before .before .before .before .before .before .before .args in
-    let p = c .before .before .before .before .before .before .before .pre in
-    let n : c .past-near3 .result ≤ a .d = omega arith in (
+    let a = c .before .before .before .before .args in
+    let p = c .before .before .before .before .pre in
+    let n : c .near3 .result .past ≤ a .d = omega arith in (
       omega arith,
       omega arith,
       omega arith,
@@ -80,29 +71,21 @@ shares-requires c κs = search needs
 
 returns : tie.Need-returns
 returns c =
-    let b = c .before .before in
-    let a = b .before .before .before .before .before .before .before .before .args in
+    let b = c .before .before .before .before .before in
+    let a = b .before .before .before .before .before .args in
+    let columns = b .before .before .before .near .ensures in
+    let rows = b .before .before .near2 .ensures in
+    let planes = b .before .near3 .ensures in
     c .shares .ensures
-    ∙ whole (a .src .now) (a .w) (a .h) (a .d) (a .x) (a .y) (a .z)
-    (b .before .before .before .before .before .before .first-near .ensures)
-    (b .before .before .before .before .before .past-near .ensures)
-    (b .before .before .before .before .first-near2 .ensures)
-    (b .before .before .before .past-near2 .ensures)
-    (b .before .before .first-near3 .ensures)
-    (b .before .past-near3 .ensures)
-    (b .box-sums .ensures)
-    (c .before .cells .ensures)
+    ∙ whole (a .src .now) (a .w) (a .h) (a .d) (a .x) (a .y) (a .z) (columns .0) (columns .1) (rows .0) (rows .1) (planes .0) (planes .1) (b .box-sums .ensures) (c .before .cells .ensures)
 
 pub means-in-spec : {M : Type 1} → statement M
 means-in-spec =
     tie.close
     (tie.spec
-    first-near-requires
-    past-near-requires
-    first-near-requires-2
-    past-near-requires-2
-    first-near-requires-3
-    past-near-requires-3
+    near-requires
+    near-requires-2
+    near-requires-3
     box-sums-requires
     sub-cells
     sub-cells-2

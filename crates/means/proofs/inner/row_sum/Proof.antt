@@ -8,11 +8,11 @@ use Rattle.means.proofs.inner.row_sum.Statement.{statement}
 use Rattle.means.proofs.inner.row_sum.Tie as tie
 
 abbrev Inv-loop : tie.InvT-loop
-Inv-loop src row f t s sum₀ x₀ sum x =
-    (x ≤ t) × (rowSum src 1 0 row f t s ≡ fold (plusCell src 1 0 row) (t - x) x sum)
+Inv-loop src row columns s sum₀ x₀ sum x =
+    (x ≤ columns .past) × (rowSum src 1 0 row (columns .first) (columns .past) s ≡ fold (plusCell src 1 0 row) (columns .past - x) x sum)
 
 abbrev μ-loop : tie.MeasureT-loop
-μ-loop src row f t s sum₀ x₀ sum x = t - x
+μ-loop src row columns s sum₀ x₀ sum x = columns .past - x
 
 loop-holds : tie.Need-loop-holds Inv-loop μ-loop
 unfolding rowSum
@@ -35,13 +35,13 @@ loop-less c = omega arith
 
 loop-again : tie.Need-loop-again Inv-loop μ-loop
 loop-again c =
-    let at = c .before .before .loop in
-    let a = c .before .before .before .args in
+    let at = c .before .before .before .loop in
+    let a = c .before .before .before .before .args in
     let one : (a .row + at .x) * 1 + 0 ≡ a .row + at .x = omega arith in
-    (omega arith, rw one at (at .inv .1 ∙ fold-step (plusCell (a .src .now) 1 0 (a .row)) (at .x) (a .t) (at .sum) (omega arith)))
+    (omega arith, rw one at (at .inv .1 ∙ fold-step (plusCell (a .src .now) 1 0 (a .row)) (at .x) (a .columns .past) (at .sum) (omega arith)))
 
 returns : tie.Need-returns Inv-loop μ-loop
-returns c = sym (c .before .loop .inv .1 ∙ fold-end _ (c .before .loop .x) (c .before .before .args .t) _ (omega arith))
+returns c = sym (c .before .before .loop .inv .1 ∙ fold-end _ (c .before .before .loop .x) (c .before .before .before .args .columns .past) _ (omega arith))
 
 pub row-sum-spec : {M : Type 1} → statement M
 row-sum-spec =
