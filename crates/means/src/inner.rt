@@ -72,7 +72,12 @@ fn mean_in(src: &[f32], w: usize, h: usize, d: usize, x: usize, y: usize, z: usi
     let rows = near(y, h);
     let planes = near(z, d);
     let sum = box_sum(src, w, h, columns, rows, planes, 0.0);
-    sum / cells(columns.past - columns.first, rows.past - rows.first, planes.past - planes.first)
+    sum
+        / cells(
+            columns.past - columns.first,
+            rows.past - rows.first,
+            planes.past - planes.first,
+        )
 }
 
 // The coordinates within 1 of x on an axis of n.
@@ -118,7 +123,7 @@ fn cells(a: usize, b: usize, c: usize) -> f32
 // The planes of a box added to s, of each its rows, of each the numbers of its columns.
 fn box_sum(src: &[f32], w: usize, h: usize, columns: Span, rows: Span, planes: Span, s: f32) -> f32
     requires { ⌜ (columns .first ≤ columns .past) × (columns .past ≤ w) × (rows .first ≤ rows .past) × (rows .past ≤ h) × (planes .first ≤ planes .past) × (0 < w) × (0 < h) × (planes .past * h * w ≤ length (now src)) ⌝ }
-    ensures { λ r. ⌜ r ≡ boxSum (now (src .entry)) 1 0 w h (columns .first) (columns .past) (rows .first) (rows .past) (planes .first) (planes .past) s ⌝ }
+    ensures { λ r. ⌜ r ≡ boxSum (now (src .entry)) 1 0 w h columns rows planes s ⌝ }
 {
     let mut sum = s;
     let mut z = planes.first;
@@ -131,7 +136,7 @@ fn box_sum(src: &[f32], w: usize, h: usize, columns: Span, rows: Span, planes: S
 
 fn plane_sum(src: &[f32], w: usize, columns: Span, plane: usize, rows: Span, s: f32) -> f32
     requires { ⌜ (columns .first ≤ columns .past) × (columns .past ≤ w) × (rows .first ≤ rows .past) × (0 < w) × ((plane + rows .past) * w ≤ length (now src)) ⌝ }
-    ensures { λ r. ⌜ r ≡ planeSum (now (src .entry)) 1 0 w (columns .first) (columns .past) plane (rows .first) (rows .past) s ⌝ }
+    ensures { λ r. ⌜ r ≡ planeSum (now (src .entry)) 1 0 w columns plane rows s ⌝ }
 {
     let mut sum = s;
     let mut y = rows.first;
@@ -144,7 +149,7 @@ fn plane_sum(src: &[f32], w: usize, columns: Span, plane: usize, rows: Span, s: 
 
 fn row_sum(src: &[f32], row: usize, columns: Span, s: f32) -> f32
     requires { ⌜ (columns .first ≤ columns .past) × (row + columns .past ≤ length (now src)) ⌝ }
-    ensures { λ r. ⌜ r ≡ rowSum (now (src .entry)) 1 0 row (columns .first) (columns .past) s ⌝ }
+    ensures { λ r. ⌜ r ≡ rowSum (now (src .entry)) 1 0 row columns s ⌝ }
 {
     let mut sum = s;
     let mut x = columns.first;
@@ -182,7 +187,14 @@ fn means_in(src: &[f32], w: usize, h: usize, d: usize, x: usize, y: usize, z: us
     let rows = near(y, h);
     let planes = near(z, d);
     let sums = box_sums(src, w, h, columns, rows, planes, [0.0; 16]);
-    shares(sums, cells(columns.past - columns.first, rows.past - rows.first, planes.past - planes.first))
+    shares(
+        sums,
+        cells(
+            columns.past - columns.first,
+            rows.past - rows.first,
+            planes.past - planes.first,
+        ),
+    )
 }
 
 // Each sum over the count.
@@ -198,9 +210,17 @@ fn shares(s: [f32; 16], n: f32) -> [f32; 16]
     m
 }
 
-fn box_sums(src: &[f32], w: usize, h: usize, columns: Span, rows: Span, planes: Span, s: [f32; 16]) -> [f32; 16]
+fn box_sums(
+    src: &[f32],
+    w: usize,
+    h: usize,
+    columns: Span,
+    rows: Span,
+    planes: Span,
+    s: [f32; 16],
+) -> [f32; 16]
     requires { ⌜ (columns .first ≤ columns .past) × (columns .past ≤ w) × (rows .first ≤ rows .past) × (rows .past ≤ h) × (planes .first ≤ planes .past) × (0 < w) × (0 < h) × (planes .past * h * w * 16 ≤ length (now src)) × (length s ≡ 16) ⌝ }
-    ensures { λ r. ⌜ r ≡ each (λ k. boxSum (now (src .entry)) 16 k w h (columns .first) (columns .past) (rows .first) (rows .past) (planes .first) (planes .past) (getD s k nan)) ⌝ }
+    ensures { λ r. ⌜ r ≡ each (λ k. boxSum (now (src .entry)) 16 k w h columns rows planes (getD s k nan)) ⌝ }
 {
     let mut sum = s;
     let mut z = planes.first;
@@ -212,9 +232,16 @@ fn box_sums(src: &[f32], w: usize, h: usize, columns: Span, rows: Span, planes: 
     sum
 }
 
-fn plane_sums(src: &[f32], w: usize, columns: Span, plane: usize, rows: Span, s: [f32; 16]) -> [f32; 16]
+fn plane_sums(
+    src: &[f32],
+    w: usize,
+    columns: Span,
+    plane: usize,
+    rows: Span,
+    s: [f32; 16],
+) -> [f32; 16]
     requires { ⌜ (columns .first ≤ columns .past) × (columns .past ≤ w) × (rows .first ≤ rows .past) × (0 < w) × ((plane + rows .past) * w * 16 ≤ length (now src)) × (length s ≡ 16) ⌝ }
-    ensures { λ r. ⌜ r ≡ each (λ k. planeSum (now (src .entry)) 16 k w (columns .first) (columns .past) plane (rows .first) (rows .past) (getD s k nan)) ⌝ }
+    ensures { λ r. ⌜ r ≡ each (λ k. planeSum (now (src .entry)) 16 k w columns plane rows (getD s k nan)) ⌝ }
 {
     let mut sum = s;
     let mut y = rows.first;
@@ -228,7 +255,7 @@ fn plane_sums(src: &[f32], w: usize, columns: Span, plane: usize, rows: Span, s:
 
 fn row_sums(src: &[f32], row: usize, columns: Span, s: [f32; 16]) -> [f32; 16]
     requires { ⌜ (columns .first ≤ columns .past) × ((row + columns .past) * 16 ≤ length (now src)) × (length s ≡ 16) ⌝ }
-    ensures { λ r. ⌜ r ≡ each (λ k. rowSum (now (src .entry)) 16 k row (columns .first) (columns .past) (getD s k nan)) ⌝ }
+    ensures { λ r. ⌜ r ≡ each (λ k. rowSum (now (src .entry)) 16 k row columns (getD s k nan)) ⌝ }
 {
     let mut sum = s;
     let mut x = columns.first;

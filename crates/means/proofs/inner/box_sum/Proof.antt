@@ -10,7 +10,7 @@ use Rattle.means.proofs.inner.box_sum.Tie as tie
 
 abbrev Inv-loop : tie.InvT-loop
 Inv-loop src w h columns rows planes s sum₀ z₀ sum z =
-    (z ≤ planes .past) × (boxSum src 1 0 w h (columns .first) (columns .past) (rows .first) (rows .past) (planes .first) (planes .past) s ≡ fold (plusPlane src 1 0 w h (columns .first) (columns .past) (rows .first) (rows .past)) (planes .past - z) z sum)
+    (z ≤ planes .past) × (boxSum src 1 0 w h columns rows planes s ≡ fold (plusPlane src 1 0 w h columns rows) (planes .past - z) z sum)
 
 abbrev μ-loop : tie.MeasureT-loop
 μ-loop src w h columns rows planes s sum₀ z₀ sum z = planes .past - z

@@ -14,7 +14,7 @@ use Rattle.means.proofs.inner.box_sums.Tie as tie
 abbrev Inv-loop : tie.InvT-loop
 Inv-loop src w h columns rows planes sum₀ z₀ sum z =
     (z ≤ planes .past) × (length sum ≡ 16)
-    × (each (λ k. boxSum src 16 k w h (columns .first) (columns .past) (rows .first) (rows .past) (planes .first) (planes .past) (getD sum₀ k nan)) ≡ each (λ k. fold (plusPlane src 16 k w h (columns .first) (columns .past) (rows .first) (rows .past)) (planes .past - z) z (getD sum k nan)))
+    × (each (λ k. boxSum src 16 k w h columns rows planes (getD sum₀ k nan)) ≡ each (λ k. fold (plusPlane src 16 k w h columns rows) (planes .past - z) z (getD sum k nan)))
 
 abbrev μ-loop : tie.MeasureT-loop
 μ-loop src w h columns rows planes sum₀ z₀ sum z = planes .past - z
@@ -42,12 +42,12 @@ loop-less c = omega arith
 loop-again : tie.Need-loop-again Inv-loop μ-loop
 loop-again c =
     let k = c .before .before .before in let a = k .before .before .args in
-    (omega arith, rw (c .plane-sums .ensures) (length-tab _ 16 0), k .loop .inv .2 ∙ each-step (λ j. plusPlane (a .src .now) 16 j (a .w) (a .h) (a .columns .first) (a .columns .past) (a .rows .first) (a .rows .past)) (k .loop .z) (a .planes .past) (k .loop .sum) _ (omega arith) (c .plane-sums .ensures))
+    (omega arith, rw (c .plane-sums .ensures) (length-tab _ 16 0), k .loop .inv .2 ∙ each-step (λ j. plusPlane (a .src .now) 16 j (a .w) (a .h) (a .columns) (a .rows)) (k .loop .z) (a .planes .past) (k .loop .sum) _ (omega arith) (c .plane-sums .ensures))
 
 returns : tie.Need-returns Inv-loop μ-loop
 returns c =
     let l = c .before .before .loop in let a = c .before .before .before .before .args in
-    sym (l .inv .2 ∙ each-end (λ j. plusPlane (a .src .now) 16 j (a .w) (a .h) (a .columns .first) (a .columns .past) (a .rows .first) (a .rows .past)) (l .z) (a .planes .past) (l .sum) (omega arith) (l .inv .1))
+    sym (l .inv .2 ∙ each-end (λ j. plusPlane (a .src .now) 16 j (a .w) (a .h) (a .columns) (a .rows)) (l .z) (a .planes .past) (l .sum) (omega arith) (l .inv .1))
 
 pub box-sums-spec : {M : Type 1} → statement M
 box-sums-spec =

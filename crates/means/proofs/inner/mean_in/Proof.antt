@@ -4,6 +4,7 @@ use native.Mathlib.Omega.{arith}
 use native.Mathlib.Nat.{mul-le-mul-right}
 use mathlib.Core.Path.{sym}
 use Prim.Native.Nat.{_≤_}
+use Rattle.means.specs.Sums.{span-is}
 use Rattle.means.specs.BoxLaws.{mean-by-rows}
 use Rattle.means.proofs.inner.mean_in.Statement.{statement}
 use Rattle.means.proofs.inner.mean_in.Tie as tie
@@ -46,15 +47,16 @@ cells-requires c κs = search needs
 returns : tie.Need-returns
 returns c =
     let b = c .before .before .before .before in
+    let a = b .before .before .before .before .before .args in
+    let planes = b .before .near3 in
+    let rows = b .before .before .near2 in
+    let columns = b .before .before .before .near in
     rw (
       c .cells .ensures,
       b .box-sum .ensures,
-      b .before .near3 .ensures .0,
-      b .before .near3 .ensures .1,
-      b .before .before .near2 .ensures .0,
-      b .before .before .near2 .ensures .1,
-      b .before .before .before .near .ensures .0,
-      b .before .before .before .near .ensures .1,
+      span-is (planes .result) (a .z) (a .d) (planes .ensures .0) (planes .ensures .1),
+      span-is (rows .result) (a .y) (a .h) (rows .ensures .0) (rows .ensures .1),
+      span-is (columns .result) (a .x) (a .w) (columns .ensures .0) (columns .ensures .1),
     ) (sym (mean-by-rows _ _ _ _ _ _ _ _ _))
 
 pub mean-in-spec : {M : Type 1} → statement M

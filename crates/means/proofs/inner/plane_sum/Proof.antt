@@ -9,7 +9,7 @@ use Rattle.means.proofs.inner.plane_sum.Tie as tie
 
 abbrev Inv-loop : tie.InvT-loop
 Inv-loop src w columns plane rows s sum₀ y₀ sum y =
-    (y ≤ rows .past) × (planeSum src 1 0 w (columns .first) (columns .past) plane (rows .first) (rows .past) s ≡ fold (plusRow src 1 0 w (columns .first) (columns .past) plane) (rows .past - y) y sum)
+    (y ≤ rows .past) × (planeSum src 1 0 w columns plane rows s ≡ fold (plusRow src 1 0 w columns plane) (rows .past - y) y sum)
 
 abbrev μ-loop : tie.MeasureT-loop
 μ-loop src w columns plane rows s sum₀ y₀ sum y = rows .past - y

@@ -13,7 +13,7 @@ use Rattle.means.proofs.inner.plane_sums.Tie as tie
 abbrev Inv-loop : tie.InvT-loop
 Inv-loop src w columns plane rows sum₀ y₀ sum y =
     (y ≤ rows .past) × (length sum ≡ 16)
-    × (each (λ k. planeSum src 16 k w (columns .first) (columns .past) plane (rows .first) (rows .past) (getD sum₀ k nan)) ≡ each (λ k. fold (plusRow src 16 k w (columns .first) (columns .past) plane) (rows .past - y) y (getD sum k nan)))
+    × (each (λ k. planeSum src 16 k w columns plane rows (getD sum₀ k nan)) ≡ each (λ k. fold (plusRow src 16 k w columns plane) (rows .past - y) y (getD sum k nan)))
 
 abbrev μ-loop : tie.MeasureT-loop
 μ-loop src w columns plane rows sum₀ y₀ sum y = rows .past - y
@@ -46,12 +46,12 @@ loop-less c = omega arith
 loop-again : tie.Need-loop-again Inv-loop μ-loop
 loop-again c =
     let k = c .before .before .before in let a = k .before .before .args in
-    (omega arith, rw (c .row-sums .ensures) (length-tab _ 16 0), k .loop .inv .2 ∙ each-step (λ j. plusRow (a .src .now) 16 j (a .w) (a .columns .first) (a .columns .past) (a .plane)) (k .loop .y) (a .rows .past) (k .loop .sum) _ (omega arith) (c .row-sums .ensures))
+    (omega arith, rw (c .row-sums .ensures) (length-tab _ 16 0), k .loop .inv .2 ∙ each-step (λ j. plusRow (a .src .now) 16 j (a .w) (a .columns) (a .plane)) (k .loop .y) (a .rows .past) (k .loop .sum) _ (omega arith) (c .row-sums .ensures))
 
 returns : tie.Need-returns Inv-loop μ-loop
 returns c =
     let l = c .before .before .loop in let a = c .before .before .before .before .args in
-    sym (l .inv .2 ∙ each-end (λ j. plusRow (a .src .now) 16 j (a .w) (a .columns .first) (a .columns .past) (a .plane)) (l .y) (a .rows .past) (l .sum) (omega arith) (l .inv .1))
+    sym (l .inv .2 ∙ each-end (λ j. plusRow (a .src .now) 16 j (a .w) (a .columns) (a .plane)) (l .y) (a .rows .past) (l .sum) (omega arith) (l .inv .1))
 
 pub plane-sums-spec : {M : Type 1} → statement M
 plane-sums-spec =

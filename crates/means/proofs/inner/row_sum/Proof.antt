@@ -9,7 +9,7 @@ use Rattle.means.proofs.inner.row_sum.Tie as tie
 
 abbrev Inv-loop : tie.InvT-loop
 Inv-loop src row columns s sum₀ x₀ sum x =
-    (x ≤ columns .past) × (rowSum src 1 0 row (columns .first) (columns .past) s ≡ fold (plusCell src 1 0 row) (columns .past - x) x sum)
+    (x ≤ columns .past) × (rowSum src 1 0 row columns s ≡ fold (plusCell src 1 0 row) (columns .past - x) x sum)
 
 abbrev μ-loop : tie.MeasureT-loop
 μ-loop src row columns s sum₀ x₀ sum x = columns .past - x

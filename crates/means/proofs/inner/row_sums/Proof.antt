@@ -13,7 +13,7 @@ use Rattle.means.proofs.inner.row_sums.Tie as tie
 abbrev Inv-loop : tie.InvT-loop
 Inv-loop src row columns sum₀ x₀ sum x =
     (x ≤ columns .past) × (length sum ≡ 16)
-    × (each (λ k. rowSum src 16 k row (columns .first) (columns .past) (getD sum₀ k nan)) ≡ each (λ k. fold (plusCell src 16 k row) (columns .past - x) x (getD sum k nan)))
+    × (each (λ k. rowSum src 16 k row columns (getD sum₀ k nan)) ≡ each (λ k. fold (plusCell src 16 k row) (columns .past - x) x (getD sum k nan)))
 
 abbrev μ-loop : tie.MeasureT-loop
 μ-loop src row columns sum₀ x₀ sum x = columns .past - x
