@@ -31,73 +31,27 @@ abbrev by-halves-below : ℕ → In 4 by-halves-kinds.ps
 by-halves-below t =
     and 4 by-halves-kinds.ps (falls 4 by-halves-kinds.ps _<_ μ-by-halves t) by-halves.Pre
 
-by-halves-one-by-one-requires : (t : ℕ) → by-halves-lts.Need-one-by-one-requires (
-  one-by-one-reads.Asked,
-  one-by-one-reads.Learnt,
-  by-halves-below t,
-  by-halves.Post,
-  merge-reads.Asked,
-  merge-reads.Learnt,
-) (by-halves-at t) by-halves.Post
+abbrev claims : ℕ → by-halves-lts.Claims
+claims t = (one-by-one-reads.Asked, one-by-one-reads.Learnt, by-halves-below t, by-halves.Post, merge-reads.Asked, merge-reads.Learnt)
+
+by-halves-one-by-one-requires : (t : ℕ) → by-halves-lts.Need-one-by-one-requires (claims t) (by-halves-at t) by-halves.Post
 by-halves-one-by-one-requires t c κs = (c .before .before .before .before .before .before .before .pre .1 .0, omega arith)
 
-by-halves-same-length : (t : ℕ) → by-halves-lts.Need-same-length (
-  one-by-one-reads.Asked,
-  one-by-one-reads.Learnt,
-  by-halves-below t,
-  by-halves.Post,
-  merge-reads.Asked,
-  merge-reads.Learnt,
-) (by-halves-at t) by-halves.Post
+by-halves-same-length : (t : ℕ) → by-halves-lts.Need-same-length (claims t) (by-halves-at t) by-halves.Post
 by-halves-same-length t c = search needs
 
-by-halves-same-length-2 : (t : ℕ) → by-halves-lts.Need-same-length-2 (
-  one-by-one-reads.Asked,
-  one-by-one-reads.Learnt,
-  by-halves-below t,
-  by-halves.Post,
-  merge-reads.Asked,
-  merge-reads.Learnt,
-) (by-halves-at t) by-halves.Post
+by-halves-same-length-2 : (t : ℕ) → by-halves-lts.Need-same-length-2 (claims t) (by-halves-at t) by-halves.Post
 by-halves-same-length-2 t c = search needs
 
-by-halves-returns : (t : ℕ) → by-halves-lts.Need-returns (
-  one-by-one-reads.Asked,
-  one-by-one-reads.Learnt,
-  by-halves-below t,
-  by-halves.Post,
-  merge-reads.Asked,
-  merge-reads.Learnt,
-) (by-halves-at t) by-halves.Post
+by-halves-returns : (t : ℕ) → by-halves-lts.Need-returns (claims t) (by-halves-at t) by-halves.Post
 unfolding paired
 by-halves-returns t c = c .before .before .before .before .one-by-one .ensures
 
 by-halves-slice-relend-prefix-by-halves :
-    (t : ℕ) → by-halves-lts.Need-slice-relend-prefix-by-halves (
-      one-by-one-reads.Asked,
-      one-by-one-reads.Learnt,
-      by-halves-below t,
-      by-halves.Post,
-      merge-reads.Asked,
-      merge-reads.Learnt,
-    ) (by-halves-at t) by-halves.Post
-by-halves-slice-relend-prefix-by-halves t c =
-    let s = c .before .before .before .before .before in
-    let a = s .args in
-    let q = s .pre .1 in
-    let h = length (a .distances .now) / 2 in
-    let k = ap (λ (l : List Float). length l) (q .1) in
-    let j = ap (λ (l : List ℕ). length l) (q .2) in
-    omega arith
+    (t : ℕ) → by-halves-lts.Need-slice-relend-prefix-by-halves (claims t) (by-halves-at t) by-halves.Post
+by-halves-slice-relend-prefix-by-halves t c = omega (arith, ap (λ (l : List Float). length l) (c .before .before .before .before .before .pre .1 .1))
 
-by-halves-slice-aggregate-by-halves : (t : ℕ) → by-halves-lts.Need-slice-aggregate-by-halves (
-  one-by-one-reads.Asked,
-  one-by-one-reads.Learnt,
-  by-halves-below t,
-  by-halves.Post,
-  merge-reads.Asked,
-  merge-reads.Learnt,
-) (by-halves-at t) by-halves.Post
+by-halves-slice-aggregate-by-halves : (t : ℕ) → by-halves-lts.Need-slice-aggregate-by-halves (claims t) (by-halves-at t) by-halves.Post
 by-halves-slice-aggregate-by-halves t c =
     let s = c .before .before .before .before .before .before in
     let a = s .args in
@@ -108,31 +62,10 @@ by-halves-slice-aggregate-by-halves t c =
     sym (length-take-le h (a .ts .now) (omega arith))
 
 by-halves-slice-relend-prefix-by-halves-2 :
-    (t : ℕ) → by-halves-lts.Need-slice-relend-prefix-by-halves-2 (
-      one-by-one-reads.Asked,
-      one-by-one-reads.Learnt,
-      by-halves-below t,
-      by-halves.Post,
-      merge-reads.Asked,
-      merge-reads.Learnt,
-    ) (by-halves-at t) by-halves.Post
-by-halves-slice-relend-prefix-by-halves-2 t c =
-    let s = c .before .before .before .before .before .before in
-    let a = s .args in
-    let q = s .pre .1 in
-    let h = length (a .distances .now) / 2 in
-    let k = ap (λ (l : List Float). length l) (q .1) in
-    let j = ap (λ (l : List ℕ). length l) (q .2) in
-    omega arith
+    (t : ℕ) → by-halves-lts.Need-slice-relend-prefix-by-halves-2 (claims t) (by-halves-at t) by-halves.Post
+by-halves-slice-relend-prefix-by-halves-2 t c = omega (arith, ap (λ (l : List ℕ). length l) (c .before .before .before .before .before .before .pre .1 .2))
 
-by-halves-slice-aggregate-by-halves-2 : (t : ℕ) → by-halves-lts.Need-slice-aggregate-by-halves-2 (
-  one-by-one-reads.Asked,
-  one-by-one-reads.Learnt,
-  by-halves-below t,
-  by-halves.Post,
-  merge-reads.Asked,
-  merge-reads.Learnt,
-) (by-halves-at t) by-halves.Post
+by-halves-slice-aggregate-by-halves-2 : (t : ℕ) → by-halves-lts.Need-slice-aggregate-by-halves-2 (claims t) (by-halves-at t) by-halves.Post
 by-halves-slice-aggregate-by-halves-2 t c =
     let s = c .before .before .before .before .before .before .before in
     let a = s .args in
@@ -143,31 +76,10 @@ by-halves-slice-aggregate-by-halves-2 t c =
     sym (length-take-le h (a .is .now) (omega arith))
 
 by-halves-slice-relend-prefix-by-halves-3 :
-    (t : ℕ) → by-halves-lts.Need-slice-relend-prefix-by-halves-3 (
-      one-by-one-reads.Asked,
-      one-by-one-reads.Learnt,
-      by-halves-below t,
-      by-halves.Post,
-      merge-reads.Asked,
-      merge-reads.Learnt,
-    ) (by-halves-at t) by-halves.Post
-by-halves-slice-relend-prefix-by-halves-3 t c =
-    let s = c .before .before .before .before .before .before .before in
-    let a = s .args in
-    let q = s .pre .1 in
-    let h = length (a .distances .now) / 2 in
-    let k = ap (λ (l : List Float). length l) (q .1) in
-    let j = ap (λ (l : List ℕ). length l) (q .2) in
-    omega arith
+    (t : ℕ) → by-halves-lts.Need-slice-relend-prefix-by-halves-3 (claims t) (by-halves-at t) by-halves.Post
+by-halves-slice-relend-prefix-by-halves-3 t c = omega arith
 
-by-halves-slice-aggregate-by-halves-3 : (t : ℕ) → by-halves-lts.Need-slice-aggregate-by-halves-3 (
-  one-by-one-reads.Asked,
-  one-by-one-reads.Learnt,
-  by-halves-below t,
-  by-halves.Post,
-  merge-reads.Asked,
-  merge-reads.Learnt,
-) (by-halves-at t) by-halves.Post
+by-halves-slice-aggregate-by-halves-3 : (t : ℕ) → by-halves-lts.Need-slice-aggregate-by-halves-3 (claims t) (by-halves-at t) by-halves.Post
 by-halves-slice-aggregate-by-halves-3 t c =
     let s = c .before .before .before .before .before .before .before .before in
     let a = s .args in
@@ -178,31 +90,10 @@ by-halves-slice-aggregate-by-halves-3 t c =
     sym (length-take-le h (a .distances .now) (omega arith))
 
 by-halves-slice-relend-prefix-by-halves-4 :
-    (t : ℕ) → by-halves-lts.Need-slice-relend-prefix-by-halves-4 (
-      one-by-one-reads.Asked,
-      one-by-one-reads.Learnt,
-      by-halves-below t,
-      by-halves.Post,
-      merge-reads.Asked,
-      merge-reads.Learnt,
-    ) (by-halves-at t) by-halves.Post
-by-halves-slice-relend-prefix-by-halves-4 t c =
-    let s = c .before .before .before .before .before .before .before .before in
-    let a = s .args in
-    let q = s .pre .1 in
-    let h = length (a .distances .now) / 2 in
-    let k = ap (λ (l : List Float). length l) (q .1) in
-    let j = ap (λ (l : List ℕ). length l) (q .2) in
-    omega arith
+    (t : ℕ) → by-halves-lts.Need-slice-relend-prefix-by-halves-4 (claims t) (by-halves-at t) by-halves.Post
+by-halves-slice-relend-prefix-by-halves-4 t c = omega arith
 
-by-halves-slice-aggregate-by-halves-4 : (t : ℕ) → by-halves-lts.Need-slice-aggregate-by-halves-4 (
-  one-by-one-reads.Asked,
-  one-by-one-reads.Learnt,
-  by-halves-below t,
-  by-halves.Post,
-  merge-reads.Asked,
-  merge-reads.Learnt,
-) (by-halves-at t) by-halves.Post
+by-halves-slice-aggregate-by-halves-4 : (t : ℕ) → by-halves-lts.Need-slice-aggregate-by-halves-4 (claims t) (by-halves-at t) by-halves.Post
 by-halves-slice-aggregate-by-halves-4 t c =
     let s = c .before .before .before .before .before .before .before .before .before in
     let a = s .args in
@@ -212,14 +103,7 @@ by-halves-slice-aggregate-by-halves-4 t c =
     let j = ap (λ (l : List ℕ). length l) (q .2) in
     sym (length-take-le h (a .places .now) (omega arith))
 
-by-halves-by-halves-requires : (t : ℕ) → by-halves-lts.Need-by-halves-requires (
-  one-by-one-reads.Asked,
-  one-by-one-reads.Learnt,
-  by-halves-below t,
-  by-halves.Post,
-  merge-reads.Asked,
-  merge-reads.Learnt,
-) (by-halves-at t) by-halves.Post
+by-halves-by-halves-requires : (t : ℕ) → by-halves-lts.Need-by-halves-requires (claims t) (by-halves-at t) by-halves.Post
 by-halves-by-halves-requires t c κs =
     let s = c .before .before .before .before .before .before .before .before .before in
     let a = s .args in
@@ -237,302 +121,55 @@ by-halves-by-halves-requires t c κs =
       ),
     )
 
-by-halves-mul-by-halves : (t : ℕ) → by-halves-lts.Need-mul-by-halves (
-  one-by-one-reads.Asked,
-  one-by-one-reads.Learnt,
-  by-halves-below t,
-  by-halves.Post,
-  merge-reads.Asked,
-  merge-reads.Learnt,
-) (by-halves-at t) by-halves.Post
-by-halves-mul-by-halves t c =
-    let s = c .before .before .before .before .before .before .before .before .before .before .before .before .before .before .before .before .before .before in
-    let a = s .args in
-    let q = s .pre .1 in
-    let h = length (a .distances .now) / 2 in
-    let k = ap (λ (l : List Float). length l) (q .1) in
-    let j = ap (λ (l : List ℕ). length l) (q .2) in
-    let x = c .before .before .before .before .before .before .before .before .by-halves in
-    omega (arith, length-front (a .ts .now) (x .last .0) h (x .kept .0))
+by-halves-mul-by-halves : (t : ℕ) → by-halves-lts.Need-mul-by-halves (claims t) (by-halves-at t) by-halves.Post
+by-halves-mul-by-halves t c = omega arith
 
-by-halves-sub-by-halves : (t : ℕ) → by-halves-lts.Need-sub-by-halves (
-  one-by-one-reads.Asked,
-  one-by-one-reads.Learnt,
-  by-halves-below t,
-  by-halves.Post,
-  merge-reads.Asked,
-  merge-reads.Learnt,
-) (by-halves-at t) by-halves.Post
-by-halves-sub-by-halves t c =
-    let s = c .before .before .before .before .before .before .before .before .before .before .before .before .before .before .before .before .before .before in
-    let a = s .args in
-    let q = s .pre .1 in
-    let h = length (a .distances .now) / 2 in
-    let k = ap (λ (l : List Float). length l) (q .1) in
-    let j = ap (λ (l : List ℕ). length l) (q .2) in
-    let x = c .before .before .before .before .before .before .before .before .by-halves in
-    omega (arith, length-front (a .ts .now) (x .last .0) h (x .kept .0))
+by-halves-sub-by-halves : (t : ℕ) → by-halves-lts.Need-sub-by-halves (claims t) (by-halves-at t) by-halves.Post
+by-halves-sub-by-halves t c = omega (arith, ap (λ (l : List Float). length l) (c .before .before .before .before .before .before .before .before .before .before .before .before .before .before .before .before .before .before .pre .1 .1))
 
-by-halves-part-by-halves-start : (t : ℕ) → by-halves-lts.Need-part-by-halves-start (
-  one-by-one-reads.Asked,
-  one-by-one-reads.Learnt,
-  by-halves-below t,
-  by-halves.Post,
-  merge-reads.Asked,
-  merge-reads.Learnt,
-) (by-halves-at t) by-halves.Post
-by-halves-part-by-halves-start t c =
-    let s = c .before .before .before .before .before .before .before .before .before .before .before .before .before .before .before .before .before .before in
-    let a = s .args in
-    let q = s .pre .1 in
-    let h = length (a .distances .now) / 2 in
-    let k = ap (λ (l : List Float). length l) (q .1) in
-    let j = ap (λ (l : List ℕ). length l) (q .2) in
-    let x = c .before .before .before .before .before .before .before .before .by-halves in
-    omega (arith, length-front (a .ts .now) (x .last .0) h (x .kept .0))
+by-halves-part-by-halves-start : (t : ℕ) → by-halves-lts.Need-part-by-halves-start (claims t) (by-halves-at t) by-halves.Post
+by-halves-part-by-halves-start t c = omega (arith, ap (λ (l : List Float). length l) (c .before .before .before .before .before .before .before .before .before .before .before .before .before .before .before .before .before .before .pre .1 .1))
 
-by-halves-part-by-halves-end : (t : ℕ) → by-halves-lts.Need-part-by-halves-end (
-  one-by-one-reads.Asked,
-  one-by-one-reads.Learnt,
-  by-halves-below t,
-  by-halves.Post,
-  merge-reads.Asked,
-  merge-reads.Learnt,
-) (by-halves-at t) by-halves.Post
-by-halves-part-by-halves-end t c =
-    let s = c .before .before .before .before .before .before .before .before .before .before .before .before .before .before .before .before .before .before in
-    let a = s .args in
-    let q = s .pre .1 in
-    let h = length (a .distances .now) / 2 in
-    let k = ap (λ (l : List Float). length l) (q .1) in
-    let j = ap (λ (l : List ℕ). length l) (q .2) in
-    let x = c .before .before .before .before .before .before .before .before .by-halves in
-    omega (arith, length-front (a .ts .now) (x .last .0) h (x .kept .0))
+by-halves-part-by-halves-end : (t : ℕ) → by-halves-lts.Need-part-by-halves-end (claims t) (by-halves-at t) by-halves.Post
+by-halves-part-by-halves-end t c = omega arith
 
-by-halves-mul-by-halves-2 : (t : ℕ) → by-halves-lts.Need-mul-by-halves-2 (
-  one-by-one-reads.Asked,
-  one-by-one-reads.Learnt,
-  by-halves-below t,
-  by-halves.Post,
-  merge-reads.Asked,
-  merge-reads.Learnt,
-) (by-halves-at t) by-halves.Post
-by-halves-mul-by-halves-2 t c =
-    let s = c .before .before .before .before .before .before .before .before .before .before .before .before .before .before .before .before .before .before .before in
-    let a = s .args in
-    let q = s .pre .1 in
-    let h = length (a .distances .now) / 2 in
-    let k = ap (λ (l : List Float). length l) (q .1) in
-    let j = ap (λ (l : List ℕ). length l) (q .2) in
-    let x = c .before .before .before .before .before .before .before .before .before .by-halves in
-    omega (arith, length-front (a .is .now) (x .last .1 .0) h (x .kept .1 .0))
+by-halves-mul-by-halves-2 : (t : ℕ) → by-halves-lts.Need-mul-by-halves-2 (claims t) (by-halves-at t) by-halves.Post
+by-halves-mul-by-halves-2 t c = omega arith
 
-by-halves-sub-by-halves-2 : (t : ℕ) → by-halves-lts.Need-sub-by-halves-2 (
-  one-by-one-reads.Asked,
-  one-by-one-reads.Learnt,
-  by-halves-below t,
-  by-halves.Post,
-  merge-reads.Asked,
-  merge-reads.Learnt,
-) (by-halves-at t) by-halves.Post
-by-halves-sub-by-halves-2 t c =
-    let s = c .before .before .before .before .before .before .before .before .before .before .before .before .before .before .before .before .before .before .before in
-    let a = s .args in
-    let q = s .pre .1 in
-    let h = length (a .distances .now) / 2 in
-    let k = ap (λ (l : List Float). length l) (q .1) in
-    let j = ap (λ (l : List ℕ). length l) (q .2) in
-    let x = c .before .before .before .before .before .before .before .before .before .by-halves in
-    omega (arith, length-front (a .is .now) (x .last .1 .0) h (x .kept .1 .0))
+by-halves-sub-by-halves-2 : (t : ℕ) → by-halves-lts.Need-sub-by-halves-2 (claims t) (by-halves-at t) by-halves.Post
+by-halves-sub-by-halves-2 t c = omega (arith, ap (λ (l : List ℕ). length l) (c .before .before .before .before .before .before .before .before .before .before .before .before .before .before .before .before .before .before .before .pre .1 .2))
 
-by-halves-part-by-halves-start-2 : (t : ℕ) → by-halves-lts.Need-part-by-halves-start-2 (
-  one-by-one-reads.Asked,
-  one-by-one-reads.Learnt,
-  by-halves-below t,
-  by-halves.Post,
-  merge-reads.Asked,
-  merge-reads.Learnt,
-) (by-halves-at t) by-halves.Post
-by-halves-part-by-halves-start-2 t c =
-    let s = c .before .before .before .before .before .before .before .before .before .before .before .before .before .before .before .before .before .before .before in
-    let a = s .args in
-    let q = s .pre .1 in
-    let h = length (a .distances .now) / 2 in
-    let k = ap (λ (l : List Float). length l) (q .1) in
-    let j = ap (λ (l : List ℕ). length l) (q .2) in
-    let x = c .before .before .before .before .before .before .before .before .before .by-halves in
-    omega (arith, length-front (a .is .now) (x .last .1 .0) h (x .kept .1 .0))
+by-halves-part-by-halves-start-2 : (t : ℕ) → by-halves-lts.Need-part-by-halves-start-2 (claims t) (by-halves-at t) by-halves.Post
+by-halves-part-by-halves-start-2 t c = omega (arith, ap (λ (l : List ℕ). length l) (c .before .before .before .before .before .before .before .before .before .before .before .before .before .before .before .before .before .before .before .pre .1 .2))
 
-by-halves-part-by-halves-end-2 : (t : ℕ) → by-halves-lts.Need-part-by-halves-end-2 (
-  one-by-one-reads.Asked,
-  one-by-one-reads.Learnt,
-  by-halves-below t,
-  by-halves.Post,
-  merge-reads.Asked,
-  merge-reads.Learnt,
-) (by-halves-at t) by-halves.Post
-by-halves-part-by-halves-end-2 t c =
-    let s = c .before .before .before .before .before .before .before .before .before .before .before .before .before .before .before .before .before .before .before in
-    let a = s .args in
-    let q = s .pre .1 in
-    let h = length (a .distances .now) / 2 in
-    let k = ap (λ (l : List Float). length l) (q .1) in
-    let j = ap (λ (l : List ℕ). length l) (q .2) in
-    let x = c .before .before .before .before .before .before .before .before .before .by-halves in
-    omega (arith, length-front (a .is .now) (x .last .1 .0) h (x .kept .1 .0))
+by-halves-part-by-halves-end-2 : (t : ℕ) → by-halves-lts.Need-part-by-halves-end-2 (claims t) (by-halves-at t) by-halves.Post
+by-halves-part-by-halves-end-2 t c = omega arith
 
-by-halves-mul-by-halves-3 : (t : ℕ) → by-halves-lts.Need-mul-by-halves-3 (
-  one-by-one-reads.Asked,
-  one-by-one-reads.Learnt,
-  by-halves-below t,
-  by-halves.Post,
-  merge-reads.Asked,
-  merge-reads.Learnt,
-) (by-halves-at t) by-halves.Post
-by-halves-mul-by-halves-3 t c =
-    let s = c .before .before .before .before .before .before .before .before .before .before .before .before .before .before .before .before .before .before .before .before in
-    let a = s .args in
-    let q = s .pre .1 in
-    let h = length (a .distances .now) / 2 in
-    let k = ap (λ (l : List Float). length l) (q .1) in
-    let j = ap (λ (l : List ℕ). length l) (q .2) in
-    let x = c .before .before .before .before .before .before .before .before .before .before .by-halves in
-    omega (arith, length-front (a .distances .now) (x .last .1 .1 .0) h (x .kept .1 .1 .0))
+by-halves-mul-by-halves-3 : (t : ℕ) → by-halves-lts.Need-mul-by-halves-3 (claims t) (by-halves-at t) by-halves.Post
+by-halves-mul-by-halves-3 t c = omega arith
 
-by-halves-sub-by-halves-3 : (t : ℕ) → by-halves-lts.Need-sub-by-halves-3 (
-  one-by-one-reads.Asked,
-  one-by-one-reads.Learnt,
-  by-halves-below t,
-  by-halves.Post,
-  merge-reads.Asked,
-  merge-reads.Learnt,
-) (by-halves-at t) by-halves.Post
-by-halves-sub-by-halves-3 t c =
-    let s = c .before .before .before .before .before .before .before .before .before .before .before .before .before .before .before .before .before .before .before .before in
-    let a = s .args in
-    let q = s .pre .1 in
-    let h = length (a .distances .now) / 2 in
-    let k = ap (λ (l : List Float). length l) (q .1) in
-    let j = ap (λ (l : List ℕ). length l) (q .2) in
-    let x = c .before .before .before .before .before .before .before .before .before .before .by-halves in
-    omega (arith, length-front (a .distances .now) (x .last .1 .1 .0) h (x .kept .1 .1 .0))
+by-halves-sub-by-halves-3 : (t : ℕ) → by-halves-lts.Need-sub-by-halves-3 (claims t) (by-halves-at t) by-halves.Post
+by-halves-sub-by-halves-3 t c = omega arith
 
-by-halves-part-by-halves-start-3 : (t : ℕ) → by-halves-lts.Need-part-by-halves-start-3 (
-  one-by-one-reads.Asked,
-  one-by-one-reads.Learnt,
-  by-halves-below t,
-  by-halves.Post,
-  merge-reads.Asked,
-  merge-reads.Learnt,
-) (by-halves-at t) by-halves.Post
-by-halves-part-by-halves-start-3 t c =
-    let s = c .before .before .before .before .before .before .before .before .before .before .before .before .before .before .before .before .before .before .before .before in
-    let a = s .args in
-    let q = s .pre .1 in
-    let h = length (a .distances .now) / 2 in
-    let k = ap (λ (l : List Float). length l) (q .1) in
-    let j = ap (λ (l : List ℕ). length l) (q .2) in
-    let x = c .before .before .before .before .before .before .before .before .before .before .by-halves in
-    omega (arith, length-front (a .distances .now) (x .last .1 .1 .0) h (x .kept .1 .1 .0))
+by-halves-part-by-halves-start-3 : (t : ℕ) → by-halves-lts.Need-part-by-halves-start-3 (claims t) (by-halves-at t) by-halves.Post
+by-halves-part-by-halves-start-3 t c = omega arith
 
-by-halves-part-by-halves-end-3 : (t : ℕ) → by-halves-lts.Need-part-by-halves-end-3 (
-  one-by-one-reads.Asked,
-  one-by-one-reads.Learnt,
-  by-halves-below t,
-  by-halves.Post,
-  merge-reads.Asked,
-  merge-reads.Learnt,
-) (by-halves-at t) by-halves.Post
-by-halves-part-by-halves-end-3 t c =
-    let s = c .before .before .before .before .before .before .before .before .before .before .before .before .before .before .before .before .before .before .before .before in
-    let a = s .args in
-    let q = s .pre .1 in
-    let h = length (a .distances .now) / 2 in
-    let k = ap (λ (l : List Float). length l) (q .1) in
-    let j = ap (λ (l : List ℕ). length l) (q .2) in
-    let x = c .before .before .before .before .before .before .before .before .before .before .by-halves in
-    omega (arith, length-front (a .distances .now) (x .last .1 .1 .0) h (x .kept .1 .1 .0))
+by-halves-part-by-halves-end-3 : (t : ℕ) → by-halves-lts.Need-part-by-halves-end-3 (claims t) (by-halves-at t) by-halves.Post
+by-halves-part-by-halves-end-3 t c = omega arith
 
-by-halves-mul-by-halves-4 : (t : ℕ) → by-halves-lts.Need-mul-by-halves-4 (
-  one-by-one-reads.Asked,
-  one-by-one-reads.Learnt,
-  by-halves-below t,
-  by-halves.Post,
-  merge-reads.Asked,
-  merge-reads.Learnt,
-) (by-halves-at t) by-halves.Post
-by-halves-mul-by-halves-4 t c =
-    let s = c .before .before .before .before .before .before .before .before .before .before .before .before .before .before .before .before .before .before .before .before .before in
-    let a = s .args in
-    let q = s .pre .1 in
-    let h = length (a .distances .now) / 2 in
-    let k = ap (λ (l : List Float). length l) (q .1) in
-    let j = ap (λ (l : List ℕ). length l) (q .2) in
-    let x = c .before .before .before .before .before .before .before .before .before .before .before .by-halves in
-    omega (arith, length-front (a .places .now) (x .last .1 .1 .1 .0) h (x .kept .1 .1 .1 .0))
+by-halves-mul-by-halves-4 : (t : ℕ) → by-halves-lts.Need-mul-by-halves-4 (claims t) (by-halves-at t) by-halves.Post
+by-halves-mul-by-halves-4 t c = omega arith
 
-by-halves-sub-by-halves-4 : (t : ℕ) → by-halves-lts.Need-sub-by-halves-4 (
-  one-by-one-reads.Asked,
-  one-by-one-reads.Learnt,
-  by-halves-below t,
-  by-halves.Post,
-  merge-reads.Asked,
-  merge-reads.Learnt,
-) (by-halves-at t) by-halves.Post
-by-halves-sub-by-halves-4 t c =
-    let s = c .before .before .before .before .before .before .before .before .before .before .before .before .before .before .before .before .before .before .before .before .before in
-    let a = s .args in
-    let q = s .pre .1 in
-    let h = length (a .distances .now) / 2 in
-    let k = ap (λ (l : List Float). length l) (q .1) in
-    let j = ap (λ (l : List ℕ). length l) (q .2) in
-    let x = c .before .before .before .before .before .before .before .before .before .before .before .by-halves in
-    omega (arith, length-front (a .places .now) (x .last .1 .1 .1 .0) h (x .kept .1 .1 .1 .0))
+by-halves-sub-by-halves-4 : (t : ℕ) → by-halves-lts.Need-sub-by-halves-4 (claims t) (by-halves-at t) by-halves.Post
+by-halves-sub-by-halves-4 t c = omega arith
 
-by-halves-part-by-halves-start-4 : (t : ℕ) → by-halves-lts.Need-part-by-halves-start-4 (
-  one-by-one-reads.Asked,
-  one-by-one-reads.Learnt,
-  by-halves-below t,
-  by-halves.Post,
-  merge-reads.Asked,
-  merge-reads.Learnt,
-) (by-halves-at t) by-halves.Post
-by-halves-part-by-halves-start-4 t c =
-    let s = c .before .before .before .before .before .before .before .before .before .before .before .before .before .before .before .before .before .before .before .before .before in
-    let a = s .args in
-    let q = s .pre .1 in
-    let h = length (a .distances .now) / 2 in
-    let k = ap (λ (l : List Float). length l) (q .1) in
-    let j = ap (λ (l : List ℕ). length l) (q .2) in
-    let x = c .before .before .before .before .before .before .before .before .before .before .before .by-halves in
-    omega (arith, length-front (a .places .now) (x .last .1 .1 .1 .0) h (x .kept .1 .1 .1 .0))
+by-halves-part-by-halves-start-4 : (t : ℕ) → by-halves-lts.Need-part-by-halves-start-4 (claims t) (by-halves-at t) by-halves.Post
+by-halves-part-by-halves-start-4 t c = omega arith
 
-by-halves-part-by-halves-end-4 : (t : ℕ) → by-halves-lts.Need-part-by-halves-end-4 (
-  one-by-one-reads.Asked,
-  one-by-one-reads.Learnt,
-  by-halves-below t,
-  by-halves.Post,
-  merge-reads.Asked,
-  merge-reads.Learnt,
-) (by-halves-at t) by-halves.Post
-by-halves-part-by-halves-end-4 t c =
-    let s = c .before .before .before .before .before .before .before .before .before .before .before .before .before .before .before .before .before .before .before .before .before in
-    let a = s .args in
-    let q = s .pre .1 in
-    let h = length (a .distances .now) / 2 in
-    let k = ap (λ (l : List Float). length l) (q .1) in
-    let j = ap (λ (l : List ℕ). length l) (q .2) in
-    let x = c .before .before .before .before .before .before .before .before .before .before .before .by-halves in
-    omega (arith, length-front (a .places .now) (x .last .1 .1 .1 .0) h (x .kept .1 .1 .1 .0))
+by-halves-part-by-halves-end-4 : (t : ℕ) → by-halves-lts.Need-part-by-halves-end-4 (claims t) (by-halves-at t) by-halves.Post
+by-halves-part-by-halves-end-4 t c = omega arith
 
-by-halves-by-halves-requires-2 : (t : ℕ) → by-halves-lts.Need-by-halves-requires-2 (
-  one-by-one-reads.Asked,
-  one-by-one-reads.Learnt,
-  by-halves-below t,
-  by-halves.Post,
-  merge-reads.Asked,
-  merge-reads.Learnt,
-) (by-halves-at t) by-halves.Post
+by-halves-by-halves-requires-2 : (t : ℕ) → by-halves-lts.Need-by-halves-requires-2 (claims t) (by-halves-at t) by-halves.Post
 by-halves-by-halves-requires-2 t c κs =
     let s = c .before .before .before .before .before .before .before .before .before .before .before .before .before .before .before .before .before .before .before .before .before .before in
     let a = s .args in
@@ -557,14 +194,7 @@ by-halves-by-halves-requires-2 t c κs =
       ),
     )
 
-by-halves-merge-requires : (t : ℕ) → by-halves-lts.Need-merge-requires (
-  one-by-one-reads.Asked,
-  one-by-one-reads.Learnt,
-  by-halves-below t,
-  by-halves.Post,
-  merge-reads.Asked,
-  merge-reads.Learnt,
-) (by-halves-at t) by-halves.Post
+by-halves-merge-requires : (t : ℕ) → by-halves-lts.Need-merge-requires (claims t) (by-halves-at t) by-halves.Post
 by-halves-merge-requires t c κs =
     let s = c .before .before .before .before .before .before .before .before .before .before .before .before .before .before .before .before .before .before .before .before .before .before .before .before .before .before .before .before .before .before .before .before .before .before .before in
     let a = s .args in
@@ -580,14 +210,7 @@ by-halves-merge-requires t c κs =
     let bp = back-length (a .places .now) (x .last .1 .1 .1 .0) h (omega arith) (x .kept .1 .1 .1 .0) (y .last .1 .1 .1 .0) (y .kept .1 .1 .1 .0) in
     (omega (arith, bt, bi), omega (arith, bt), omega (arith, bd, bt), omega (arith, bp, bt))
 
-by-halves-same-length-3 : (t : ℕ) → by-halves-lts.Need-same-length-3 (
-  one-by-one-reads.Asked,
-  one-by-one-reads.Learnt,
-  by-halves-below t,
-  by-halves.Post,
-  merge-reads.Asked,
-  merge-reads.Learnt,
-) (by-halves-at t) by-halves.Post
+by-halves-same-length-3 : (t : ℕ) → by-halves-lts.Need-same-length-3 (claims t) (by-halves-at t) by-halves.Post
 by-halves-same-length-3 t c =
     let s = c .before .before .before .before .before .before .before .before .before .before .before .before .before .before .before .before .before .before .before .before .before .before .before .before .before .before .before .before .before .before .before .before .before .before .before .before .before .before .before .before in
     let a = s .args in
@@ -600,14 +223,7 @@ by-halves-same-length-3 t c =
     let bd = back-length (a .distances .now) (x .last .1 .1 .0) h (omega arith) (x .kept .1 .1 .0) (y .last .1 .1 .0) (y .kept .1 .1 .0) in
     omega (arith, bd)
 
-by-halves-same-length-4 : (t : ℕ) → by-halves-lts.Need-same-length-4 (
-  one-by-one-reads.Asked,
-  one-by-one-reads.Learnt,
-  by-halves-below t,
-  by-halves.Post,
-  merge-reads.Asked,
-  merge-reads.Learnt,
-) (by-halves-at t) by-halves.Post
+by-halves-same-length-4 : (t : ℕ) → by-halves-lts.Need-same-length-4 (claims t) (by-halves-at t) by-halves.Post
 by-halves-same-length-4 t c =
     let s = c .before .before .before .before .before .before .before .before .before .before .before .before .before .before .before .before .before .before .before .before .before .before .before .before .before .before .before .before .before .before .before .before .before .before .before .before .before .before .before .before in
     let a = s .args in
@@ -620,14 +236,7 @@ by-halves-same-length-4 t c =
     let bp = back-length (a .places .now) (x .last .1 .1 .1 .0) h (omega arith) (x .kept .1 .1 .1 .0) (y .last .1 .1 .1 .0) (y .kept .1 .1 .1 .0) in
     omega (arith, bp)
 
-by-halves-same-length-5 : (t : ℕ) → by-halves-lts.Need-same-length-5 (
-  one-by-one-reads.Asked,
-  one-by-one-reads.Learnt,
-  by-halves-below t,
-  by-halves.Post,
-  merge-reads.Asked,
-  merge-reads.Learnt,
-) (by-halves-at t) by-halves.Post
+by-halves-same-length-5 : (t : ℕ) → by-halves-lts.Need-same-length-5 (claims t) (by-halves-at t) by-halves.Post
 by-halves-same-length-5 t c =
     let s = c .before .before .before .before .before .before .before .before .before .before .before .before .before .before .before .before .before .before .before .before .before .before .before .before .before .before .before .before .before .before .before .before .before .before .before .before .before .before .before .before in
     let a = s .args in
@@ -640,14 +249,7 @@ by-halves-same-length-5 t c =
     let bt = back-length (a .ts .now) (x .last .0) h (omega arith) (x .kept .0) (y .last .0) (y .kept .0) in
     bt
 
-by-halves-same-length-6 : (t : ℕ) → by-halves-lts.Need-same-length-6 (
-  one-by-one-reads.Asked,
-  one-by-one-reads.Learnt,
-  by-halves-below t,
-  by-halves.Post,
-  merge-reads.Asked,
-  merge-reads.Learnt,
-) (by-halves-at t) by-halves.Post
+by-halves-same-length-6 : (t : ℕ) → by-halves-lts.Need-same-length-6 (claims t) (by-halves-at t) by-halves.Post
 by-halves-same-length-6 t c =
     let s = c .before .before .before .before .before .before .before .before .before .before .before .before .before .before .before .before .before .before .before .before .before .before .before .before .before .before .before .before .before .before .before .before .before .before .before .before .before .before .before .before in
     let a = s .args in
@@ -660,14 +262,7 @@ by-halves-same-length-6 t c =
     let bi = back-length (a .is .now) (x .last .1 .0) h (omega arith) (x .kept .1 .0) (y .last .1 .0) (y .kept .1 .0) in
     bi
 
-by-halves-returns-2 : (t : ℕ) → by-halves-lts.Need-returns-2 (
-  one-by-one-reads.Asked,
-  one-by-one-reads.Learnt,
-  by-halves-below t,
-  by-halves.Post,
-  merge-reads.Asked,
-  merge-reads.Learnt,
-) (by-halves-at t) by-halves.Post
+by-halves-returns-2 : (t : ℕ) → by-halves-lts.Need-returns-2 (claims t) (by-halves-at t) by-halves.Post
 by-halves-returns-2 t c =
     let s = c .before .before .before .before .before .before .before .before .before .before .before .before .before .before .before .before .before .before .before .before .before .before .before .before .before .before .before .before .before .before .before .before .before .before .before .before .before .before .before .before in
     let a = s .args in
@@ -683,14 +278,7 @@ by-halves-returns-2 t c =
     ∙ rw (q .1, q .2) refl
 
 pub +by-halves-spec : {M : Type 1} → statement M
-+by-halves-spec = close μ-by-halves λ t. by-halves-lts.spec (
-  one-by-one-reads.Asked,
-  one-by-one-reads.Learnt,
-  by-halves-below t,
-  by-halves.Post,
-  merge-reads.Asked,
-  merge-reads.Learnt,
-)
++by-halves-spec = close μ-by-halves λ t. by-halves-lts.spec (claims t)
     (by-halves-at t)
     by-halves.Post
     (by-halves-one-by-one-requires t)

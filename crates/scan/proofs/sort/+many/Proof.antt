@@ -25,54 +25,22 @@ many-at t = and 2 many-kinds.ps (is 2 many-kinds.ps μ-many t) many.Pre
 abbrev many-below : ℕ → In 2 many-kinds.ps
 many-below t = and 2 many-kinds.ps (falls 2 many-kinds.ps _<_ μ-many t) many.Pre
 
-many-slice-relend-prefix-many : (t : ℕ) → many-lts.Need-slice-relend-prefix-many (
-  many-below t,
-  many.Post,
-  one-by-one-reads.Asked,
-  one-by-one-reads.Learnt,
-  with-room-reads.Asked,
-  with-room-reads.Learnt,
-) (many-at t) many.Post
+abbrev claims : ℕ → many-lts.Claims
+claims t = (many-below t, many.Post, one-by-one-reads.Asked, one-by-one-reads.Learnt, with-room-reads.Asked, with-room-reads.Learnt)
+
+many-slice-relend-prefix-many : (t : ℕ) → many-lts.Need-slice-relend-prefix-many (claims t) (many-at t) many.Post
 many-slice-relend-prefix-many t c = omega arith
 
-many-slice-aggregate-many : (t : ℕ) → many-lts.Need-slice-aggregate-many (
-  many-below t,
-  many.Post,
-  one-by-one-reads.Asked,
-  one-by-one-reads.Learnt,
-  with-room-reads.Asked,
-  with-room-reads.Learnt,
-) (many-at t) many.Post
+many-slice-aggregate-many : (t : ℕ) → many-lts.Need-slice-aggregate-many (claims t) (many-at t) many.Post
 many-slice-aggregate-many t c = sym (length-take-le 4096 (c .before .before .before .before .args .distances .now) (omega arith))
 
-many-slice-relend-prefix-many-2 : (t : ℕ) → many-lts.Need-slice-relend-prefix-many-2 (
-  many-below t,
-  many.Post,
-  one-by-one-reads.Asked,
-  one-by-one-reads.Learnt,
-  with-room-reads.Asked,
-  with-room-reads.Learnt,
-) (many-at t) many.Post
+many-slice-relend-prefix-many-2 : (t : ℕ) → many-lts.Need-slice-relend-prefix-many-2 (claims t) (many-at t) many.Post
 many-slice-relend-prefix-many-2 t c = omega arith
 
-many-slice-aggregate-many-2 : (t : ℕ) → many-lts.Need-slice-aggregate-many-2 (
-  many-below t,
-  many.Post,
-  one-by-one-reads.Asked,
-  one-by-one-reads.Learnt,
-  with-room-reads.Asked,
-  with-room-reads.Learnt,
-) (many-at t) many.Post
+many-slice-aggregate-many-2 : (t : ℕ) → many-lts.Need-slice-aggregate-many-2 (claims t) (many-at t) many.Post
 many-slice-aggregate-many-2 t c = sym (length-take-le 4096 (c .before .before .before .before .before .args .places .now) (omega arith))
 
-many-many-requires : (t : ℕ) → many-lts.Need-many-requires (
-  many-below t,
-  many.Post,
-  one-by-one-reads.Asked,
-  one-by-one-reads.Learnt,
-  with-room-reads.Asked,
-  with-room-reads.Learnt,
-) (many-at t) many.Post
+many-many-requires : (t : ℕ) → many-lts.Need-many-requires (claims t) (many-at t) many.Post
 many-many-requires t c κs =
     let s = c .before .before .before .before .before in
     let a = s .args in
@@ -80,14 +48,7 @@ many-many-requires t c κs =
     let p = length-take-le 4096 (a .places .now) (omega arith) in
     (omega (arith, d, s .pre .0), (d ∙ sym p, numbers-halves (a .distances .now) (a .places .now) 4096 (s .pre .1 .0) (omega arith) (s .pre .1 .1) .0))
 
-many-one-by-one-requires : (t : ℕ) → many-lts.Need-one-by-one-requires (
-  many-below t,
-  many.Post,
-  one-by-one-reads.Asked,
-  one-by-one-reads.Learnt,
-  with-room-reads.Asked,
-  with-room-reads.Learnt,
-) (many-at t) many.Post
+many-one-by-one-requires : (t : ℕ) → many-lts.Need-one-by-one-requires (claims t) (many-at t) many.Post
 many-one-by-one-requires t c κs =
     let x = c .before .before .before .before .before .before .many in
     let a = c .before .before .before .before .before .before .before .before .before .before .before .before .args in
@@ -95,38 +56,17 @@ many-one-by-one-requires t c κs =
     let p = length-front (a .places .now) (x .last .1 .0) 4096 (x .kept .1 .0) in
     (omega (arith, d, p), omega (arith, d))
 
-many-same-length : (t : ℕ) → many-lts.Need-same-length (
-  many-below t,
-  many.Post,
-  one-by-one-reads.Asked,
-  one-by-one-reads.Learnt,
-  with-room-reads.Asked,
-  with-room-reads.Learnt,
-) (many-at t) many.Post
+many-same-length : (t : ℕ) → many-lts.Need-same-length (claims t) (many-at t) many.Post
 many-same-length t c =
     let x = c .before .before .before .before .before .before .before .before .before .before .before .many in
     c .before .before .before .before .one-by-one .kept .0 ∙ length-front (c .before .before .before .before .before .before .before .before .before .before .before .before .before .before .before .before .before .args .distances .now) (x .last .0) 4096 (x .kept .0)
 
-many-same-length-2 : (t : ℕ) → many-lts.Need-same-length-2 (
-  many-below t,
-  many.Post,
-  one-by-one-reads.Asked,
-  one-by-one-reads.Learnt,
-  with-room-reads.Asked,
-  with-room-reads.Learnt,
-) (many-at t) many.Post
+many-same-length-2 : (t : ℕ) → many-lts.Need-same-length-2 (claims t) (many-at t) many.Post
 many-same-length-2 t c =
     let x = c .before .before .before .before .before .before .before .before .before .before .before .many in
     c .before .before .before .before .one-by-one .kept .1 .0 ∙ length-front (c .before .before .before .before .before .before .before .before .before .before .before .before .before .before .before .before .before .args .places .now) (x .last .1 .0) 4096 (x .kept .1 .0)
 
-many-returns : (t : ℕ) → many-lts.Need-returns (
-  many-below t,
-  many.Post,
-  one-by-one-reads.Asked,
-  one-by-one-reads.Learnt,
-  with-room-reads.Asked,
-  with-room-reads.Learnt,
-) (many-at t) many.Post
+many-returns : (t : ℕ) → many-lts.Need-returns (claims t) (many-at t) many.Post
 many-returns t c =
     let x = c .before .before .before .before .before .before .before .before .before .before .before .many in
     let s = c .before .before .before .before .before .before .before .before .before .before .before .before .before .before .before .before .before in
@@ -134,98 +74,35 @@ many-returns t c =
     c .before .before .before .before .one-by-one .ensures
     ∙ then-inserted (a .distances .now) (x .last .0) (a .places .now) (x .last .1 .0) 4096 (s .pre .1 .0) (omega arith) (x .kept .0) (x .kept .1 .0) (x .ensures)
 
-many-array-borrow-prefix-ts : (t : ℕ) → many-lts.Need-array-borrow-prefix-ts (
-  many-below t,
-  many.Post,
-  one-by-one-reads.Asked,
-  one-by-one-reads.Learnt,
-  with-room-reads.Asked,
-  with-room-reads.Learnt,
-) (many-at t) many.Post
+many-array-borrow-prefix-ts : (t : ℕ) → many-lts.Need-array-borrow-prefix-ts (claims t) (many-at t) many.Post
 many-array-borrow-prefix-ts t c = search needs
 
-many-slice-aggregate-with-room : (t : ℕ) → many-lts.Need-slice-aggregate-with-room (
-  many-below t,
-  many.Post,
-  one-by-one-reads.Asked,
-  one-by-one-reads.Learnt,
-  with-room-reads.Asked,
-  with-room-reads.Learnt,
-) (many-at t) many.Post
+many-slice-aggregate-with-room : (t : ℕ) → many-lts.Need-slice-aggregate-with-room (claims t) (many-at t) many.Post
 many-slice-aggregate-with-room t c = sym (length-take-le _ _ (c .before .before .before .if1 .left))
 
-many-array-borrow-prefix-is : (t : ℕ) → many-lts.Need-array-borrow-prefix-is (
-  many-below t,
-  many.Post,
-  one-by-one-reads.Asked,
-  one-by-one-reads.Learnt,
-  with-room-reads.Asked,
-  with-room-reads.Learnt,
-) (many-at t) many.Post
+many-array-borrow-prefix-is : (t : ℕ) → many-lts.Need-array-borrow-prefix-is (claims t) (many-at t) many.Post
 many-array-borrow-prefix-is t c = search needs
 
-many-slice-aggregate-with-room-2 : (t : ℕ) → many-lts.Need-slice-aggregate-with-room-2 (
-  many-below t,
-  many.Post,
-  one-by-one-reads.Asked,
-  one-by-one-reads.Learnt,
-  with-room-reads.Asked,
-  with-room-reads.Learnt,
-) (many-at t) many.Post
+many-slice-aggregate-with-room-2 : (t : ℕ) → many-lts.Need-slice-aggregate-with-room-2 (claims t) (many-at t) many.Post
 many-slice-aggregate-with-room-2 t c = sym (length-take-le _ _ (c .before .before .before .before .if1 .left))
 
-many-with-room-requires : (t : ℕ) → many-lts.Need-with-room-requires (
-  many-below t,
-  many.Post,
-  one-by-one-reads.Asked,
-  one-by-one-reads.Learnt,
-  with-room-reads.Asked,
-  with-room-reads.Learnt,
-) (many-at t) many.Post
+many-with-room-requires : (t : ℕ) → many-lts.Need-with-room-requires (claims t) (many-at t) many.Post
 many-with-room-requires t c κs =
     let p = c .before .before .before .before .before .before .before .pre .1 in
     let h = c .before .before .before .before .if1 .left in
     (p .0, length-take-le _ _ h, length-take-le _ _ h ∙ p .0, p .1)
 
-many-same-length-3 : (t : ℕ) → many-lts.Need-same-length-3 (
-  many-below t,
-  many.Post,
-  one-by-one-reads.Asked,
-  one-by-one-reads.Learnt,
-  with-room-reads.Asked,
-  with-room-reads.Learnt,
-) (many-at t) many.Post
+many-same-length-3 : (t : ℕ) → many-lts.Need-same-length-3 (claims t) (many-at t) many.Post
 many-same-length-3 t c = search needs
 
-many-same-length-4 : (t : ℕ) → many-lts.Need-same-length-4 (
-  many-below t,
-  many.Post,
-  one-by-one-reads.Asked,
-  one-by-one-reads.Learnt,
-  with-room-reads.Asked,
-  with-room-reads.Learnt,
-) (many-at t) many.Post
+many-same-length-4 : (t : ℕ) → many-lts.Need-same-length-4 (claims t) (many-at t) many.Post
 many-same-length-4 t c = search needs
 
-many-returns-2 : (t : ℕ) → many-lts.Need-returns-2 (
-  many-below t,
-  many.Post,
-  one-by-one-reads.Asked,
-  one-by-one-reads.Learnt,
-  with-room-reads.Asked,
-  with-room-reads.Learnt,
-) (many-at t) many.Post
+many-returns-2 : (t : ℕ) → many-lts.Need-returns-2 (claims t) (many-at t) many.Post
 many-returns-2 t c = search needs
 
 pub +many-spec : {M : Type 1} → statement M
-+many-spec = close μ-many λ t. many-lts.spec (
-  many-below t,
-  many.Post,
-  one-by-one-reads.Asked,
-  one-by-one-reads.Learnt,
-  with-room-reads.Asked,
-  with-room-reads.Learnt,
-)
++many-spec = close μ-many λ t. many-lts.spec (claims t)
     (many-at t)
     many.Post
     (many-slice-relend-prefix-many t)
