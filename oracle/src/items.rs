@@ -91,8 +91,9 @@ pub fn made(module: &str) -> Vec<Item> {
     let c = &mut chance;
     match module {
         "rays" => {
-            let mut out: Vec<Item> = (0..12).map(|k| stack(c, k % 3 == 0)).collect();
+            let mut out: Vec<Item> = (0..12).map(|k| stack(c, 7, k % 3 == 0, 0.4)).collect();
             out.extend(at_the_bounds());
+            out.extend([(97, false), (200, true), (256, false)].map(|(sheets, tied)| stack(c, sheets, tied, 0.97)));
             out
         }
         "masks" => {
@@ -282,17 +283,17 @@ fn faintly_lit(c: &mut Chance, k: usize) -> Bake {
     single(lists, [0.0, 0.0, -1.0, 1.0, 1.0, 1.0], ambient, [0.0, 0.0, 0.0])
 }
 
-/// Translucent sheets in no order of place, some of them at one distance: the order of the product shows in its last bits.
-fn stack(c: &mut Chance, tied: bool) -> Item {
+/// Translucent sheets in no order of place, some of them at one distance: the order of the product shows in its last bits. Each lets through at least so much.
+fn stack(c: &mut Chance, sheets: usize, tied: bool, least: f32) -> Item {
     let mut lists = Lists::default();
-    let mut levels: Vec<f32> = (0..7).map(|k| if tied { (k / 3) as f32 } else { k as f32 }).collect();
+    let mut levels: Vec<f32> = (0..sheets).map(|k| if tied { (k / 3) as f32 } else { k as f32 }).collect();
     for k in 0..levels.len() {
         let other = c.below(levels.len());
         levels.swap(k, other);
     }
     for (k, z) in levels.iter().enumerate() {
         lists.kinds.push(1);
-        lists.numbers.extend([0.5, 0.5, 0.5, 0.0, 0.0, 0.0, c.between(0.4, 1.0)]);
+        lists.numbers.extend([0.5, 0.5, 0.5, 0.0, 0.0, 0.0, c.between(least, 1.0)]);
         lists.points.extend([-4.0, -4.0, *z, 8.0, -4.0, *z, -4.0, 8.0, *z]);
         lists.uses.push(k as u32);
     }
@@ -300,7 +301,7 @@ fn stack(c: &mut Chance, tied: bool) -> Item {
     let asked = (0..6)
         .map(|k| {
             let up = k % 2 == 0;
-            let origin = [c.between(0.0, 1.0), c.between(0.0, 1.0), if up { -1.0 } else { 9.0 }];
+            let origin = [c.between(0.0, 1.0), c.between(0.0, 1.0), if up { -1.0 } else { sheets as f32 + 2.0 }];
             (true, Ray { origin, direction: [0.0, 0.0, if up { 1.0 } else { -1.0 }], shortest: 0.0, longest: f32::INFINITY })
         })
         .collect();

@@ -1,5 +1,5 @@
 //! The measured calls by the port.
-use crate::hall::{Hall, AMBIENT, AXES, COLOUR, CORNERS, DIRECTION, KINDS, MATERIALS, NUMBERS, TRIANGLES, VOXELS};
+use crate::hall::{Hall, Panes, AMBIENT, AXES, COLOUR, CORNERS, DIRECTION, KINDS, MATERIALS, NUMBERS, PANE_KINDS, PANE_NUMBERS, TRIANGLES, VOXELS};
 use crate::port::{self, Ambient, Axes, CoefficientsAt, Corners, Light, LightAt, Ray, RayHit, Transmitted, Triangle, Vec3};
 use crate::{bits, measure, met, Lists, MET, POSITIONS, RAYS, SHORTEST};
 
@@ -175,7 +175,23 @@ pub fn answer(call: &str, turns: Option<usize>, hall: &Hall, lists: &Lists) -> V
             });
             s.coefficients.iter().flat_map(|x| bits(&x.numbers)).collect()
         }
-        _ => panic!("no call {call}"),
+        _ => {
+            let panes = Panes::named(call).unwrap_or_else(|| panic!("no call {call}"));
+            let (rays, n) = (Panes::through().iter().map(ray).collect::<Vec<Ray>>(), panes.uses.len());
+            s.distances = vec![0.0; n];
+            s.places = vec![0; n];
+            measure(turns, s, |s| s.passed.clear(), |s| {
+                for ray in &rays {
+                    s.passed.push(unsafe {
+                        port::geaidnosa_transmittance(
+                            panes.points.as_ptr(), 9 * n, panes.uses.as_ptr(), n, PANE_KINDS.as_ptr(), 4, PANE_NUMBERS.as_ptr(), 28, *ray,
+                            s.distances.as_mut_ptr(), n, s.places.as_mut_ptr(), n,
+                        )
+                    });
+                }
+            });
+            s.passed.iter().map(|p| p.transmittance.to_bits()).collect()
+        }
     };
     assert!(!state.refused(), "{call} was refused");
     words

@@ -1,5 +1,5 @@
 //! The measured calls by the Rust that the port comes from. Its ray tracer stands ready, as the port's lists do.
-use crate::hall::{Hall, AXES, CORNERS, SCENE_LIGHT, AMBIENT, KINDS, NUMBERS, TRIANGLES, VOXELS};
+use crate::hall::{Hall, Panes, AMBIENT, AXES, CORNERS, KINDS, NUMBERS, PANE_KINDS, PANE_NUMBERS, SCENE_LIGHT, TRIANGLES, VOXELS};
 use crate::math::Vec3x4;
 use crate::raytracer::{ray_triangle_intersect, Hit, RayTracer};
 use crate::scene::{recorded_directions, Scene};
@@ -172,6 +172,18 @@ pub fn answer(call: &str, turns: Option<usize>, hall: &Hall, lists: &Lists) -> V
             };
             s.coefficients.iter().flat_map(numbers).collect()
         }
-        _ => panic!("no call {call}"),
+        _ => {
+            let panes = Panes::named(call).unwrap_or_else(|| panic!("no call {call}"));
+            let scene = Scene::new(&panes.points, &panes.uses, &PANE_KINDS, &PANE_NUMBERS, SCENE_LIGHT, AMBIENT, &hall.sky, &[]);
+            let tracer = RayTracer::new(&scene);
+            assert!(tracer.triangles().len() == panes.uses.len(), "no pane is absent, so places are indices");
+            let rays: Vec<(Vec3A, Vec3A)> = Panes::through().iter().map(|r| (vec3a(&r.origin), vec3a(&r.direction))).collect();
+            measure(turns, s, |s| s.passed.clear(), |s| {
+                for (origin, direction) in &rays {
+                    s.passed.push(tracer.trace_transmittance(*origin, *direction, &scene, SHORTEST, f32::INFINITY));
+                }
+            });
+            bits(&s.passed)
+        }
     }
 }

@@ -81,6 +81,53 @@ impl Hall {
     }
 }
 
+/// Panes one behind the other, each a triangle that every ray passes, of four clear materials whose product depends on the order.
+pub struct Panes {
+    pub points: Vec<f32>,
+    pub uses: Vec<u32>,
+}
+
+pub const PANE_KINDS: [u8; 4] = [1; 4];
+pub const PANE_NUMBERS: [f32; 28] = [
+    0.9, 0.9, 0.9, 0.0, 0.0, 0.0, 1.0, //
+    0.9, 0.9, 0.9, 0.0, 0.0, 0.0, 0.9999, //
+    0.9, 0.9, 0.9, 0.0, 0.0, 0.0, 0.9997, //
+    0.9, 0.9, 0.9, 0.0, 0.0, 0.0, 0.9995,
+];
+/// Rays through the panes.
+pub const PANE_RAYS: usize = 8;
+
+impl Panes {
+    /// "N panes near first", "N panes far first" or "N panes mixed": in which order the list has them.
+    pub fn named(call: &str) -> Option<Self> {
+        let (count, order) = call.split_once(" panes ")?;
+        let count: usize = count.parse().ok()?;
+        let mut depths: Vec<usize> = (0..count).collect();
+        match order {
+            "near first" => {}
+            "far first" => depths.reverse(),
+            "mixed" => {
+                let mut chance = Chance::new(2);
+                for i in (1..count).rev() {
+                    depths.swap(i, chance.between(0.0, i as f32) as usize);
+                }
+            }
+            _ => return None,
+        }
+        let mut panes = Panes { points: vec![], uses: vec![] };
+        for depth in depths {
+            let z = 1.0 + depth as f32 * 0.25;
+            panes.points.extend([-4000.0, -4000.0, z, 4000.0, -4000.0, z, 0.0, 4000.0, z]);
+            panes.uses.push(depth as u32 * 7 % 4);
+        }
+        Some(panes)
+    }
+
+    pub fn through() -> Vec<Line> {
+        (0..PANE_RAYS).map(|i| Line { origin: [i as f32, 1.0, 0.0], direction: [0.01 * i as f32, 0.02, 1.0] }).collect()
+    }
+}
+
 /// A position in the hall or a little outside.
 pub fn position(chance: &mut Chance) -> [f32; 3] {
     [chance.between(-0.5, 16.5), chance.between(-0.5, 12.5), chance.between(-0.5, 8.5)]

@@ -13,7 +13,7 @@ use Rattle.names.specs.Bits.{zero32}
 use Rattle.lists.specs.Fold.{fold, tab}
 use Rattle.lists.specs.Any.{any, any-in, any-out}
 use Rattle.means.specs.Box.{firstNear, pastNear, near, along, around, oneMore, plus, meanIn, meanAt, meanOf}
-use Rattle.means.specs.Sums.{rowSum, planeSum, boxSum}
+use Rattle.means.specs.Sums.{spanOf, rowSum, planeSum, boxSum}
 
 -- a fold that adds b at each number adds b as often as there are numbers
 fold-adds : (f : ℕ → ℕ → ℕ) (b : ℕ) → ((i s : ℕ) → f i s ≡ s + b) → (k i s : ℕ) → fold f k i s ≡ s + k * b
@@ -35,14 +35,14 @@ box-count w h d x y z =
 
 -- the sum that is divided, as the loops go: by planes, rows and cells
 pub box-sum : (src : List Float) (stride c w h d x y z : ℕ) (s : Float)
-    → boxSum src stride c w h (firstNear x) (pastNear x w) (firstNear y) (pastNear y h) (firstNear z) (pastNear z d) s ≡ around w h d x y z (plus src stride c) s
+    → boxSum src stride c w h (spanOf x w) (spanOf y h) (spanOf z d) s ≡ around w h d x y z (plus src stride c) s
 unfolding boxSum planeSum rowSum around along
 box-sum src stride c w h d x y z s = refl
 
 -- so the mean is the sum by planes, rows and cells over the product of the box's sides
 pub mean-by-rows : (src : List Float) (stride c w h d x y z : ℕ)
     → meanIn src stride c w h d x y z
-    ≡ div binary32 (boxSum src stride c w h (firstNear x) (pastNear x w) (firstNear y) (pastNear y h) (firstNear z) (pastNear z d) zero32)
+    ≡ div binary32 (boxSum src stride c w h (spanOf x w) (spanOf y h) (spanOf z d) zero32)
     (ofInt binary32 (pos (near z d * (near y h * near x w))))
 unfolding meanIn
 mean-by-rows src stride c w h d x y z = rw (box-count w h d x y z, box-sum src stride c w h d x y z zero32) refl

@@ -8,6 +8,7 @@ ghost use mathlib.Core.List.{_++_};
 ghost use Rattle.lists.specs.Fold.{tab};
 ghost use Rattle.means.specs.Box.{firstNear, pastNear, plus, meanIn, meanAt, squareAt, lightBlurOf, coefficientBlurOf};
 ghost use Rattle.means.specs.Sums.{rowSum, planeSum, boxSum, each};
+use super::Span;
 
 // The mean of each number of src, sixteen a voxel, in dst.
 pub fn mean(src: &[f32], dst: &mut [f32], w: usize, h: usize, d: usize)
@@ -50,42 +51,44 @@ fn square_at(src: &[f32], w: usize, h: usize, d: usize, i: usize) -> f32
     requires { ⌜ (0 < w) × (0 < h) × (d * h * w ≡ length (now src)) × (i < length (now src)) ⌝ }
     ensures { λ r. ⌜ r ≡ squareAt (now (src .entry)) w h d i ⌝ }
 {
-    let q = mean_at(src, 1, w, h, d, i);
+    let q = mean_at(src, w, h, d, i);
     q * q
 }
 
-fn mean_at(src: &[f32], stride: usize, w: usize, h: usize, d: usize, i: usize) -> f32
-    requires { ⌜ (0 < stride) × (0 < w) × (0 < h) × (d * h * w * stride ≡ length (now src)) × (i < length (now src)) ⌝ }
-    ensures { λ r. ⌜ r ≡ meanAt (now (src .entry)) stride w h d i ⌝ }
+fn mean_at(src: &[f32], w: usize, h: usize, d: usize, i: usize) -> f32
+    requires { ⌜ (0 < w) × (0 < h) × (d * h * w ≡ length (now src)) × (i < length (now src)) ⌝ }
+    ensures { λ r. ⌜ r ≡ meanAt (now (src .entry)) 1 w h d i ⌝ }
 {
-    let v = i / stride;
-    let r = v / w;
-    mean_in(src, stride, i % stride, w, h, d, v % w, r % h, r / h)
+    let r = i / w;
+    mean_in(src, w, h, d, i % w, r % h, r / h)
 }
 
-// The mean of the numbers at place c of the voxels round (x, y, z).
-fn mean_in(
-    src: &[f32],
-    stride: usize,
-    c: usize,
-    w: usize,
-    h: usize,
-    d: usize,
-    x: usize,
-    y: usize,
-    z: usize,
-) -> f32
-    requires { ⌜ (c < stride) × (x < w) × (y < h) × (z < d) × (d * h * w * stride ≤ length (now src)) ⌝ }
-    ensures { λ r. ⌜ r ≡ meanIn (now (src .entry)) stride c w h d x y z ⌝ }
+// The mean of the numbers of the voxels round (x, y, z).
+fn mean_in(src: &[f32], w: usize, h: usize, d: usize, x: usize, y: usize, z: usize) -> f32
+    requires { ⌜ (x < w) × (y < h) × (z < d) × (d * h * w ≤ length (now src)) ⌝ }
+    ensures { λ r. ⌜ r ≡ meanIn (now (src .entry)) 1 0 w h d x y z ⌝ }
 {
-    let f = first_near(x);
-    let t = past_near(x, w);
-    let g = first_near(y);
-    let u = past_near(y, h);
-    let m = first_near(z);
-    let n = past_near(z, d);
-    let s = box_sum(src, stride, c, w, h, f, t, g, u, m, n, 0.0);
-    s / cells(t - f, u - g, n - m)
+    let columns = near(x, w);
+    let rows = near(y, h);
+    let planes = near(z, d);
+    let sum = box_sum(src, w, h, columns, rows, planes, 0.0);
+    sum
+        / cells(
+            columns.past - columns.first,
+            rows.past - rows.first,
+            planes.past - planes.first,
+        )
+}
+
+// The coordinates within 1 of x on an axis of n.
+fn near(x: usize, n: usize) -> Span
+    requires { ⌜ x < n ⌝ }
+    ensures { λ r. ⌜ (r .first ≡ firstNear x) × (r .past ≡ pastNear x n) ⌝ }
+{
+    Span {
+        first: first_near(x),
+        past: past_near(x, n),
+    }
 }
 
 // The first coordinate within 1 of x.
@@ -117,65 +120,41 @@ fn cells(a: usize, b: usize, c: usize) -> f32
     (c * (b * a)) as u16 as f32
 }
 
-// The planes from m to n added to s, of each the rows from g to u, of each the cells from f to t.
-fn box_sum(
-    src: &[f32],
-    stride: usize,
-    c: usize,
-    w: usize,
-    h: usize,
-    f: usize,
-    t: usize,
-    g: usize,
-    u: usize,
-    m: usize,
-    n: usize,
-    s: f32,
-) -> f32
-    requires { ⌜ (c < stride) × (f ≤ t) × (t ≤ w) × (g ≤ u) × (u ≤ h) × (m ≤ n) × (0 < w) × (0 < h) × (n * h * w * stride ≤ length (now src)) ⌝ }
-    ensures { λ r. ⌜ r ≡ boxSum (now (src .entry)) stride c w h f t g u m n s ⌝ }
+// The planes of a box added to s, of each its rows, of each the numbers of its columns.
+fn box_sum(src: &[f32], w: usize, h: usize, columns: Span, rows: Span, planes: Span, s: f32) -> f32
+    requires { ⌜ (columns .first ≤ columns .past) × (columns .past ≤ w) × (rows .first ≤ rows .past) × (rows .past ≤ h) × (planes .first ≤ planes .past) × (0 < w) × (0 < h) × (planes .past * h * w ≤ length (now src)) ⌝ }
+    ensures { λ r. ⌜ r ≡ boxSum (now (src .entry)) 1 0 w h columns rows planes s ⌝ }
 {
     let mut sum = s;
-    let mut z = m;
-    while z < n {
-        sum = plane_sum(src, stride, c, w, f, t, z * h, g, u, sum);
+    let mut z = planes.first;
+    while z < planes.past {
+        sum = plane_sum(src, w, columns, z * h, rows, sum);
         z += 1;
     }
     sum
 }
 
-fn plane_sum(
-    src: &[f32],
-    stride: usize,
-    c: usize,
-    w: usize,
-    f: usize,
-    t: usize,
-    plane: usize,
-    g: usize,
-    u: usize,
-    s: f32,
-) -> f32
-    requires { ⌜ (c < stride) × (f ≤ t) × (t ≤ w) × (g ≤ u) × (0 < w) × ((plane + u) * w * stride ≤ length (now src)) ⌝ }
-    ensures { λ r. ⌜ r ≡ planeSum (now (src .entry)) stride c w f t plane g u s ⌝ }
+fn plane_sum(src: &[f32], w: usize, columns: Span, plane: usize, rows: Span, s: f32) -> f32
+    requires { ⌜ (columns .first ≤ columns .past) × (columns .past ≤ w) × (rows .first ≤ rows .past) × (0 < w) × ((plane + rows .past) * w ≤ length (now src)) ⌝ }
+    ensures { λ r. ⌜ r ≡ planeSum (now (src .entry)) 1 0 w columns plane rows s ⌝ }
 {
     let mut sum = s;
-    let mut y = g;
-    while y < u {
-        sum = row_sum(src, stride, c, (plane + y) * w, f, t, sum);
+    let mut y = rows.first;
+    while y < rows.past {
+        sum = row_sum(src, (plane + y) * w, columns, sum);
         y += 1;
     }
     sum
 }
 
-fn row_sum(src: &[f32], stride: usize, c: usize, row: usize, f: usize, t: usize, s: f32) -> f32
-    requires { ⌜ (c < stride) × (f ≤ t) × ((row + t) * stride ≤ length (now src)) ⌝ }
-    ensures { λ r. ⌜ r ≡ rowSum (now (src .entry)) stride c row f t s ⌝ }
+fn row_sum(src: &[f32], row: usize, columns: Span, s: f32) -> f32
+    requires { ⌜ (columns .first ≤ columns .past) × (row + columns .past ≤ length (now src)) ⌝ }
+    ensures { λ r. ⌜ r ≡ rowSum (now (src .entry)) 1 0 row columns s ⌝ }
 {
     let mut sum = s;
-    let mut x = f;
-    while x < t {
-        sum = sum + src[(row + x) * stride + c];
+    let mut x = columns.first;
+    while x < columns.past {
+        sum = sum + src[row + x];
         x += 1;
     }
     sum
@@ -204,14 +183,18 @@ fn means_in(src: &[f32], w: usize, h: usize, d: usize, x: usize, y: usize, z: us
     requires { ⌜ (x < w) × (y < h) × (z < d) × (d * h * w * 16 ≤ length (now src)) ⌝ }
     ensures { λ r. ⌜ r ≡ each (λ k. meanIn (now (src .entry)) 16 k w h d x y z) ⌝ }
 {
-    let f = first_near(x);
-    let t = past_near(x, w);
-    let g = first_near(y);
-    let u = past_near(y, h);
-    let m = first_near(z);
-    let n = past_near(z, d);
-    let s = box_sums(src, w, h, f, t, g, u, m, n, [0.0; 16]);
-    shares(s, cells(t - f, u - g, n - m))
+    let columns = near(x, w);
+    let rows = near(y, h);
+    let planes = near(z, d);
+    let sums = box_sums(src, w, h, columns, rows, planes, [0.0; 16]);
+    shares(
+        sums,
+        cells(
+            columns.past - columns.first,
+            rows.past - rows.first,
+            planes.past - planes.first,
+        ),
+    )
 }
 
 // Each sum over the count.
@@ -231,21 +214,18 @@ fn box_sums(
     src: &[f32],
     w: usize,
     h: usize,
-    f: usize,
-    t: usize,
-    g: usize,
-    u: usize,
-    m: usize,
-    n: usize,
+    columns: Span,
+    rows: Span,
+    planes: Span,
     s: [f32; 16],
 ) -> [f32; 16]
-    requires { ⌜ (f ≤ t) × (t ≤ w) × (g ≤ u) × (u ≤ h) × (m ≤ n) × (0 < w) × (0 < h) × (n * h * w * 16 ≤ length (now src)) × (length s ≡ 16) ⌝ }
-    ensures { λ r. ⌜ r ≡ each (λ k. boxSum (now (src .entry)) 16 k w h f t g u m n (getD s k nan)) ⌝ }
+    requires { ⌜ (columns .first ≤ columns .past) × (columns .past ≤ w) × (rows .first ≤ rows .past) × (rows .past ≤ h) × (planes .first ≤ planes .past) × (0 < w) × (0 < h) × (planes .past * h * w * 16 ≤ length (now src)) × (length s ≡ 16) ⌝ }
+    ensures { λ r. ⌜ r ≡ each (λ k. boxSum (now (src .entry)) 16 k w h columns rows planes (getD s k nan)) ⌝ }
 {
     let mut sum = s;
-    let mut z = m;
-    while z < n {
-        let next = plane_sums(src, w, f, t, z * h, g, u, sum);
+    let mut z = planes.first;
+    while z < planes.past {
+        let next = plane_sums(src, w, columns, z * h, rows, sum);
         sum = next;
         z += 1;
     }
@@ -255,33 +235,31 @@ fn box_sums(
 fn plane_sums(
     src: &[f32],
     w: usize,
-    f: usize,
-    t: usize,
+    columns: Span,
     plane: usize,
-    g: usize,
-    u: usize,
+    rows: Span,
     s: [f32; 16],
 ) -> [f32; 16]
-    requires { ⌜ (f ≤ t) × (t ≤ w) × (g ≤ u) × (0 < w) × ((plane + u) * w * 16 ≤ length (now src)) × (length s ≡ 16) ⌝ }
-    ensures { λ r. ⌜ r ≡ each (λ k. planeSum (now (src .entry)) 16 k w f t plane g u (getD s k nan)) ⌝ }
+    requires { ⌜ (columns .first ≤ columns .past) × (columns .past ≤ w) × (rows .first ≤ rows .past) × (0 < w) × ((plane + rows .past) * w * 16 ≤ length (now src)) × (length s ≡ 16) ⌝ }
+    ensures { λ r. ⌜ r ≡ each (λ k. planeSum (now (src .entry)) 16 k w columns plane rows (getD s k nan)) ⌝ }
 {
     let mut sum = s;
-    let mut y = g;
-    while y < u {
-        let next = row_sums(src, (plane + y) * w, f, t, sum);
+    let mut y = rows.first;
+    while y < rows.past {
+        let next = row_sums(src, (plane + y) * w, columns, sum);
         sum = next;
         y += 1;
     }
     sum
 }
 
-fn row_sums(src: &[f32], row: usize, f: usize, t: usize, s: [f32; 16]) -> [f32; 16]
-    requires { ⌜ (f ≤ t) × ((row + t) * 16 ≤ length (now src)) × (length s ≡ 16) ⌝ }
-    ensures { λ r. ⌜ r ≡ each (λ k. rowSum (now (src .entry)) 16 k row f t (getD s k nan)) ⌝ }
+fn row_sums(src: &[f32], row: usize, columns: Span, s: [f32; 16]) -> [f32; 16]
+    requires { ⌜ (columns .first ≤ columns .past) × ((row + columns .past) * 16 ≤ length (now src)) × (length s ≡ 16) ⌝ }
+    ensures { λ r. ⌜ r ≡ each (λ k. rowSum (now (src .entry)) 16 k row columns (getD s k nan)) ⌝ }
 {
     let mut sum = s;
-    let mut x = f;
-    while x < t {
+    let mut x = columns.first;
+    while x < columns.past {
         let next = with_voxel(src, row + x, sum);
         sum = next;
         x += 1;

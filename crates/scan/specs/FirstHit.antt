@@ -12,13 +12,13 @@ use Rattle.triangle.specs.Meet.{meetOf}
 use Rattle.triangle.specs.Missed.{Missed}
 use Rattle.triangle.specs.Places.{triangleAt}
 use Rattle.triangle.specs.declared.Meet.the-variants.{Miss, Hit}
-use Rattle.scan.specs.declared.FirstHit.{FirstHit}
-use Rattle.scan.specs.declared.FirstHit.the-variants.{Nothing, At}
+use Rattle.scan.specs.declared.Nearest.{Nearest}
+use Rattle.scan.specs.declared.Nearest.the-variants.{Nothing, At}
 use Rattle.scan.specs.Nearest.{nearerOf, nearestTo}
 use Rattle.scan.specs.Hits.{struck, insertOf, withMeet, hitsOf}
 
 -- what is the first hit from place i up to place n: none where all are missed; otherwise a hit, and all before it are missed
-abbrev pub FirstFrom : List Float → Ray → ℕ → ℕ → FirstHit → Type 0
+abbrev pub FirstFrom : List Float → Ray → ℕ → ℕ → Nearest → Type 0
 FirstFrom points ray i n Nothing = Missed points ray i n
 FirstFrom points ray i n (At j t u v) =
     (i ≤ j) × (j < n) × Missed points ray i j × (meetOf ray (triangleAt points j) ≡ Hit t u v)

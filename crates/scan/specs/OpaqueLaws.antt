@@ -1,19 +1,23 @@
--- An opaque hit lets no light through, at whatever place of the order it stands. So the scan for a transmittance may end at the first that it meets.
+-- An opaque hit lets no light through, at whatever place of the order it stands. So the scan for a transmittance may end at the first that it meets, and
+-- where it meets none the product need not ask.
 use mathlib.Core.Path.{_≡_, refl, ap}
 use mathlib.Core.Bool.{Bool, true, false, cond}
 use mathlib.Core.Logic.{⊎-elim}
 use mathlib.Core.List.{List, [], _∷_, List·Memᴰ, List·Memᴰ·head, List·Memᴰ·tail, List·Memᴰ·cases-cons, List·Memᴰ·not-nil}
 use Prim.Native.Nat.{ℕ, _<_}
 use lib.ListN.{length}
-use lib.Ieee.{Float}
+use lib.Dec.{eqb}
+use lib.Ieee as Ieee
+use lib.Ieee.{Float, binary32}
 use Rattle.names.specs.Bits.{zero32, one32}
+use Rattle.names.specs.Numbers.{faintLimit}
 use Rattle.names.specs.Scene.{Scene}
 use Rattle.vectors.specs.declared.Ray.{Ray}
 use Rattle.triangle.specs.declared.Meet.the-variants.{Hit}
 use Rattle.scan.specs.Nearest.{meetAt}
-use Rattle.scan.specs.Hits.{Struck, placesOf}
-use Rattle.scan.specs.HitLaws.{hits-all}
-use Rattle.scan.specs.Transmittance.{kindAt, passOf, transmittanceOf}
+use Rattle.scan.specs.Hits.{Struck, insertOf, placesOf}
+use Rattle.scan.specs.HitLaws.{put-only, hits-all}
+use Rattle.scan.specs.Transmittance.{kindAt, transmissionAt, passOf, transmittanceOf}
 
 either-way : (b : Bool) (x : Float) → cond b x x ≡ x
 either-way true x = refl
@@ -39,3 +43,26 @@ unfolding transmittanceOf
 opaque-dark scene ray i t u v h e k =
     opaque-pass (scene .uses) (scene .kinds) (scene .numbers) one32 i _
     (place-of _ (hits-all (scene .points) ray (length (scene .uses)) i t u v h e)) k
+
+-- what is left of w after the hits at these places, of which none is opaque
+unfoldable pub clearPassOf : List ℕ → List Float → Float → List ℕ → Float
+clearPassOf uses numbers w [] = w
+clearPassOf uses numbers w (i ∷ is) =
+    let x = Ieee.mul binary32 w (transmissionAt uses numbers i) in
+    cond (Ieee.le x faintLimit) zero32 (clearPassOf uses numbers x is)
+
+-- no hit of a list is opaque
+abbrev pub NoneOpaque : List ℕ → List ℕ → List Struck → Type 0
+NoneOpaque uses kinds hs = (h : Struck) → List·Memᴰ h hs → eqb (kindAt uses kinds (h .place)) 0 ≡ false
+
+pub clear-pass : (uses kinds : List ℕ) (numbers : List Float) (w : Float) (hs : List Struck) → NoneOpaque uses kinds hs
+    → passOf uses kinds numbers w (placesOf hs) ≡ clearPassOf uses numbers w (placesOf hs)
+unfolding passOf clearPassOf
+clear-pass uses kinds numbers w [] n = refl
+clear-pass uses kinds numbers w (h ∷ hs) n =
+    rw (n h (List·Memᴰ·head refl), clear-pass uses kinds numbers (Ieee.mul binary32 w (transmissionAt uses numbers (h .place))) hs (λ g m. n g (List·Memᴰ·tail m)))
+
+-- one more that is not opaque
+pub none-opaque-put : (uses kinds : List ℕ) (h : Struck) (hs : List Struck) → eqb (kindAt uses kinds (h .place)) 0 ≡ false → NoneOpaque uses kinds hs
+    → NoneOpaque uses kinds (insertOf h hs)
+none-opaque-put uses kinds h hs e n g m = ⊎-elim (λ (f : g ≡ h). rw f e) (λ k. n g k) (put-only h hs m)

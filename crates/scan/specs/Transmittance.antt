@@ -1,9 +1,8 @@
 -- How much light passes along a ray. "Transmittance: start 1.0; hits by t, then by place; opaque gives 0; multiply; a product at most 0.0001
 -- gives 0." A hit's material is the one that its triangle uses.
-use mathlib.Core.Path.{_≡_}
 use mathlib.Core.Bool.{cond}
 use mathlib.Core.List.{List, [], _∷_}
-use Prim.Native.Nat.{ℕ, _+_, _*_, _<_}
+use Prim.Native.Nat.{ℕ, _+_, _*_}
 use lib.ListN.{length, getD}
 use lib.Dec.{eqb}
 use lib.Ieee as Ieee
@@ -33,8 +32,3 @@ unfoldable pub transmittanceOf : Scene → Ray → Float
 transmittanceOf scene ray =
     passOf (scene .uses) (scene .kinds) (scene .numbers) one32
     (placesOf (hitsOf (scene .points) ray (length (scene .uses))))
-
--- the lists of materials fit each other: the part of `Sound` that the product reads by
-pub record Fitting (us ks : List ℕ) (ns : List Float) : Type 0 where
-  pub numbers : length ns ≡ length ks * 7
-  pub within : (i : ℕ) → i < length us → getD us i 0 < length ks

@@ -1,17 +1,16 @@
 // The scans. Each takes the scene's four lists, which fit each other (`Sound`): the tests of the public calls have shown it.
 ghost use mathlib.Core.Path.{_≡_};
 ghost use Prim.Native.Nat.{ℕ, _+_, _*_, _≤_, _<_};
-ghost use lib.ListN.{length, getD, take};
+ghost use lib.ListN.{length, getD};
 ghost use Rattle.names.specs.Bits.{one32};
 ghost use Rattle.names.specs.Scene.{Sound, sceneOf};
 ghost use Rattle.triangle.specs.Meet.{meetOf};
 ghost use Rattle.triangle.specs.Places.{triangleAt};
 ghost use Rattle.triangle.specs.declared.Meet.the-variants.{Hit};
 ghost use Rattle.scan.specs.Nearest.{beats, nearerOf, nearestOf};
-ghost use Rattle.scan.specs.Hits.{struck, before, rankOf, insertAt, insertOf, paired};
 ghost use Rattle.scan.specs.FirstHit.{FirstFrom};
-ghost use Rattle.scan.specs.Transmittance.{kindAt, Fitting, passOf, transmittanceOf};
-use super::FirstHit;
+ghost use Rattle.scan.specs.OpaqueLaws.{clearPassOf};
+ghost use Rattle.scan.specs.Transmittance.{kindAt, transmittanceOf};
 use super::Nearest;
 use names::FAINT_LIMIT;
 use triangle::Meet;
@@ -31,10 +30,10 @@ pub fn nearest(points: &[f32], uses: &[u32], kinds: &[u8], numbers: &[f32], ray:
     while i < n {
         let f = first_hit(points, i, n, ray);
         match f {
-            FirstHit::Nothing => {
+            Nearest::Nothing => {
                 i = n;
             }
-            FirstHit::At(j, t, u, v) => {
+            Nearest::At(j, t, u, v) => {
                 best = nearer(best, j, t, u, v);
                 i = j + 1;
             }
@@ -95,20 +94,22 @@ pub fn transmittance(
     while i < n {
         let f = first_hit(points, i, n, ray);
         match f {
-            FirstHit::Nothing => {
+            Nearest::Nothing => {
                 i = n;
             }
-            FirstHit::At(j, t, _, _) => {
+            Nearest::At(j, t, _, _) => {
                 if kind_at(uses, kinds, j) == 0 {
                     return 0.0;
                 }
-                add_hit(distances, places, m, t, j);
+                distances[m] = t;
+                places[m] = j;
                 m += 1;
                 i = j + 1;
             }
         }
     }
-    product(uses, kinds, numbers, &places[..m])
+    super::sort::in_order(&mut distances[..m], &mut places[..m]);
+    product(uses, numbers, &places[..m])
 }
 
 // The kind of the material that the triangle at place i uses: 0 is opaque.
@@ -120,89 +121,17 @@ fn kind_at(uses: &[u32], kinds: &[u8], i: usize) -> u8
     kinds[k]
 }
 
-// Puts a hit into its place among the first m.
-fn add_hit(distances: &mut [f32], places: &mut [usize], m: usize, t: f32, i: usize)
-    requires { ⌜ (m < length (now distances)) × (m < length (now places)) ⌝ }
-    ensures { λ _. ⌜ paired (take (m + 1) (now (distances .exit))) (take (m + 1) (now (places .exit))) ≡ insertOf (struck t i) (paired (take m (now (distances .entry))) (take m (now (places .entry)))) ⌝ }
-{
-    let j = rank(&distances[..m], &places[..m], t, i);
-    put_distance(distances, j, m, t);
-    put_place(places, j, m, i);
-}
-
-// Where a hit at distance t and place i goes: after each that it does not come before.
-fn rank(distances: &[f32], places: &[usize], t: f32, i: usize) -> usize
-    requires { ⌜ length (now distances) ≡ length (now places) ⌝ }
-    ensures { λ r. ⌜ r ≡ rankOf (struck t i) (paired (now (distances .entry)) (now (places .entry))) ⌝ }
-{
-    let mut j = 0;
-    while j < distances.len() {
-        if comes_before(t, i, distances[j], places[j]) {
-            return j;
-        }
-        j += 1;
-    }
-    j
-}
-
-// By distance, then by place.
-fn comes_before(t: f32, i: usize, s: f32, j: usize) -> bool
-    ensures { λ r. ⌜ r ≡ before (struck t i) (struck s j) ⌝ }
-{
-    if t < s {
-        return true;
-    }
-    if t == s {
-        return i < j;
-    }
-    false
-}
-
-// Puts x at place j among the first m, and carries what stood there up.
-fn put_distance(s: &mut [f32], j: usize, m: usize, x: f32)
-    requires { ⌜ (j ≤ m) × (m < length (now s)) ⌝ }
-    ensures { λ _. ⌜ take (m + 1) (now (s .exit)) ≡ insertAt j x (take m (now (s .entry))) ⌝ }
-{
-    let mut c = x;
-    let mut k = j;
-    while k < m {
-        let y = s[k];
-        s[k] = c;
-        c = y;
-        k += 1;
-    }
-    s[m] = c;
-}
-
-fn put_place(s: &mut [usize], j: usize, m: usize, x: usize)
-    requires { ⌜ (j ≤ m) × (m < length (now s)) ⌝ }
-    ensures { λ _. ⌜ take (m + 1) (now (s .exit)) ≡ insertAt j x (take m (now (s .entry))) ⌝ }
-{
-    let mut c = x;
-    let mut k = j;
-    while k < m {
-        let y = s[k];
-        s[k] = c;
-        c = y;
-        k += 1;
-    }
-    s[m] = c;
-}
-
-// The product of the transmissions at these places, in order: the scan's one use of the materials.
-fn product(uses: &[u32], kinds: &[u8], numbers: &[f32], places: &[usize]) -> f32
-    requires { ⌜ Fitting (now uses) (now kinds) (now numbers) ⌝ }
+// The product of the transmissions at these places, in order. None is opaque: the scan ends at the first that is.
+fn product(uses: &[u32], numbers: &[f32], places: &[usize]) -> f32
+    requires { ⌜ ((i : ℕ) → i < length (now uses) → getD (now uses) i 0 * 7 + 6 < length (now numbers)) ⌝ }
     requires { ⌜ ((j : ℕ) → j < length (now places) → getD (now places) j 0 < length (now uses)) ⌝ }
-    ensures { λ r. ⌜ r ≡ passOf (now (uses .entry)) (now (kinds .entry)) (now (numbers .entry)) one32 (now (places .entry)) ⌝ }
+    ensures { λ r. ⌜ r ≡ clearPassOf (now (uses .entry)) (now (numbers .entry)) one32 (now (places .entry)) ⌝ }
 {
     let mut w = 1.0;
     let mut j = 0;
     while j < places.len() {
         let p = places[j];
         let k = uses[p] as usize;
-        if kinds[k] == 0 {
-            return 0.0;
-        }
         w = w * numbers[k * 7 + 6];
         if w <= FAINT_LIMIT {
             return 0.0;
@@ -220,7 +149,7 @@ const RUN: usize = 8;
 
 // The first hit from place i up to place n, in the list's order. Runs of triangles that are surely missed are passed over; the test decides of a
 // triangle that may be met.
-pub fn first_hit(points: &[f32], from: usize, n: usize, ray: Ray) -> FirstHit
+pub fn first_hit(points: &[f32], from: usize, n: usize, ray: Ray) -> Nearest
     requires { ⌜ (from ≤ n) × (n * 9 ≤ length (now points)) ⌝ }
     ensures { λ r. ⌜ FirstFrom (now (points .entry)) ray from n r ⌝ }
 {
@@ -238,12 +167,12 @@ pub fn first_hit(points: &[f32], from: usize, n: usize, ray: Ray) -> FirstHit
                     i = j + 1;
                 }
                 Meet::Hit(t, u, v) => {
-                    return FirstHit::At(j, t, u, v);
+                    return Nearest::At(j, t, u, v);
                 }
             }
         }
     }
-    FirstHit::Nothing
+    Nearest::Nothing
 }
 
 // How many of those left are looked over at once.

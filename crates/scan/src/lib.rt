@@ -2,15 +2,11 @@
 // by one search, which asks the test of one triangle; neither knows how it goes.
 
 pub mod inner; // inner.rt: the two scans, over lists that fit each other
+pub mod sort; // sort.rt: hits put in order
 
-// "Nearest: smallest t; among equal t the highest list place": nothing, or the hit's place, distance, u and v.
+// "Nearest: smallest t; among equal t the highest list place": nothing, or the hit's place, distance, u and v. The search that both scans go by answers
+// in it too: nothing, or the first hit in the list's order.
 pub enum Nearest {
-    Nothing,
-    At(usize, f32, f32, f32),
-}
-
-// The first hit in the list's order: nothing, or the hit's place, distance, u and v.
-pub enum FirstHit {
     Nothing,
     At(usize, f32, f32, f32),
 }

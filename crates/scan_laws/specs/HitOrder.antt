@@ -5,10 +5,10 @@ use mathlib.Core.Logic.{_⊎_, ⊎-elim}
 use mathlib.Core.List.{List, [], _∷_, List·Memᴰ, List·Memᴰ·head, List·Memᴰ·tail, List·Memᴰ·not-nil, List·Memᴰ·cases-cons}
 use Prim.Native.Nat.{ℕ, zero, suc, _<_}
 use native.Mathlib.Omega.{arith}
-use borrow.Author.Tests.{lt-ltb, le-ltb, ltb-true}
+use borrow.Author.Tests.{lt-ltb, le-ltb}
 use lib.Dec.{ltb}
 use lib.Ieee.{Float, lt, eq, isNan}
-use Rattle.floats.specs.OrderLaws.{lt-irreflexive, lt-transitive}
+use Rattle.floats.specs.OrderLaws.{lt-irreflexive}
 use Rattle.vectors.specs.declared.Ray.{Ray}
 use Rattle.triangle.specs.Meet.{meetOf}
 use Rattle.triangle.specs.Places.{triangleAt}
@@ -16,8 +16,8 @@ use Rattle.triangle.specs.declared.Meet.{Meet}
 use Rattle.triangle.specs.declared.Meet.the-variants.{Miss, Hit}
 use Rattle.scan.specs.Hits.{Struck, struck, before, insertOf, withMeet, hitsOf}
 use Rattle.scan.specs.HitLaws.{Stands, hits-only, hits-all}
-use Rattle.scan_laws.specs.Order.{otherwise-below, lt-eq, eq-lt, eq-transitive}
-use Rattle.scan_laws.specs.NearestLaws.{hit-number}
+use Rattle.scan.specs.Order.{otherwise-below}
+use Rattle.scan.specs.BeforeLaws.{hit-number, before-trans}
 
 pub data Sorted : List Struck → Type 0 where
   none : Sorted []
@@ -68,51 +68,6 @@ hits-sorted points ray (suc n) = by (meetOf ray (triangleAt points n)) refl (hit
         s
 
 -- ---- and so each comes before all that follow
-
-or-cases : {A : Type 0} (a b : Bool) → a || b ≡ true → (a ≡ true → A) → (b ≡ true → A) → A
-or-cases true b h f g = f refl
-or-cases false b h f g = g h
-
-nearer-first : (a b : Bool) → a ≡ true → a || b ≡ true
-nearer-first a b h = rw h refl
-
-as-near : (a b c : Bool) → b ≡ true → c ≡ true → a || (b && c) ≡ true
-as-near true b c h k = refl
-as-near false b c h k = rw (h, k) refl
-
-pub before-trans : (h g k : Struck) → before h g ≡ true → before g k ≡ true → before h k ≡ true
-unfolding before
-before-trans h g k a b =
-    or-cases (lt x y) (eq x y && ltb i j) a
-    (λ e. or-cases (lt y z) (eq y z && ltb j l) b
-    (λ f. nearer-first (lt x z) _ (lt-transitive x y z e f))
-    (λ f. nearer-first (lt x z) _ (lt-eq x y z e (and-eq-true-iff _ _ .0 f .0))))
-    (λ e.
-    let u = and-eq-true-iff (eq x y) (ltb i j) .0 e in
-    or-cases (lt y z) (eq y z && ltb j l) b
-    (λ f. nearer-first (lt x z) _ (eq-lt x y z (u .0) f))
-    (λ f.
-    let v = and-eq-true-iff (eq y z) (ltb j l) .0 f in
-    as-near (lt x z) (eq x z) (ltb i l) (eq-transitive x y z (u .0) (v .0))
-    (lt-ltb i l (omega (arith, ltb-true i j (u .1), ltb-true j l (v .1))))))
-  where
-    x : Float
-    x = h .distance
-
-    y : Float
-    y = g .distance
-
-    z : Float
-    z = k .distance
-
-    i : ℕ
-    i = h .place
-
-    j : ℕ
-    j = g .place
-
-    l : ℕ
-    l = k .place
 
 pub sorted-all : (h : Struck) (gs : List Struck) → Sorted (h ∷ gs) → (k : Struck) → List·Memᴰ k gs → before h k ≡ true
 sorted-all h [] one k m = absurd (List·Memᴰ·not-nil m)

@@ -1,5 +1,4 @@
--- What the two scans mean, and the order of floats that they go by.
-pub mod Order
+-- What the two scans mean.
 pub mod NearestLaws
 pub mod HitOrder
 pub mod TransmittanceLaws

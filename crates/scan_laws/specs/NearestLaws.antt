@@ -22,21 +22,12 @@ use Rattle.triangle.specs.declared.Meet.the-variants.{Miss, Hit}
 use Rattle.scan.specs.Nearest.{beats, nearerOf, meetAt, nearestTo, nearestOf}
 use Rattle.scan.specs.declared.Nearest.{Nearest}
 use Rattle.scan.specs.declared.Nearest.the-variants.{Nothing, At}
-use Rattle.scan_laws.specs.Order.{lt-eq}
+use Rattle.scan.specs.Order.{lt-eq}
+use Rattle.scan.specs.BeforeLaws.{hit-number}
 
 -- a miss is no hit
 apart : {A : Type 0} (m : Meet) (t u v : Float) → m ≡ Miss → m ≡ Hit t u v → A
 apart m t u v p q = absurd (let z : _≡_ {A = ℕ} 0 1 = cc in omega arith)
-
--- a hit's distance is a number
-pub hit-number : (ray : Ray) (triangle : Triangle) (t u v : Float) → meetOf ray triangle ≡ Hit t u v → isNan t ≡ false
-unfolding isNan le lt eq magnitudeOf
-hit-number ray triangle t u v e = by t (hit-met ray triangle t u v e .finite)
-  where
-    by : (x : Float) → le (magnitudeOf x) largest32 ≡ true → isNan x ≡ false
-    by nan h = absurd (false≢true h)
-    by (inf s) h = refl
-    by (fin s m d) h = refl
 
 module _ (scene : Scene) (ray : Ray) where
   -- among the first n triangles

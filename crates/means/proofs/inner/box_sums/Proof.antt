@@ -12,12 +12,12 @@ use Rattle.means.proofs.inner.box_sums.Statement.{statement}
 use Rattle.means.proofs.inner.box_sums.Tie as tie
 
 abbrev Inv-loop : tie.InvT-loop
-Inv-loop src w h f t g u m n sum₀ z₀ sum z =
-    (z ≤ n) × (length sum ≡ 16)
-    × (each (λ k. boxSum src 16 k w h f t g u m n (getD sum₀ k nan)) ≡ each (λ k. fold (plusPlane src 16 k w h f t g u) (n - z) z (getD sum k nan)))
+Inv-loop src w h columns rows planes sum₀ z₀ sum z =
+    (z ≤ planes .past) × (length sum ≡ 16)
+    × (each (λ k. boxSum src 16 k w h columns rows planes (getD sum₀ k nan)) ≡ each (λ k. fold (plusPlane src 16 k w h columns rows) (planes .past - z) z (getD sum k nan)))
 
 abbrev μ-loop : tie.MeasureT-loop
-μ-loop src w h f t g u m n sum₀ z₀ sum z = n - z
+μ-loop src w h columns rows planes sum₀ z₀ sum z = planes .past - z
 
 loop-holds : tie.Need-loop-holds Inv-loop μ-loop
 unfolding boxSum
@@ -25,13 +25,13 @@ loop-holds c = (omega arith, omega arith, refl)
 
 mul-plane-sums : tie.Need-mul-plane-sums Inv-loop μ-loop
 mul-plane-sums c =
-    let a = c .before .before .before .args in let p = c .before .before .before .pre in let z = c .before .loop .z in
-    omega (arith, inside z (a .n) (a .u) (a .h) (omega arith) (p .3), factor (a .n * a .h) (a .w) (p .5) (factor (a .n * a .h * a .w) 16 (omega arith) (p .7)))
+    let a = c .before .before .before .before .args in let p = c .before .before .before .before .pre in let z = c .before .before .loop .z in
+    omega (arith, inside z (a .planes .past) (a .rows .past) (a .h) (omega arith) (p .3), factor (a .planes .past * a .h) (a .w) (p .5) (factor (a .planes .past * a .h * a .w) 16 (omega arith) (p .7)))
 
 plane-sums-requires : tie.Need-plane-sums-requires Inv-loop μ-loop
 plane-sums-requires c κs =
-    let a = c .before .before .before .args in let p = c .before .before .before .pre in let z = c .before .loop .z in
-    (p .0, p .1, p .2, p .5, scaled 16 (mul-le-mul-right (a .w) (inside z (a .n) (a .u) (a .h) (omega arith) (p .3))) (p .7), c .before .loop .inv .1)
+    let a = c .before .before .before .before .args in let p = c .before .before .before .before .pre in let z = c .before .before .loop .z in
+    (p .0, p .1, p .2, p .5, scaled 16 (mul-le-mul-right (a .w) (inside z (a .planes .past) (a .rows .past) (a .h) (omega arith) (p .3))) (p .7), c .before .before .loop .inv .1)
 
 add-z : tie.Need-add-z Inv-loop μ-loop
 add-z c = omega arith
@@ -41,13 +41,13 @@ loop-less c = omega arith
 
 loop-again : tie.Need-loop-again Inv-loop μ-loop
 loop-again c =
-    let k = c .before .before in let a = k .before .before .args in
-    (omega arith, rw (c .plane-sums .ensures) (length-tab _ 16 0), k .loop .inv .2 ∙ each-step (λ j. plusPlane (a .src .now) 16 j (a .w) (a .h) (a .f) (a .t) (a .g) (a .u)) (k .loop .z) (a .n) (k .loop .sum) _ (omega arith) (c .plane-sums .ensures))
+    let k = c .before .before .before in let a = k .before .before .args in
+    (omega arith, rw (c .plane-sums .ensures) (length-tab _ 16 0), k .loop .inv .2 ∙ each-step (λ j. plusPlane (a .src .now) 16 j (a .w) (a .h) (a .columns) (a .rows)) (k .loop .z) (a .planes .past) (k .loop .sum) _ (omega arith) (c .plane-sums .ensures))
 
 returns : tie.Need-returns Inv-loop μ-loop
 returns c =
-    let l = c .before .loop in let a = c .before .before .before .args in
-    sym (l .inv .2 ∙ each-end (λ j. plusPlane (a .src .now) 16 j (a .w) (a .h) (a .f) (a .t) (a .g) (a .u)) (l .z) (a .n) (l .sum) (omega arith) (l .inv .1))
+    let l = c .before .before .loop in let a = c .before .before .before .before .args in
+    sym (l .inv .2 ∙ each-end (λ j. plusPlane (a .src .now) 16 j (a .w) (a .h) (a .columns) (a .rows)) (l .z) (a .planes .past) (l .sum) (omega arith) (l .inv .1))
 
 pub box-sums-spec : {M : Type 1} → statement M
 box-sums-spec =

@@ -4,35 +4,24 @@ use native.Mathlib.Omega.{arith}
 use native.Mathlib.Nat.{mul-le-mul-right}
 use mathlib.Core.Path.{sym}
 use Prim.Native.Nat.{_≤_}
-use Rattle.lists.specs.Fold.{scaled}
+use Rattle.means.specs.Sums.{span-is}
 use Rattle.means.specs.BoxLaws.{mean-by-rows}
 use Rattle.means.proofs.inner.mean_in.Statement.{statement}
 use Rattle.means.proofs.inner.mean_in.Tie as tie
 
-first-near-requires : tie.Need-first-near-requires
-first-near-requires c κs = search needs
+near-requires : tie.Need-near-requires
+near-requires c κs = search needs
 
-past-near-requires : tie.Need-past-near-requires
-past-near-requires c κs = search needs
+near-requires-2 : tie.Need-near-requires-2
+near-requires-2 c κs = search needs
 
-first-near-requires-2 : tie.Need-first-near-requires-2
-first-near-requires-2 c κs = search needs
-
-past-near-requires-2 : tie.Need-past-near-requires-2
-past-near-requires-2 c κs = search needs
-
-first-near-requires-3 : tie.Need-first-near-requires-3
-first-near-requires-3 c κs = search needs
-
-past-near-requires-3 : tie.Need-past-near-requires-3
-past-near-requires-3 c κs = search needs
+near-requires-3 : tie.Need-near-requires-3
+near-requires-3 c κs = search needs
 
 box-sum-requires : tie.Need-box-sum-requires
 box-sum-requires c κs =
-    let a = c .before .before .before .before .before .before .before .args in
-    let p = c .before .before .before .before .before .before .before .pre in
-    let n : c .past-near3 .result ≤ a .d = omega arith in (
-      p .0,
+    let a = c .before .before .before .before .args in
+    let n : c .near3 .result .past ≤ a .d = omega arith in (
       omega arith,
       omega arith,
       omega arith,
@@ -40,7 +29,7 @@ box-sum-requires c κs =
       omega arith,
       omega arith,
       omega arith,
-      scaled (a .stride) (mul-le-mul-right (a .w) (mul-le-mul-right (a .h) n)) (p .4),
+      omega (arith, mul-le-mul-right (a .w) (mul-le-mul-right (a .h) n)),
     )
 
 sub-cells : tie.Need-sub-cells
@@ -57,19 +46,26 @@ cells-requires c κs = search needs
 
 returns : tie.Need-returns
 returns c =
-    rw (c .cells .ensures, c .before .box-sum .ensures, c .before .before .past-near3 .ensures, c .before .before .before .first-near3 .ensures, c .before .before .before .before .past-near2 .ensures, c .before .before .before .before .before .first-near2 .ensures, c .before .before .before .before .before .before .past-near .ensures, c .before .before .before .before .before .before .before .first-near .ensures)
-    (sym (mean-by-rows _ _ _ _ _ _ _ _ _))
+    let b = c .before .before .before .before in
+    let a = b .before .before .before .before .before .args in
+    let planes = b .before .near3 in
+    let rows = b .before .before .near2 in
+    let columns = b .before .before .before .near in
+    rw (
+      c .cells .ensures,
+      b .box-sum .ensures,
+      span-is (planes .result) (a .z) (a .d) (planes .ensures .0) (planes .ensures .1),
+      span-is (rows .result) (a .y) (a .h) (rows .ensures .0) (rows .ensures .1),
+      span-is (columns .result) (a .x) (a .w) (columns .ensures .0) (columns .ensures .1),
+    ) (sym (mean-by-rows _ _ _ _ _ _ _ _ _))
 
 pub mean-in-spec : {M : Type 1} → statement M
 mean-in-spec =
     tie.close
     (tie.spec
-    first-near-requires
-    past-near-requires
-    first-near-requires-2
-    past-near-requires-2
-    first-near-requires-3
-    past-near-requires-3
+    near-requires
+    near-requires-2
+    near-requires-3
     box-sum-requires
     sub-cells
     sub-cells-2

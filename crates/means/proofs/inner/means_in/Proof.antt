@@ -11,47 +11,40 @@ use lib.ListN.{getD, replicate, getD-replicate}
 use lib.Ieee.{Float, nan, binary32, div, ofInt}
 use Rattle.names.specs.Bits.{zero32}
 use Rattle.lists.specs.Fold.{scaled}
-use Rattle.means.specs.Box.{firstNear, pastNear, meanIn}
-use Rattle.means.specs.Sums.{boxSum, each}
+use Rattle.means.specs.declared.Span.{Span}
+use Rattle.means.specs.Box.{meanIn}
+use Rattle.means.specs.Sums.{spanOf, span-is, boxSum, each}
 use Rattle.means.specs.BoxLaws.{mean-by-rows}
 use Rattle.means.proofs.Sixteen.{each-same, getD-each}
 use Rattle.means.proofs.inner.means_in.Statement.{statement}
 use Rattle.means.proofs.inner.means_in.Tie as tie
 
 -- each of the sixteen
-module _ (src : List Float) (w h d x y z : ℕ) {f t g u m n : ℕ} {s : List Float} {k : Float} where
-  whole : f ≡ firstNear x → t ≡ pastNear x w → g ≡ firstNear y → u ≡ pastNear y h → m ≡ firstNear z → n ≡ pastNear z d
-      → s ≡ each (λ j. boxSum src 16 j w h f t g u m n (getD (replicate 16 zero32) j nan)) → k ≡ ofInt binary32 (pos ((n - m) * ((u - g) * (t - f))))
+module _ (src : List Float) (w h d x y z : ℕ) {columns rows planes : Span} {s : List Float} {k : Float} where
+  whole : columns ≡ spanOf x w → rows ≡ spanOf y h → planes ≡ spanOf z d
+      → s ≡ each (λ j. boxSum src 16 j w h columns rows planes (getD (replicate 16 zero32) j nan))
+      → k ≡ ofInt binary32 (pos ((planes .past - planes .first) * ((rows .past - rows .first) * (columns .past - columns .first))))
       → each (λ j. div binary32 (getD s j nan) k) ≡ each (λ j. meanIn src 16 j w h d x y z)
-  whole ef et eg eu em en es ek =
+  whole ec er ep es ek =
       each-same _ _
       (λ j p.
-      ap₂ (div binary32) (ap (λ (l : List Float). getD l j nan) es ∙ getD-each _ j p ∙ ap (boxSum src 16 j w h f t g u m n) (getD-replicate 16 j zero32 nan p)) ek
-      ∙ rw (ef, et, eg, eu, em, en) (sym (mean-by-rows src 16 j w h d x y z)))
+      ap₂ (div binary32) (ap (λ (l : List Float). getD l j nan) es ∙ getD-each _ j p ∙ ap (boxSum src 16 j w h columns rows planes) (getD-replicate 16 j zero32 nan p)) ek
+      ∙ rw (ec, er, ep) (sym (mean-by-rows src 16 j w h d x y z)))
 
-first-near-requires : tie.Need-first-near-requires
-first-near-requires c κs = search needs
+near-requires : tie.Need-near-requires
+near-requires c κs = search needs
 
-past-near-requires : tie.Need-past-near-requires
-past-near-requires c κs = search needs
+near-requires-2 : tie.Need-near-requires-2
+near-requires-2 c κs = search needs
 
-first-near-requires-2 : tie.Need-first-near-requires-2
-first-near-requires-2 c κs = search needs
-
-past-near-requires-2 : tie.Need-past-near-requires-2
-past-near-requires-2 c κs = search needs
-
-first-near-requires-3 : tie.Need-first-near-requires-3
-first-near-requires-3 c κs = search needs
-
-past-near-requires-3 : tie.Need-past-near-requires-3
-past-near-requires-3 c κs = search needs
+near-requires-3 : tie.Need-near-requires-3
+near-requires-3 c κs = search needs
 
 box-sums-requires : tie.Need-box-sums-requires
 box-sums-requires c κs =
-    let a = c .before .before .before .before .before .before .before .args in
-    let p = c .before .before .before .before .before .before .before .pre in
-    let n : c .past-near3 .result ≤ a .d = omega arith in (
+    let a = c .before .before .before .before .args in
+    let p = c .before .before .before .before .pre in
+    let n : c .near3 .result .past ≤ a .d = omega arith in (
       omega arith,
       omega arith,
       omega arith,
@@ -80,29 +73,25 @@ shares-requires c κs = search needs
 
 returns : tie.Need-returns
 returns c =
-    let b = c .before .before in
-    let a = b .before .before .before .before .before .before .before .before .args in
+    let b = c .before .before .before .before .before in
+    let a = b .before .before .before .before .before .args in
+    let planes = b .before .near3 in
+    let rows = b .before .before .near2 in
+    let columns = b .before .before .before .near in
     c .shares .ensures
     ∙ whole (a .src .now) (a .w) (a .h) (a .d) (a .x) (a .y) (a .z)
-    (b .before .before .before .before .before .before .first-near .ensures)
-    (b .before .before .before .before .before .past-near .ensures)
-    (b .before .before .before .before .first-near2 .ensures)
-    (b .before .before .before .past-near2 .ensures)
-    (b .before .before .first-near3 .ensures)
-    (b .before .past-near3 .ensures)
-    (b .box-sums .ensures)
-    (c .before .cells .ensures)
+    (span-is (columns .result) (a .x) (a .w) (columns .ensures .0) (columns .ensures .1))
+    (span-is (rows .result) (a .y) (a .h) (rows .ensures .0) (rows .ensures .1))
+    (span-is (planes .result) (a .z) (a .d) (planes .ensures .0) (planes .ensures .1))
+    (b .box-sums .ensures) (c .before .cells .ensures)
 
 pub means-in-spec : {M : Type 1} → statement M
 means-in-spec =
     tie.close
     (tie.spec
-    first-near-requires
-    past-near-requires
-    first-near-requires-2
-    past-near-requires-2
-    first-near-requires-3
-    past-near-requires-3
+    near-requires
+    near-requires-2
+    near-requires-3
     box-sums-requires
     sub-cells
     sub-cells-2

@@ -2,17 +2,17 @@
 use Prim.Native.Nat.{_+_, _-_, _*_, _≤_}
 use mathlib.Core.Path.{_≡_, refl, sym, _∙_}
 use native.Mathlib.Omega.{arith}
-use Rattle.lists.specs.Fold.{fold, fold-step, fold-end, inside, scaled, factor}
+use Rattle.lists.specs.Fold.{fold, fold-step, fold-end, inside, factor}
 use Rattle.means.specs.Sums.{plusRow, planeSum}
 use Rattle.means.proofs.inner.plane_sum.Statement.{statement}
 use Rattle.means.proofs.inner.plane_sum.Tie as tie
 
 abbrev Inv-loop : tie.InvT-loop
-Inv-loop src stride c w f t plane g u s sum₀ y₀ sum y =
-    (y ≤ u) × (planeSum src stride c w f t plane g u s ≡ fold (plusRow src stride c w f t plane) (u - y) y sum)
+Inv-loop src w columns plane rows s sum₀ y₀ sum y =
+    (y ≤ rows .past) × (planeSum src 1 0 w columns plane rows s ≡ fold (plusRow src 1 0 w columns plane) (rows .past - y) y sum)
 
 abbrev μ-loop : tie.MeasureT-loop
-μ-loop src stride c w f t plane g u s sum₀ y₀ sum y = u - y
+μ-loop src w columns plane rows s sum₀ y₀ sum y = rows .past - y
 
 loop-holds : tie.Need-loop-holds Inv-loop μ-loop
 unfolding planeSum
@@ -20,18 +20,18 @@ loop-holds c = (omega arith, refl)
 
 add-row-sum : tie.Need-add-row-sum Inv-loop μ-loop
 add-row-sum c =
-    let a = c .before .before .before .args in let p = c .before .before .before .pre in let y = c .before .loop .y in
-    omega (arith, factor (a .plane + a .u) (a .w) (p .4) (factor ((a .plane + a .u) * a .w) (a .stride) (omega arith) (p .5)))
+    let a = c .before .before .before .before .args in let p = c .before .before .before .before .pre in let y = c .before .before .loop .y in
+    omega (arith, factor (a .plane + a .rows .past) (a .w) (p .3) (p .4))
 
 mul-row-sum : tie.Need-mul-row-sum Inv-loop μ-loop
 mul-row-sum c =
-    let a = c .before .before .before .args in let p = c .before .before .before .pre in let y = c .before .loop .y in
-    omega (arith, inside (a .plane + y) (a .plane + a .u) (a .t) (a .w) (omega arith) (p .2), factor ((a .plane + a .u) * a .w) (a .stride) (omega arith) (p .5))
+    let a = c .before .before .before .before .args in let p = c .before .before .before .before .pre in let y = c .before .before .loop .y in
+    omega (arith, inside (a .plane + y) (a .plane + a .rows .past) (a .columns .past) (a .w) (omega arith) (p .1))
 
 row-sum-requires : tie.Need-row-sum-requires Inv-loop μ-loop
 row-sum-requires c κs =
-    let a = c .before .before .before .args in let p = c .before .before .before .pre in let y = c .before .loop .y in
-    (p .0, p .1, scaled (a .stride) (inside (a .plane + y) (a .plane + a .u) (a .t) (a .w) (omega arith) (p .2)) (p .5))
+    let a = c .before .before .before .before .args in let p = c .before .before .before .before .pre in let y = c .before .before .loop .y in
+    (p .0, omega (arith, inside (a .plane + y) (a .plane + a .rows .past) (a .columns .past) (a .w) (omega arith) (p .1)))
 
 add-y : tie.Need-add-y Inv-loop μ-loop
 add-y c = omega arith
@@ -41,10 +41,10 @@ loop-less c = omega arith
 
 loop-again : tie.Need-loop-again Inv-loop μ-loop
 loop-again c =
-    (omega arith, rw (c .row-sum .ensures) (c .before .before .loop .inv .1 ∙ fold-step _ (c .before .before .loop .y) (c .before .before .before .before .args .u) _ (omega arith)))
+    (omega arith, rw (c .row-sum .ensures) (c .before .before .before .loop .inv .1 ∙ fold-step _ (c .before .before .before .loop .y) (c .before .before .before .before .before .args .rows .past) _ (omega arith)))
 
 returns : tie.Need-returns Inv-loop μ-loop
-returns c = sym (c .before .loop .inv .1 ∙ fold-end _ (c .before .loop .y) (c .before .before .before .args .u) _ (omega arith))
+returns c = sym (c .before .before .loop .inv .1 ∙ fold-end _ (c .before .before .loop .y) (c .before .before .before .before .args .rows .past) _ (omega arith))
 
 pub plane-sum-spec : {M : Type 1} → statement M
 plane-sum-spec =

@@ -11,12 +11,12 @@ use Rattle.means.proofs.inner.plane_sums.Statement.{statement}
 use Rattle.means.proofs.inner.plane_sums.Tie as tie
 
 abbrev Inv-loop : tie.InvT-loop
-Inv-loop src w f t plane g u sum₀ y₀ sum y =
-    (y ≤ u) × (length sum ≡ 16)
-    × (each (λ k. planeSum src 16 k w f t plane g u (getD sum₀ k nan)) ≡ each (λ k. fold (plusRow src 16 k w f t plane) (u - y) y (getD sum k nan)))
+Inv-loop src w columns plane rows sum₀ y₀ sum y =
+    (y ≤ rows .past) × (length sum ≡ 16)
+    × (each (λ k. planeSum src 16 k w columns plane rows (getD sum₀ k nan)) ≡ each (λ k. fold (plusRow src 16 k w columns plane) (rows .past - y) y (getD sum k nan)))
 
 abbrev μ-loop : tie.MeasureT-loop
-μ-loop src w f t plane g u sum₀ y₀ sum y = u - y
+μ-loop src w columns plane rows sum₀ y₀ sum y = rows .past - y
 
 loop-holds : tie.Need-loop-holds Inv-loop μ-loop
 unfolding planeSum
@@ -24,18 +24,18 @@ loop-holds c = (omega arith, omega arith, refl)
 
 add-row-sums : tie.Need-add-row-sums Inv-loop μ-loop
 add-row-sums c =
-    let a = c .before .before .before .args in let p = c .before .before .before .pre in
-    omega (arith, factor (a .plane + a .u) (a .w) (p .3) (factor ((a .plane + a .u) * a .w) 16 (omega arith) (p .4)))
+    let a = c .before .before .before .before .args in let p = c .before .before .before .before .pre in
+    omega (arith, factor (a .plane + a .rows .past) (a .w) (p .3) (factor ((a .plane + a .rows .past) * a .w) 16 (omega arith) (p .4)))
 
 mul-row-sums : tie.Need-mul-row-sums Inv-loop μ-loop
 mul-row-sums c =
-    let a = c .before .before .before .args in let p = c .before .before .before .pre in let y = c .before .loop .y in
-    omega (arith, inside (a .plane + y) (a .plane + a .u) (a .t) (a .w) (omega arith) (p .1), factor ((a .plane + a .u) * a .w) 16 (omega arith) (p .4))
+    let a = c .before .before .before .before .args in let p = c .before .before .before .before .pre in let y = c .before .before .loop .y in
+    omega (arith, inside (a .plane + y) (a .plane + a .rows .past) (a .columns .past) (a .w) (omega arith) (p .1), factor ((a .plane + a .rows .past) * a .w) 16 (omega arith) (p .4))
 
 row-sums-requires : tie.Need-row-sums-requires Inv-loop μ-loop
 row-sums-requires c κs =
-    let a = c .before .before .before .args in let p = c .before .before .before .pre in let y = c .before .loop .y in
-    (p .0, scaled 16 (inside (a .plane + y) (a .plane + a .u) (a .t) (a .w) (omega arith) (p .1)) (p .4), c .before .loop .inv .1)
+    let a = c .before .before .before .before .args in let p = c .before .before .before .before .pre in let y = c .before .before .loop .y in
+    (p .0, scaled 16 (inside (a .plane + y) (a .plane + a .rows .past) (a .columns .past) (a .w) (omega arith) (p .1)) (p .4), c .before .before .loop .inv .1)
 
 add-y : tie.Need-add-y Inv-loop μ-loop
 add-y c = omega arith
@@ -45,13 +45,13 @@ loop-less c = omega arith
 
 loop-again : tie.Need-loop-again Inv-loop μ-loop
 loop-again c =
-    let k = c .before .before in let a = k .before .before .args in
-    (omega arith, rw (c .row-sums .ensures) (length-tab _ 16 0), k .loop .inv .2 ∙ each-step (λ j. plusRow (a .src .now) 16 j (a .w) (a .f) (a .t) (a .plane)) (k .loop .y) (a .u) (k .loop .sum) _ (omega arith) (c .row-sums .ensures))
+    let k = c .before .before .before in let a = k .before .before .args in
+    (omega arith, rw (c .row-sums .ensures) (length-tab _ 16 0), k .loop .inv .2 ∙ each-step (λ j. plusRow (a .src .now) 16 j (a .w) (a .columns) (a .plane)) (k .loop .y) (a .rows .past) (k .loop .sum) _ (omega arith) (c .row-sums .ensures))
 
 returns : tie.Need-returns Inv-loop μ-loop
 returns c =
-    let l = c .before .loop in let a = c .before .before .before .args in
-    sym (l .inv .2 ∙ each-end (λ j. plusRow (a .src .now) 16 j (a .w) (a .f) (a .t) (a .plane)) (l .y) (a .u) (l .sum) (omega arith) (l .inv .1))
+    let l = c .before .before .loop in let a = c .before .before .before .before .args in
+    sym (l .inv .2 ∙ each-end (λ j. plusRow (a .src .now) 16 j (a .w) (a .columns) (a .plane)) (l .y) (a .rows .past) (l .sum) (omega arith) (l .inv .1))
 
 pub plane-sums-spec : {M : Type 1} → statement M
 plane-sums-spec =

@@ -11,12 +11,12 @@ use Rattle.means.proofs.inner.row_sums.Statement.{statement}
 use Rattle.means.proofs.inner.row_sums.Tie as tie
 
 abbrev Inv-loop : tie.InvT-loop
-Inv-loop src row f t sum₀ x₀ sum x =
-    (x ≤ t) × (length sum ≡ 16)
-    × (each (λ k. rowSum src 16 k row f t (getD sum₀ k nan)) ≡ each (λ k. fold (plusCell src 16 k row) (t - x) x (getD sum k nan)))
+Inv-loop src row columns sum₀ x₀ sum x =
+    (x ≤ columns .past) × (length sum ≡ 16)
+    × (each (λ k. rowSum src 16 k row columns (getD sum₀ k nan)) ≡ each (λ k. fold (plusCell src 16 k row) (columns .past - x) x (getD sum k nan)))
 
 abbrev μ-loop : tie.MeasureT-loop
-μ-loop src row f t sum₀ x₀ sum x = t - x
+μ-loop src row columns sum₀ x₀ sum x = columns .past - x
 
 loop-holds : tie.Need-loop-holds Inv-loop μ-loop
 unfolding rowSum
@@ -36,13 +36,13 @@ loop-less c = omega arith
 
 loop-again : tie.Need-loop-again Inv-loop μ-loop
 loop-again c =
-    let k = c .before .before in let a = k .before .before .args in
-    (omega arith, rw (c .with-voxel .ensures) (length-tab _ 16 0), k .loop .inv .2 ∙ each-step (λ j. plusCell (a .src .now) 16 j (a .row)) (k .loop .x) (a .t) (k .loop .sum) _ (omega arith) (c .with-voxel .ensures))
+    let k = c .before .before .before in let a = k .before .before .args in
+    (omega arith, rw (c .with-voxel .ensures) (length-tab _ 16 0), k .loop .inv .2 ∙ each-step (λ j. plusCell (a .src .now) 16 j (a .row)) (k .loop .x) (a .columns .past) (k .loop .sum) _ (omega arith) (c .with-voxel .ensures))
 
 returns : tie.Need-returns Inv-loop μ-loop
 returns c =
-    let l = c .before .loop in let a = c .before .before .before .args in
-    sym (l .inv .2 ∙ each-end (λ j. plusCell (a .src .now) 16 j (a .row)) (l .x) (a .t) (l .sum) (omega arith) (l .inv .1))
+    let l = c .before .before .loop in let a = c .before .before .before .before .args in
+    sym (l .inv .2 ∙ each-end (λ j. plusCell (a .src .now) 16 j (a .row)) (l .x) (a .columns .past) (l .sum) (omega arith) (l .inv .1))
 
 pub row-sums-spec : {M : Type 1} → statement M
 row-sums-spec =

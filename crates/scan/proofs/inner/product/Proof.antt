@@ -1,30 +1,29 @@
 -- `scan::inner::product` meets its contract. The loop's invariant: what is left of w after the hits from j on is the whole answer. Every place
--- stands in the list of uses, and every use in the list of materials.
+-- stands in the list of uses, and every use has its numbers.
 use mathlib.Core.Path.{_≡_, refl}
-use Prim.Native.Nat.{_≤_, _<_, _-_}
+use Prim.Native.Nat.{_+_, _*_, _≤_, _<_, _-_}
 use native.Mathlib.Omega.{arith}
-use borrow.Author.Tests.{eq-eqb, ne-eqb}
 use lib.ListN.{length, getD, drop, drop-of-length-le}
 use Rattle.names.specs.Bits.{one32}
-use Rattle.scan.specs.Transmittance.{passOf}
+use Rattle.scan.specs.OpaqueLaws.{clearPassOf}
 use borrow.Author.Needs.{needs}
-use Rattle.scan.proofs.Lists.{pass-step}
+use Rattle.scan.proofs.Lists.{clear-step}
 use Rattle.scan.proofs.inner.product.Statement.{statement}
 use Rattle.scan.proofs.inner.product.Tie as tie
 
 abbrev Inv-loop : tie.InvT-loop
-Inv-loop uses kinds numbers places w₀ j₀ w j =
-    (j ≤ length places) × (passOf uses kinds numbers one32 places ≡ passOf uses kinds numbers w (drop j places))
+Inv-loop uses numbers places w₀ j₀ w j =
+    (j ≤ length places) × (clearPassOf uses numbers one32 places ≡ clearPassOf uses numbers w (drop j places))
 
 abbrev μ-loop : tie.MeasureT-loop
-μ-loop uses kinds numbers places w₀ j₀ w j = length places - j
+μ-loop uses numbers places w₀ j₀ w j = length places - j
 
 place-in : (c : tie.In-loop Inv-loop μ-loop) → getD (c .before .before .args .places .now) (c .before .loop .j) 0 < length (c .before .before .args .uses .now)
 place-in c = c .before .before .pre .1 (c .before .loop .j) (c .loop-test .taken)
 
-use-in : (c : tie.In-loop Inv-loop μ-loop)
-    → getD (c .before .before .args .uses .now) (getD (c .before .before .args .places .now) (c .before .loop .j) 0) 0 < length (c .before .before .args .kinds .now)
-use-in c = c .before .before .pre .0 .within _ (place-in c)
+numbers-in : (c : tie.In-loop Inv-loop μ-loop)
+    → getD (c .before .before .args .uses .now) (getD (c .before .before .args .places .now) (c .before .loop .j) 0) 0 * 7 + 6 < length (c .before .before .args .numbers .now)
+numbers-in c = c .before .before .pre .0 _ (place-in c)
 
 loop-holds : tie.Need-loop-holds Inv-loop μ-loop
 loop-holds c = (search needs, refl)
@@ -44,35 +43,22 @@ shared-slice-read-k c = place-in (c .before .before)
 cast-k : tie.Need-cast-k Inv-loop μ-loop
 cast-k c = omega (arith, c .shared-slice-known2 .given (getD (c .before .before .before .before .args .places .now) (c .before .before .before .loop .j) 0))
 
-shared-slice-read-if1 : tie.Need-shared-slice-read-if1 Inv-loop μ-loop
-shared-slice-read-if1 c = use-in (c .before .before .before)
+mul-w : tie.Need-mul-w Inv-loop μ-loop
+mul-w c = omega (arith, numbers-in (c .before .before))
+
+add-w : tie.Need-add-w Inv-loop μ-loop
+add-w c = omega (arith, numbers-in (c .before .before))
+
+mul-w-2 : tie.Need-mul-w-2 Inv-loop μ-loop
+mul-w-2 c = omega (arith, numbers-in (c .before .before))
+
+shared-slice-read-w : tie.Need-shared-slice-read-w Inv-loop μ-loop
+shared-slice-read-w c = omega (arith, numbers-in (c .before .before .before))
 
 returns : tie.Need-returns Inv-loop μ-loop
 returns c =
     let k = c .before .before .before .before in
-    rw (k .before .loop .inv .1, pass-step _ _ _ _ _ _ (k .loop-test .taken), eq-eqb _ 0 (c .if1 .taken))
-
-mul-w : tie.Need-mul-w Inv-loop μ-loop
-mul-w c = omega (arith, use-in (c .before .before .before .before))
-
-add-w : tie.Need-add-w Inv-loop μ-loop
-add-w c = omega (arith, use-in (c .before .before .before .before))
-
-mul-w-2 : tie.Need-mul-w-2 Inv-loop μ-loop
-mul-w-2 c = omega (arith, use-in (c .before .before .before .before))
-
-shared-slice-read-w : tie.Need-shared-slice-read-w Inv-loop μ-loop
-shared-slice-read-w c = omega (arith, use-in (c .before .before .before .before .before))
-
-returns-2 : tie.Need-returns-2 Inv-loop μ-loop
-returns-2 c =
-    let k = c .before .before .before .before .before .before in
-    rw (
-      k .before .loop .inv .1,
-      pass-step _ _ _ _ _ _ (k .loop-test .taken),
-      ne-eqb _ 0 (c .before .before .if1 .left),
-      c .if2 .taken,
-    )
+    rw (k .before .loop .inv .1, clear-step _ _ _ _ _ (k .loop-test .taken), c .if1 .taken)
 
 add-j : tie.Need-add-j Inv-loop μ-loop
 add-j c = omega arith
@@ -82,19 +68,12 @@ loop-less c = omega arith
 
 loop-again : tie.Need-loop-again Inv-loop μ-loop
 loop-again c =
-    let k = c .before .before .before .before .before .before in (
-      omega arith,
-      rw (
-        k .before .loop .inv .1,
-        pass-step _ _ _ _ _ _ (k .loop-test .taken),
-        ne-eqb _ 0 (c .before .before .if1 .left),
-        c .if2 .left,
-      ),
-    )
+    let k = c .before .before .before .before in
+    (omega arith, rw (k .before .loop .inv .1, clear-step _ _ _ _ _ (k .loop-test .taken), c .if1 .left))
 
-returns-3 : tie.Need-returns-3 Inv-loop μ-loop
-unfolding passOf
-returns-3 c = rw (c .before .loop .inv .1, drop-of-length-le _ (c .loop-test .left))
+returns-2 : tie.Need-returns-2 Inv-loop μ-loop
+unfolding clearPassOf
+returns-2 c = rw (c .before .loop .inv .1, drop-of-length-le _ (c .loop-test .left))
 
 pub product-spec : {M : Type 1} → statement M
 product-spec =
@@ -108,14 +87,12 @@ product-spec =
     mul-k
     shared-slice-read-k
     cast-k
-    shared-slice-read-if1
-    returns
     mul-w
     add-w
     mul-w-2
     shared-slice-read-w
-    returns-2
+    returns
     add-j
     loop-less
     loop-again
-    returns-3)
+    returns-2)

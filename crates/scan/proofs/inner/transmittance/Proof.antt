@@ -1,34 +1,40 @@
--- `scan::inner::transmittance` meets its contract. The loop's invariant: the first m of the two lists, paired, are the hits of the first i triangles.
--- The triangles before the first hit are missed and add none. An opaque hit is the whole answer; otherwise the product is taken over the places of
--- all hits, each of which stands in the list of uses.
+-- `scan::inner::transmittance` meets its contract. The loop's invariant: the first m of the two lists, put in order, are the hits of the first i
+-- triangles, each distance is a number and no hit is opaque. The triangles before the first hit are missed and add none. An opaque hit is the whole answer; otherwise
+-- the product is taken over the places of all hits, each of which stands in the list of uses.
 use mathlib.Core.Path.{_≡_, refl, sym, ap, _∙_}
-use mathlib.Core.List.{List}
+use mathlib.Core.List.{List, [], _++_, List·Memᴰ·not-nil}
 use Prim.Native.Nat.{_≤_, _-_}
 use native.Mathlib.Numerals.{add-one}
 use native.Mathlib.Omega.{arith}
-use lib.ListN.{length, take}
-use lib.Seq.{length-take-le}
+use borrow.Author.Tests.{ne-eqb}
+use lib.ListN.{length, take, drop, length-set}
+use lib.Seq.{length-take-le, length-front, take-at}
+use Rattle.names.specs.Bits.{one32}
+use Rattle.scan.specs.BeforeLaws.{hit-number}
 use Rattle.scan.specs.FirstHit.{FirstFrom, hits-over, hits-first}
-use Rattle.scan.specs.Hits.{Struck, struck, insertOf, paired, hitsOf, placesOf}
+use Rattle.scan.specs.Hits.{Struck, struck, paired, hitsOf, placesOf}
 use Rattle.scan.specs.HitLaws.{places-below}
-use Rattle.scan.specs.OpaqueLaws.{opaque-dark}
+use Rattle.scan.specs.Merge.{insertAll, sortOf, Numbers}
+use Rattle.scan.specs.MergeLaws.{insert-all-append, numbers-append}
+use Rattle.scan.specs.OpaqueLaws.{NoneOpaque, opaque-dark, clear-pass, none-opaque-put}
 use Rattle.scan.specs.Transmittance.{transmittanceOf}
 use borrow.Author.Needs.{needs}
-use Rattle.scan.proofs.Lists.{paired-places}
+use Rattle.scan.proofs.Lists.{paired-places, stored}
 use Rattle.scan.proofs.inner.transmittance.Statement.{statement}
 use Rattle.scan.proofs.inner.transmittance.Tie as tie
 
 abbrev Inv-loop : tie.InvT-loop
 Inv-loop points uses kinds numbers ray distances₀ places₀ n m₀ i₀ distances places m i =
     (i ≤ n) × (m ≤ i) × (length distances ≡ length distances₀) × (length places ≡ length places₀)
-    × (paired (take m distances) (take m places) ≡ hitsOf points ray i)
+    × (sortOf (paired (take m distances) (take m places)) ≡ hitsOf points ray i) × Numbers (paired (take m distances) (take m places))
+    × NoneOpaque uses kinds (hitsOf points ray i)
 
 abbrev μ-loop : tie.MeasureT-loop
 μ-loop points uses kinds numbers ray distances₀ places₀ n m₀ i₀ distances places m i = n - i
 
 loop-holds : tie.Need-loop-holds Inv-loop μ-loop
-unfolding hitsOf paired
-loop-holds c = (search needs, search needs, refl, refl, refl)
+unfolding hitsOf paired insertAll
+loop-holds c = (search needs, search needs, refl, refl, refl, tt, λ h m. absurd (List·Memᴰ·not-nil m))
 
 first-hit-requires : tie.Need-first-hit-requires Inv-loop μ-loop
 first-hit-requires c κs = (omega arith, omega arith)
@@ -42,12 +48,15 @@ loop-less c = omega arith
 loop-again : tie.Need-loop-again Inv-loop μ-loop
 loop-again c =
     let f = c .before .before in
-    let at = f .before .before .loop in (
+    let at = f .before .before .loop in
+    let missed = hits-over _ _ _ _ (at .inv .0) (rw (c .enum-told .given .1) at (f .first-hit .ensures)) in (
       omega arith,
       omega arith,
       at .inv .2,
       at .inv .3,
-      at .inv .4 ∙ sym (hits-over _ _ _ _ (at .inv .0) (rw (c .enum-told .given .1) at (f .first-hit .ensures))),
+      at .inv .4 ∙ sym missed,
+      at .inv .5,
+      rw missed (at .inv .6),
     )
 
 enum-known-f : tie.Need-enum-known-f Inv-loop μ-loop
@@ -73,74 +82,131 @@ returns c =
     let g = rw (h .f .given .1) at (h .before .before .first-hit .ensures) in
     sym (opaque-dark _ _ _ _ _ _ (g .1) (g .3) (sym (c .before .kind-at .ensures) ∙ c .if1 .taken))
 
-add-hit-requires : tie.Need-add-hit-requires Inv-loop μ-loop
-add-hit-requires c κs = omega arith
+mul-distances : tie.Need-mul-distances Inv-loop μ-loop
+mul-distances c = omega arith
+
+slice-write-distances : tie.Need-slice-write-distances Inv-loop μ-loop
+slice-write-distances c = omega arith
+
+mul-places : tie.Need-mul-places Inv-loop μ-loop
+mul-places c = omega arith
+
+slice-write-places : tie.Need-slice-write-places Inv-loop μ-loop
+slice-write-places c = omega arith
 
 add-m : tie.Need-add-m Inv-loop μ-loop
 add-m c = omega arith
 
 add-i : tie.Need-add-i Inv-loop μ-loop
 add-i c =
-    let h = c .before .before .before .before .before .before .before .before .before .before in
+    let h = c .before .before .before in
     let g = rw (h .f .given .1) at (h .before .before .first-hit .ensures) in
     omega (arith, g .1)
 
 loop-less-2 : tie.Need-loop-less-2 Inv-loop μ-loop
 loop-less-2 c =
-    let h = c .before .before .before .before .before .before .before .before .before .before in
+    let h = c .before .before .before in
     let g = rw (h .f .given .1) at (h .before .before .first-hit .ensures) in
     omega (arith, g .0, g .1)
 
 loop-again-2 : tie.Need-loop-again-2 Inv-loop μ-loop
+unfolding insertAll
 loop-again-2 c =
-    let hit = c .before .before .before .before in
-    let h = hit .before .before .before .before .before .before in
+    let h = c .before .before .before in
     let at = h .before .before .before .before .loop in
-    let g = rw (h .f .given .1) at (h .before .before .first-hit .ensures) in (
+    let g = rw (h .f .given .1) at (h .before .before .first-hit .ensures) in
+    let one = stored (at .distances) (at .places) (at .m) (h .f .given .0 .1 .0) (h .f .given .0 .0) (omega arith) (omega arith) in
+    let a = h .before .before .before .before .before .before .before .before .before .before .before .args in
+    let clear = rw (c .before .kind-at .ensures) at (ne-eqb (c .before .kind-at .result) 0 (c .if1 .left)) in (
       omega (arith, g .1),
       omega (arith, g .0),
-      hit .add-hit .kept .0 ∙ at .inv .2,
-      hit .add-hit .kept .1 .0 ∙ at .inv .3,
-      hit .add-hit .ensures ∙ rw (add-one, at .inv .4) (sym (hits-first _ _ _ _ _ _ _ _ g)),
+      length-set (at .distances) (at .m) _ ∙ at .inv .2,
+      length-set (at .places) (at .m) _ ∙ at .inv .3,
+      rw (one, insert-all-append [] (paired (take (at .m) (at .distances)) (take (at .m) (at .places))), at .inv .4, add-one) (sym (hits-first _ _ _ _ _ _ _ _ g)),
+      rw one (numbers-append (paired (take (at .m) (at .distances)) (take (at .m) (at .places))) _ (at .inv .5) (hit-number _ _ _ _ _ (g .3), tt)),
+      rw (add-one, hits-first _ _ _ _ _ _ _ _ g)
+          (none-opaque-put (a .uses .now) (a .kinds .now) (struck (h .f .given .0 .1 .0) (h .f .given .0 .0)) (hitsOf (a .points .now) (a .ray) (at .i)) clear (at .inv .6)),
     )
 
-slice-reshare-prefix-product : tie.Need-slice-reshare-prefix-product Inv-loop μ-loop
-slice-reshare-prefix-product c = omega arith
+slice-relend-prefix-in-order : tie.Need-slice-relend-prefix-in-order Inv-loop μ-loop
+slice-relend-prefix-in-order c = omega arith
 
-slice-aggregate-product : tie.Need-slice-aggregate-product Inv-loop μ-loop
-slice-aggregate-product c =
+slice-aggregate-in-order : tie.Need-slice-aggregate-in-order Inv-loop μ-loop
+slice-aggregate-in-order c =
     let at = c .before .before .loop in
+    sym (length-take-le (at .m) (at .distances) (omega arith))
+
+slice-relend-prefix-in-order-2 : tie.Need-slice-relend-prefix-in-order-2 Inv-loop μ-loop
+slice-relend-prefix-in-order-2 c = omega arith
+
+slice-aggregate-in-order-2 : tie.Need-slice-aggregate-in-order-2 Inv-loop μ-loop
+slice-aggregate-in-order-2 c =
+    let at = c .before .before .before .loop in
     sym (length-take-le (at .m) (at .places) (omega arith))
 
--- after the loop the places are those of all hits
-all-hits : (c : tie.After-loop Inv-loop μ-loop)
-    → let at = c .before .loop in
-    let a = c .before .before .before .before .before .before .before .before .args in
-    take (at .m) (at .places) ≡ placesOf (hitsOf (a .points .now) (a .ray) (length (a .uses .now)))
+in-order-requires : tie.Need-in-order-requires Inv-loop μ-loop
+in-order-requires c κs =
+    let at = c .before .before .before .loop in
+    let d = length-take-le (at .m) (at .distances) (omega arith) in
+    let p = length-take-le (at .m) (at .places) (omega arith) in
+    (d ∙ sym p, at .inv .5)
+
+-- and the list of places is as long as it was
+places-long : (c : tie.After-in-order Inv-loop μ-loop)
+    → let at = c .before .before .before .before .loop in length (c .in-order .last .1 .0 ++ drop (at .m) (at .places)) ≡ length (at .places)
+places-long c =
+    let at = c .before .before .before .before .loop in
+    length-front (at .places) (c .in-order .last .1 .0) (at .m) (c .in-order .kept .1 .0)
+
+slice-reshare-prefix-product : tie.Need-slice-reshare-prefix-product Inv-loop μ-loop
+slice-reshare-prefix-product c = omega (arith, places-long (c .before .before .before .before))
+
+slice-aggregate-product : tie.Need-slice-aggregate-product Inv-loop μ-loop
+slice-aggregate-product c = sym (length-take-le _ _ (omega (arith, places-long (c .before .before .before .before .before))))
+
+-- after the sort the places are those of all hits
+all-hits : (c : tie.After-in-order Inv-loop μ-loop)
+    → let at = c .before .before .before .before .loop in
+    let a = c .before .before .before .before .before .before .before .before .before .before .before .args in
+    take (at .m) (c .in-order .last .1 .0 ++ drop (at .m) (at .places)) ≡ placesOf (hitsOf (a .points .now) (a .ray) (length (a .uses .now)))
 all-hits c =
-    let at = c .before .loop in
-    let a = c .before .before .before .before .before .before .before .before .args in
+    let at = c .before .before .before .before .loop in
+    let a = c .before .before .before .before .before .before .before .before .before .before .before .args in
     let e : at .i ≡ length (a .uses .now) = omega arith in
-    let l : length (take (at .m) (at .distances)) ≡ length (take (at .m) (at .places)) =
-    length-take-le (at .m) (at .distances) (omega arith) ∙ sym (length-take-le (at .m) (at .places) (omega arith)) in
-    sym (paired-places _ _ l) ∙ ap (λ (h : List Struck). placesOf h) (rw e at (at .inv .4))
+    let d = c .in-order .kept .0 ∙ length-take-le (at .m) (at .distances) (omega arith) in
+    let p = c .in-order .kept .1 .0 ∙ length-take-le (at .m) (at .places) (omega arith) in
+    take-at (c .in-order .last .1 .0) (drop (at .m) (at .places)) (at .m) p
+    ∙ sym (paired-places (c .in-order .last .0) (c .in-order .last .1 .0) (d ∙ sym p))
+    ∙ ap (λ (h : List Struck). placesOf h) (c .in-order .ensures ∙ rw e at (at .inv .4))
 
 product-requires : tie.Need-product-requires Inv-loop μ-loop
 product-requires c κs =
-    let s = c .before .before .before .before .before .before .before .before .before in (
-      record { numbers = s .pre .0 .numbers; within = s .pre .0 .within },
-      rw (all-hits (c .before)) (places-below (s .args .points .now) (s .args .ray) (length (s .args .uses .now))),
+    let s = c .before .before .before .before .before .before .before .before .before .before .before .before .before .before .before .before in (
+      (λ i h. omega (arith, s .pre .0 .within i h)),
+      rw (all-hits (c .before .before .before .before .before)) (places-below (s .args .points .now) (s .args .ray) (length (s .args .uses .now))),
     )
 
 same-length-3 : tie.Need-same-length-3 Inv-loop μ-loop
-same-length-3 c = c .before .before .before .loop .inv .2
+same-length-3 c =
+    let o = c .before .before .before .before .before .before in
+    let at = o .before .before .before .before .loop in
+    length-front (at .distances) (o .in-order .last .0) (at .m) (o .in-order .kept .0) ∙ at .inv .2
 
 same-length-4 : tie.Need-same-length-4 Inv-loop μ-loop
-same-length-4 c = c .before .before .before .loop .inv .3
+same-length-4 c =
+    let o = c .before .before .before .before .before .before in
+    let at = o .before .before .before .before .loop in
+    places-long o ∙ at .inv .3
 
 returns-2 : tie.Need-returns-2 Inv-loop μ-loop
 unfolding transmittanceOf
-returns-2 c = rw (c .product .ensures, all-hits (c .before .before))
+returns-2 c =
+    let o = c .before .before .before .before .before .before in
+    let at = o .before .before .before .before .loop in
+    let a = o .before .before .before .before .before .before .before .before .before .before .before .args in
+    let e : at .i ≡ length (a .uses .now) = omega arith in
+    rw (c .product .ensures, all-hits o)
+    (sym (clear-pass (a .uses .now) (a .kinds .now) (a .numbers .now) one32 (hitsOf (a .points .now) (a .ray) (length (a .uses .now))) (rw e at (at .inv .6))))
 
 pub transmittance-spec : {M : Type 1} → statement M
 transmittance-spec =
@@ -158,11 +224,19 @@ transmittance-spec =
     same-length
     same-length-2
     returns
-    add-hit-requires
+    mul-distances
+    slice-write-distances
+    mul-places
+    slice-write-places
     add-m
     add-i
     loop-less-2
     loop-again-2
+    slice-relend-prefix-in-order
+    slice-aggregate-in-order
+    slice-relend-prefix-in-order-2
+    slice-aggregate-in-order-2
+    in-order-requires
     slice-reshare-prefix-product
     slice-aggregate-product
     product-requires

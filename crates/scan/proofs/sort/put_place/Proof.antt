@@ -1,23 +1,25 @@
--- `scan::inner::put_place` meets its contract. The loop's invariant: what is carried, inserted at k among the first m, gives the list that is
--- asked for.
+-- `scan::sort::put_place` meets its contract. The loop's invariant: what is carried, inserted at k among the first m, gives the list that is
+-- asked for, and what stands past m is as it was.
 use mathlib.Core.Path.{_≡_, refl, _∙_}
-use Prim.Native.Nat.{_≤_, _-_}
+use Prim.Native.Nat.{_+_, _≤_, _-_}
 use native.Mathlib.Omega.{arith}
-use lib.ListN.{length, take, length-set}
+use lib.ListN.{length, take, drop, length-set}
+use lib.Seq.{drop-set-lt}
 use Rattle.scan.specs.Hits.{insertAt}
 use borrow.Author.Needs.{needs}
 use Rattle.scan.proofs.Lists.{put-step, put-last}
-use Rattle.scan.proofs.inner.put_place.Statement.{statement}
-use Rattle.scan.proofs.inner.put_place.Tie as tie
+use Rattle.scan.proofs.sort.put_place.Statement.{statement}
+use Rattle.scan.proofs.sort.put_place.Tie as tie
 
 abbrev Inv-loop : tie.InvT-loop
 Inv-loop s₀ j m x c₀ k₀ s c k = (k ≤ m) × (length s ≡ length s₀) × (insertAt k c (take m s) ≡ insertAt j x (take m s₀))
+    × (drop (m + 1) s ≡ drop (m + 1) s₀)
 
 abbrev μ-loop : tie.MeasureT-loop
 μ-loop s₀ j m x c₀ k₀ s c k = m - k
 
 loop-holds : tie.Need-loop-holds Inv-loop μ-loop
-loop-holds c = (search needs, refl, refl)
+loop-holds c = (search needs, refl, refl, refl)
 
 mul-y : tie.Need-mul-y Inv-loop μ-loop
 mul-y c = omega arith
@@ -44,6 +46,7 @@ loop-again c =
       omega arith,
       length-set (at .s) (at .k) (at .c) ∙ at .inv .1,
       put-step (at .s) m (at .k) (at .c) 0 (c .before .loop-test .taken) (omega arith) ∙ at .inv .2,
+      drop-set-lt (m + 1) (at .s) (at .k) (at .c) (omega arith) ∙ at .inv .3,
     )
 
 mul-s-2 : tie.Need-mul-s-2 Inv-loop μ-loop
@@ -61,8 +64,10 @@ returns : tie.Need-returns Inv-loop μ-loop
 returns c =
     let at = c .before .loop in
     let m = c .before .before .args .m in
-    let e : at .k ≡ m = omega arith in
-    put-last (at .s) m (at .c) (omega arith) ∙ (rw e at (at .inv .2))
+    let e : at .k ≡ m = omega arith in (
+      put-last (at .s) m (at .c) (omega arith) ∙ (rw e at (at .inv .2)),
+      drop-set-lt (m + 1) (at .s) m (at .c) (omega arith) ∙ at .inv .3,
+    )
 
 pub put-place-spec : {M : Type 1} → statement M
 put-place-spec =

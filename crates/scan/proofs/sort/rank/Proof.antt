@@ -1,4 +1,4 @@
--- `scan::inner::rank` meets its contract. The loop's invariant: the rank is j and the rank among what is left.
+-- `scan::sort::rank` meets its contract. The loop's invariant: the rank is j and the rank among what is left.
 use mathlib.Core.Path.{_≡_, _∙_}
 use Prim.Native.Nat.{_+_, _≤_, _-_}
 use native.Mathlib.Omega.{arith}
@@ -6,8 +6,8 @@ use lib.ListN.{length, drop, drop-of-length-le}
 use Rattle.scan.specs.Hits.{struck, rankOf, paired}
 use borrow.Author.Needs.{needs}
 use Rattle.scan.proofs.Lists.{rank-step}
-use Rattle.scan.proofs.inner.rank.Statement.{statement}
-use Rattle.scan.proofs.inner.rank.Tie as tie
+use Rattle.scan.proofs.sort.rank.Statement.{statement}
+use Rattle.scan.proofs.sort.rank.Tie as tie
 
 abbrev Inv-loop : tie.InvT-loop
 Inv-loop distances places t i j₀ j =

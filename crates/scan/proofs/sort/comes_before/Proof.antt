@@ -1,7 +1,7 @@
--- `scan::inner::comes_before` meets its contract: the tests on the way give the definition's.
+-- `scan::sort::comes_before` meets its contract: the tests on the way give the definition's.
 use Rattle.scan.specs.Hits.{before}
-use Rattle.scan.proofs.inner.comes_before.Statement.{statement}
-use Rattle.scan.proofs.inner.comes_before.Tie as tie
+use Rattle.scan.proofs.sort.comes_before.Statement.{statement}
+use Rattle.scan.proofs.sort.comes_before.Tie as tie
 
 returns : tie.Need-returns
 unfolding before

@@ -1,12 +1,12 @@
--- `scan::inner::add_hit` meets its contract: inserted at its rank into both lists, the hit stands where the definition inserts it.
+-- `scan::sort::add_hit` meets its contract: inserted at its rank into both lists, the hit stands where the definition inserts it.
 use mathlib.Core.Path.{_≡_, sym, _∙_}
 use native.Mathlib.Omega.{arith}
 use lib.ListN.{length, take}
 use lib.Seq.{length-take-le}
 use borrow.Author.Needs.{needs}
 use Rattle.scan.proofs.Lists.{rank-within, paired-put}
-use Rattle.scan.proofs.inner.add_hit.Statement.{statement}
-use Rattle.scan.proofs.inner.add_hit.Tie as tie
+use Rattle.scan.proofs.sort.add_hit.Statement.{statement}
+use Rattle.scan.proofs.sort.add_hit.Tie as tie
 
 slice-reshare-prefix-rank : tie.Need-slice-reshare-prefix-rank
 slice-reshare-prefix-rank c = search needs
@@ -53,8 +53,11 @@ returns c =
     let r = d .before .before in
     let a = r .before .before .before .before .before .args in
     let e : length (take (a .m) (a .distances .now)) ≡ length (take (a .m) (a .places .now)) =
-    length-take-le (a .m) (a .distances .now) (omega arith) ∙ sym (length-take-le (a .m) (a .places .now) (omega arith)) in
-    rw (d .put-distance .ensures, p .put-place .ensures, r .rank .ensures) (paired-put (a .t) (a .i) (take (a .m) (a .distances .now)) (take (a .m) (a .places .now)) e)
+    length-take-le (a .m) (a .distances .now) (omega arith) ∙ sym (length-take-le (a .m) (a .places .now) (omega arith)) in (
+      rw (d .put-distance .ensures .0, p .put-place .ensures .0, r .rank .ensures) (paired-put (a .t) (a .i) (take (a .m) (a .distances .now)) (take (a .m) (a .places .now)) e),
+      d .put-distance .ensures .1,
+      p .put-place .ensures .1,
+    )
 
 pub add-hit-spec : {M : Type 1} → statement M
 add-hit-spec =
