@@ -1,5 +1,5 @@
 //! The measured calls by the port.
-use crate::hall::{Hall, Panes, AMBIENT, AXES, COLOUR, CORNERS, DIRECTION, KINDS, MATERIALS, NUMBERS, PANE_KINDS, PANE_NUMBERS, TRIANGLES, VOXELS};
+use crate::hall::{Hall, Panes, AMBIENT, AXES, COLOUR, CORNERS, DIRECTION, KINDS, MATERIALS, NUMBERS, PANE_KINDS, PANE_NUMBERS, VOXELS};
 use crate::port::{self, Ambient, Axes, CoefficientsAt, Corners, Light, LightAt, Ray, RayHit, Transmitted, Triangle, Vec3};
 use crate::{bits, measure, met, Lists, MET, POSITIONS, RAYS, SHORTEST};
 
@@ -27,9 +27,9 @@ struct State {
 }
 
 impl State {
-    fn new() -> Self {
+    fn new(triangles: usize) -> Self {
         State {
-            hits: Vec::with_capacity(RAYS.max(MET * TRIANGLES)),
+            hits: Vec::with_capacity(RAYS.max(MET * triangles)),
             passed: Vec::with_capacity(RAYS),
             lit: Vec::with_capacity(POSITIONS),
             coefficients: Vec::with_capacity(POSITIONS),
@@ -39,8 +39,8 @@ impl State {
             lights_scratch: vec![0.0; VOXELS],
             volume: vec![0.0; 16 * VOXELS],
             volume_scratch: vec![0.0; 16 * VOXELS],
-            distances: vec![0.0; TRIANGLES],
-            places: vec![0; TRIANGLES],
+            distances: vec![0.0; triangles],
+            places: vec![0; triangles],
             refusal: 0,
         }
     }
@@ -59,14 +59,15 @@ impl State {
     fn bake(&mut self, hall: &Hall, lists: &Lists, corners: Corners, allowance: u64) {
         let light = Light { direction: vec3(&DIRECTION), colour: vec3(&COLOUR) };
         let ambient = Ambient { c: [0, 3, 6, 9].map(|i| vec3(&AMBIENT[i..])) };
+        let triangles = hall.triangles();
         let mut progress = 0;
         while progress < VOXELS && self.refusal == 0 {
             let answer = unsafe {
                 port::geaidnosa_bake(
-                    GRID, corners, hall.points.as_ptr(), 9 * TRIANGLES, hall.uses.as_ptr(), TRIANGLES, KINDS.as_ptr(), MATERIALS, NUMBERS.as_ptr(),
+                    GRID, corners, hall.points.as_ptr(), 9 * triangles, hall.uses.as_ptr(), triangles, KINDS.as_ptr(), MATERIALS, NUMBERS.as_ptr(),
                     7 * MATERIALS, light, ambient, hall.sky.as_ptr(), hall.sky.len(), hall.sky.as_ptr(), 0, lists.few.as_ptr(), VOXELS, lists.lights.as_ptr(), VOXELS,
-                    self.volume.as_mut_ptr(), 16 * VOXELS, self.volume_scratch.as_mut_ptr(), 16 * VOXELS, self.distances.as_mut_ptr(), TRIANGLES,
-                    self.places.as_mut_ptr(), TRIANGLES, progress, allowance,
+                    self.volume.as_mut_ptr(), 16 * VOXELS, self.volume_scratch.as_mut_ptr(), 16 * VOXELS, self.distances.as_mut_ptr(), triangles,
+                    self.places.as_mut_ptr(), triangles, progress, allowance,
                 )
             };
             self.refusal = answer.refusal;
@@ -82,7 +83,8 @@ pub fn answer(call: &str, turns: Option<usize>, hall: &Hall, lists: &Lists) -> V
     let positions: Vec<Vec3> = lists.positions.iter().map(|p| vec3(p)).collect();
     let triangles: Vec<Triangle> = hall.points.chunks(9).map(|p| Triangle { p0: vec3(p), p1: vec3(&p[3..]), p2: vec3(&p[6..]) }).collect();
     let (points, uses, kinds, numbers) = (hall.points.as_ptr(), hall.uses.as_ptr(), KINDS.as_ptr(), NUMBERS.as_ptr());
-    let mut state = State::new();
+    let mut state = State::new(hall.triangles());
+    let count = hall.triangles();
     let s = &mut state;
     let still = |_: &mut State| {};
     let with_lists = |s: &mut State| {
@@ -103,7 +105,7 @@ pub fn answer(call: &str, turns: Option<usize>, hall: &Hall, lists: &Lists) -> V
         "nearest" => {
             measure(turns, s, |s| s.hits.clear(), |s| {
                 for ray in &rays {
-                    s.hits.push(unsafe { port::geaidnosa_nearest(points, 9 * TRIANGLES, uses, TRIANGLES, kinds, MATERIALS, numbers, 7 * MATERIALS, *ray) });
+                    s.hits.push(unsafe { port::geaidnosa_nearest(points, 9 * count, uses, count, kinds, MATERIALS, numbers, 7 * MATERIALS, *ray) });
                 }
             });
             s.hit_words()
@@ -113,8 +115,8 @@ pub fn answer(call: &str, turns: Option<usize>, hall: &Hall, lists: &Lists) -> V
                 for ray in &rays {
                     s.passed.push(unsafe {
                         port::geaidnosa_transmittance(
-                            points, 9 * TRIANGLES, uses, TRIANGLES, kinds, MATERIALS, numbers, 7 * MATERIALS, *ray, s.distances.as_mut_ptr(), TRIANGLES,
-                            s.places.as_mut_ptr(), TRIANGLES,
+                            points, 9 * count, uses, count, kinds, MATERIALS, numbers, 7 * MATERIALS, *ray, s.distances.as_mut_ptr(), count,
+                            s.places.as_mut_ptr(), count,
                         )
                     });
                 }
@@ -124,7 +126,7 @@ pub fn answer(call: &str, turns: Option<usize>, hall: &Hall, lists: &Lists) -> V
         "masks" => {
             measure(turns, s, still, |s| {
                 s.refusal = unsafe {
-                    port::geaidnosa_masks(GRID, corners, points, 9 * TRIANGLES, s.occupied.as_mut_ptr(), VOXELS, s.active.as_mut_ptr(), VOXELS).refusal
+                    port::geaidnosa_masks(GRID, corners, points, 9 * count, s.occupied.as_mut_ptr(), VOXELS, s.active.as_mut_ptr(), VOXELS).refusal
                 };
             });
             s.occupied.iter().chain(&s.active).map(|m| *m as u32).collect()
@@ -145,9 +147,9 @@ pub fn answer(call: &str, turns: Option<usize>, hall: &Hall, lists: &Lists) -> V
             measure(turns, s, still, |s| {
                 s.refusal = unsafe {
                     port::geaidnosa_sun(
-                        GRID, corners, points, 9 * TRIANGLES, uses, TRIANGLES, kinds, MATERIALS, numbers, 7 * MATERIALS, vec3(&DIRECTION),
+                        GRID, corners, points, 9 * count, uses, count, kinds, MATERIALS, numbers, 7 * MATERIALS, vec3(&DIRECTION),
                         lists.active.as_ptr(), VOXELS, s.lights.as_mut_ptr(), VOXELS, s.lights_scratch.as_mut_ptr(), VOXELS, s.distances.as_mut_ptr(),
-                        TRIANGLES, s.places.as_mut_ptr(), TRIANGLES,
+                        count, s.places.as_mut_ptr(), count,
                     )
                     .refusal
                 };

@@ -1,5 +1,5 @@
 //! The measured calls by the Rust that the port comes from. Its ray tracer stands ready, as the port's lists do.
-use crate::hall::{Hall, Panes, AMBIENT, AXES, CORNERS, KINDS, NUMBERS, PANE_KINDS, PANE_NUMBERS, SCENE_LIGHT, TRIANGLES, VOXELS};
+use crate::hall::{Hall, Panes, AMBIENT, AXES, CORNERS, KINDS, NUMBERS, PANE_KINDS, PANE_NUMBERS, SCENE_LIGHT, VOXELS};
 use crate::math::Vec3x4;
 use crate::raytracer::{ray_triangle_intersect, Hit, RayTracer};
 use crate::scene::{recorded_directions, Scene};
@@ -52,11 +52,11 @@ struct State {
 }
 
 impl State {
-    fn new() -> Self {
+    fn new(triangles: usize) -> Self {
         State {
             grid: grid(),
             hits: Vec::with_capacity(RAYS),
-            met: Vec::with_capacity(MET * TRIANGLES),
+            met: Vec::with_capacity(MET * triangles),
             passed: Vec::with_capacity(RAYS),
             lit: Vec::with_capacity(POSITIONS / 4),
             coefficients: Vec::with_capacity(POSITIONS / 4),
@@ -78,9 +78,9 @@ pub fn answer(call: &str, turns: Option<usize>, hall: &Hall, lists: &Lists) -> V
     let positions: Vec<Vec3A> = lists.positions.iter().map(|p| vec3a(p)).collect();
     let scene = scene(hall);
     let tracer = RayTracer::new(&scene);
-    assert!(tracer.triangles().len() == TRIANGLES, "no triangle of the hall is absent, so places are indices");
+    assert!(tracer.triangles().len() == hall.triangles(), "no triangle of the hall is absent, so places are indices");
     recorded_directions();
-    let mut state = State::new();
+    let mut state = State::new(hall.triangles());
     let s = &mut state;
     let with_lists = |s: &mut State| {
         s.grid.set_light_intensity_data(lists.lights.clone());

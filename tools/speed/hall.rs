@@ -1,9 +1,9 @@
-//! The scene that both sides are measured on: a closed hall of 492 triangles in 16×16×16 voxels, with rays and positions in it.
+//! The scene that both sides are measured on: a closed hall of 12·n·n + 60 triangles in 16×16×16 voxels, with rays and positions in it. The environment's
+//! SPEED_SPLIT is n, 6 where it is not set: 492 triangles.
 
 pub const AXES: [usize; 3] = [16, 16, 16];
 pub const VOXELS: usize = 16 * 16 * 16;
 pub const CORNERS: [f32; 6] = [0.0, 0.0, 0.0, 16.0, 12.0, 8.0];
-pub const TRIANGLES: usize = 492;
 pub const MATERIALS: usize = 4;
 pub const KINDS: [u8; MATERIALS] = [0, 1, 0, 0];
 /// Base colour, emissive and transmission: plaster, glass, lamp, soot.
@@ -45,17 +45,22 @@ impl Chance {
 }
 
 impl Hall {
-    /// Six sides of 6×6 quads, every fifth of the roof's of glass, and five boxes in the room, one of them a lamp and one black.
+    /// Six sides of n×n quads, every fifth of the roof's of glass, and five boxes in the room, one of them a lamp and one black.
     pub fn new() -> Self {
+        let n: usize = std::env::var("SPEED_SPLIT").map_or(6, |n| n.parse().expect("SPEED_SPLIT is a whole number"));
         let mut hall = Hall { points: vec![], uses: vec![], sky: (0..1728).map(|i| 0.5 + (i % 7) as f32 * 0.125).collect() };
-        hall.cuboid([0.6, 0.5, 0.4], [15.3, 11.4, 7.6], 6, |side, quad| if side == 5 && quad % 5 == 2 { 1 } else { 0 });
+        hall.cuboid([0.6, 0.5, 0.4], [15.3, 11.4, 7.6], n, |side, quad| if side == 5 && quad % 5 == 2 { 1 } else { 0 });
         for (place, material) in [0, 0, 2, 3, 0].into_iter().enumerate() {
             let x = 1.7 + 2.6 * place as f32;
             let y = 2.0 + 1.3 * place as f32;
             hall.cuboid([x, y, 0.9], [x + 1.1, y + 1.4, 2.1 + 0.6 * place as f32], 1, |_, _| material);
         }
-        assert!(hall.uses.len() == TRIANGLES && hall.points.len() == 9 * TRIANGLES);
+        assert!(hall.triangles() == 12 * n * n + 60 && hall.points.len() == 9 * hall.triangles());
         hall
+    }
+
+    pub fn triangles(&self) -> usize {
+        self.uses.len()
     }
 
     /// Each side split in n×n quads; side 5 is the top.

@@ -42,6 +42,11 @@ pub mod ray {
     }
 }
 
+#[cfg(feature = "tree")]
+#[path = "tree.rs"]
+pub mod bvh;
+
+#[cfg(not(feature = "tree"))]
 pub mod bvh {
     use crate::bounding_hierarchy::BHShape;
     use crate::ray::Ray;

@@ -1,7 +1,40 @@
 //! Stand-in for glam. The orders are document 01's, module 1: dot is (xx+yy)+zz; cross is a.y·b.z−a.z·b.y and so on round;
 //! normalising divides each component by the root of the dot; of two equals, max and min give the second; the blend is a·(1−t)+b·t.
 //! Minus of a vector flips signs. glam's own code is not at hand: these orders rest on document 01 alone.
-use std::ops::{Add, AddAssign, Div, Index, Mul, MulAssign, Neg, Sub, SubAssign};
+use std::ops::{Add, AddAssign, Div, Index, Mul, MulAssign, Sub, SubAssign};
+
+macro_rules! by_component {
+    ($kind:ident: $($field:ident)*; $trait:ident $op:ident $sign:tt) => {
+        impl $trait for $kind {
+            type Output = Self;
+
+            fn $op(self, b: Self) -> Self {
+                Self { $($field: self.$field $sign b.$field),* }
+            }
+        }
+
+        impl $trait<f32> for $kind {
+            type Output = Self;
+
+            fn $op(self, k: f32) -> Self {
+                Self { $($field: self.$field $sign k),* }
+            }
+        }
+
+        impl $trait<$kind> for f32 {
+            type Output = $kind;
+
+            fn $op(self, b: $kind) -> $kind {
+                $kind { $($field: self $sign b.$field),* }
+            }
+        }
+    };
+}
+
+// A vector as three numbers, or, with the feature `packed`, in one SSE2 register as the real glam keeps it on x86-64: the same bits, for measuring.
+#[cfg_attr(feature = "packed", path = "vec3a_packed.rs")]
+mod vec3a;
+pub use vec3a::Vec3A;
 
 /// The larger of two; of two equals the second.
 pub fn larger(a: f32, b: f32) -> f32 {
@@ -25,13 +58,6 @@ pub fn smaller(a: f32, b: f32) -> f32 {
 pub struct Vec2 {
     pub x: f32,
     pub y: f32,
-}
-
-#[derive(Clone, Copy, Debug, PartialEq)]
-pub struct Vec3A {
-    pub x: f32,
-    pub y: f32,
-    pub z: f32,
 }
 
 #[derive(Clone, Copy, Debug, PartialEq)]
@@ -61,66 +87,6 @@ impl Mul<f32> for Vec2 {
 
     fn mul(self, k: f32) -> Self {
         Self::new(self.x * k, self.y * k)
-    }
-}
-
-impl Vec3A {
-    pub const ZERO: Self = Self::splat(0.0);
-    pub const ONE: Self = Self::splat(1.0);
-    pub const X: Self = Self::new(1.0, 0.0, 0.0);
-    pub const Y: Self = Self::new(0.0, 1.0, 0.0);
-    pub const Z: Self = Self::new(0.0, 0.0, 1.0);
-
-    pub const fn new(x: f32, y: f32, z: f32) -> Self {
-        Self { x, y, z }
-    }
-
-    pub const fn splat(v: f32) -> Self {
-        Self::new(v, v, v)
-    }
-
-    pub fn from_vec4(v: Vec4) -> Self {
-        Self::new(v.x, v.y, v.z)
-    }
-
-    pub fn dot(self, b: Self) -> f32 {
-        (self.x * b.x + self.y * b.y) + self.z * b.z
-    }
-
-    pub fn cross(self, b: Self) -> Self {
-        Self::new(
-            self.y * b.z - self.z * b.y,
-            self.z * b.x - self.x * b.z,
-            self.x * b.y - self.y * b.x,
-        )
-    }
-
-    pub fn length_squared(self) -> f32 {
-        self.dot(self)
-    }
-
-    pub fn length(self) -> f32 {
-        self.dot(self).sqrt()
-    }
-
-    pub fn normalize(self) -> Self {
-        self / self.length()
-    }
-
-    pub fn max(self, b: Self) -> Self {
-        Self::new(larger(self.x, b.x), larger(self.y, b.y), larger(self.z, b.z))
-    }
-
-    pub fn min(self, b: Self) -> Self {
-        Self::new(smaller(self.x, b.x), smaller(self.y, b.y), smaller(self.z, b.z))
-    }
-
-    pub fn clamp(self, low: Self, high: Self) -> Self {
-        self.max(low).min(high)
-    }
-
-    pub fn lerp(self, b: Self, t: f32) -> Self {
-        self * (1.0 - t) + b * t
     }
 }
 
@@ -185,38 +151,6 @@ impl Index<usize> for Vec4 {
     }
 }
 
-macro_rules! by_component {
-    ($kind:ident: $($field:ident)*; $trait:ident $op:ident $sign:tt) => {
-        impl $trait for $kind {
-            type Output = Self;
-
-            fn $op(self, b: Self) -> Self {
-                Self { $($field: self.$field $sign b.$field),* }
-            }
-        }
-
-        impl $trait<f32> for $kind {
-            type Output = Self;
-
-            fn $op(self, k: f32) -> Self {
-                Self { $($field: self.$field $sign k),* }
-            }
-        }
-
-        impl $trait<$kind> for f32 {
-            type Output = $kind;
-
-            fn $op(self, b: $kind) -> $kind {
-                $kind { $($field: self $sign b.$field),* }
-            }
-        }
-    };
-}
-
-by_component!(Vec3A: x y z; Add add +);
-by_component!(Vec3A: x y z; Sub sub -);
-by_component!(Vec3A: x y z; Mul mul *);
-by_component!(Vec3A: x y z; Div div /);
 by_component!(Vec4: x y z w; Add add +);
 by_component!(Vec4: x y z w; Sub sub -);
 by_component!(Vec4: x y z w; Mul mul *);
@@ -234,14 +168,6 @@ macro_rules! assigning {
 
 assigning!(Vec3A: AddAssign add_assign Vec3A, add; SubAssign sub_assign Vec3A, sub; MulAssign mul_assign Vec3A, mul; MulAssign mul_assign f32, mul;);
 assigning!(Vec4: AddAssign add_assign Vec4, add; SubAssign sub_assign Vec4, sub; MulAssign mul_assign Vec4, mul; MulAssign mul_assign f32, mul; AddAssign add_assign f32, add; SubAssign sub_assign f32, sub;);
-
-impl Neg for Vec3A {
-    type Output = Self;
-
-    fn neg(self) -> Self {
-        Self::new(-self.x, -self.y, -self.z)
-    }
-}
 
 // math.rs takes a Vec4 to the processor's own four lanes and back.
 #[cfg(target_arch = "aarch64")]
