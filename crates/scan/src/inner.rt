@@ -75,8 +75,8 @@ fn better(t: f32, i: usize, s: f32, j: usize) -> bool
 // ---- how much light passes
 
 // How much light passes along the ray: the hits by distance, then by place, and the product of their transmissions. The two scratch lists hold
-// the hits on the way. An opaque hit leaves nothing at whatever place of the order (`opaque-dark`), so the scan ends at the first it meets; the Rust
-// collects all hits and sorts them.
+// the hits on the way: in the list's order first, then in their own. An opaque hit leaves nothing at whatever place of the order (`opaque-dark`), so the
+// scan ends at the first it meets; the Rust collects all hits and sorts them.
 pub fn transmittance(
     points: &[f32],
     uses: &[u32],
