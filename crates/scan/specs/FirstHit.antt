@@ -2,14 +2,14 @@
 use mathlib.Core.Path.{_≡_, refl, _∙_}
 use mathlib.Core.Logic.{⊎-elim}
 use mathlib.Core.List.{List}
-use Prim.Native.Nat.{ℕ, zero, suc, _+_, _≤_, _<_}
+use Prim.Native.Nat.{ℕ, zero, suc, _≤_, _<_}
 use native.Mathlib.Nat.{eq-or-lt-of-le, le-of-suc-le-suc}
 use native.Mathlib.Omega.{arith}
 use lib.Ieee.{Float}
 use Rattle.names.specs.Scene.{Scene}
 use Rattle.vectors.specs.declared.Ray.{Ray}
 use Rattle.triangle.specs.Meet.{meetOf}
-use Rattle.triangle.specs.Missed.{Missed, missed-more, missed-one}
+use Rattle.triangle.specs.Missed.{Missed}
 use Rattle.triangle.specs.Places.{triangleAt}
 use Rattle.triangle.specs.declared.Meet.the-variants.{Miss, Hit}
 use Rattle.scan.specs.declared.Nearest.{Nearest}
@@ -22,12 +22,6 @@ abbrev pub FirstFrom : List Float → Ray → ℕ → ℕ → Nearest → Type 0
 FirstFrom points ray i n Nothing = Missed points ray i n
 FirstFrom points ray i n (At j t u v) =
     (i ≤ j) × (j < n) × Missed points ray i j × (meetOf ray (triangleAt points j) ≡ Hit t u v)
-
--- the first from the next place on, where this one is missed
-pub first-later : (points : List Float) (ray : Ray) (i n : ℕ) (r : Nearest) → meetOf ray (triangleAt points i) ≡ Miss → FirstFrom points ray (i + 1) n r → FirstFrom points ray i n r
-first-later points ray i n Nothing e f = missed-more points ray i (i + 1) n (missed-one points ray i i (λ l p q. absurd (omega arith)) e) f
-first-later points ray i n (At j t u v) e f =
-    (omega (arith, f .0), f .1, missed-more points ray i (i + 1) j (missed-one points ray i i (λ l p q. absurd (omega arith)) e) (f .2), f .3)
 
 -- ---- what is missed changes nothing
 

@@ -73,8 +73,8 @@ fn better(t: f32, i: usize, s: f32, j: usize) -> bool
 // ---- how much light passes
 
 // How much light passes along the ray: the hits by distance, then by place, and the product of their transmissions. The two scratch lists hold
-// the hits on the way. An opaque hit leaves nothing at whatever place of the order (`opaque-dark`), so the scan ends at the first it meets; the Rust
-// collects all hits and sorts them.
+// the hits on the way: in the list's order first, then in their own. An opaque hit leaves nothing at whatever place of the order (`opaque-dark`), so the
+// scan ends at the first it meets; the Rust collects all hits and sorts them.
 pub fn transmittance(
     points: &[f32],
     uses: &[u32],
@@ -92,7 +92,7 @@ pub fn transmittance(
     let mut m = 0;
     let mut i = 0;
     while i < n {
-        let f = next_hit(points, i, n, ray);
+        let f = first_hit(points, i, n, ray);
         match f {
             Nearest::Nothing => {
                 i = n;
@@ -173,22 +173,6 @@ pub fn first_hit(points: &[f32], from: usize, n: usize, ray: Ray) -> Nearest
         }
     }
     Nearest::Nothing
-}
-
-// The first hit from place i up to place n. Sheets may stand one after the other in the list, and a run that is looked over for each of them would be looked over
-// in vain, so the triangle after a hit is tested by itself.
-fn next_hit(points: &[f32], i: usize, n: usize, ray: Ray) -> Nearest
-    requires { ⌜ (i < n) × (n * 9 ≤ length (now points)) ⌝ }
-    ensures { λ r. ⌜ FirstFrom (now (points .entry)) ray i n r ⌝ }
-{
-    if i == 0 {
-        return first_hit(points, i, n, ray);
-    }
-    let m = meet_at(points, i, ray);
-    match m {
-        Meet::Miss => first_hit(points, i + 1, n, ray),
-        Meet::Hit(t, u, v) => Nearest::At(i, t, u, v),
-    }
 }
 
 // How many of those left are looked over at once.

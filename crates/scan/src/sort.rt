@@ -9,7 +9,7 @@ ghost use Rattle.scan.specs.Merge.{insertAll, sortOf, mergeOf, takesSeco
 // As many hits as a ray can have.
 const MOST: usize = 4096;
 
-// Up to so many hits are inserted one by one: with more, what is lent for merging pays.
+// Up to so many hits are inserted one by one; with more, the room to merge them pays.
 const FEW: usize = 96;
 
 // Halves of up to so many hits are not halved again.

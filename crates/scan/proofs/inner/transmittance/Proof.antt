@@ -36,8 +36,8 @@ loop-holds : tie.Need-loop-holds Inv-loop μ-loop
 unfolding hitsOf paired insertAll
 loop-holds c = (search needs, search needs, refl, refl, refl, tt, λ h m. absurd (List·Memᴰ·not-nil m))
 
-next-hit-requires : tie.Need-next-hit-requires Inv-loop μ-loop
-next-hit-requires c κs = (omega arith, omega arith)
+first-hit-requires : tie.Need-first-hit-requires Inv-loop μ-loop
+first-hit-requires c κs = (omega arith, omega arith)
 
 enum-told : tie.Need-enum-told Inv-loop μ-loop
 enum-told c = search needs
@@ -49,7 +49,7 @@ loop-again : tie.Need-loop-again Inv-loop μ-loop
 loop-again c =
     let f = c .before .before in
     let at = f .before .before .loop in
-    let missed = hits-over _ _ _ _ (at .inv .0) (rw (c .enum-told .given .1) at (f .next-hit .ensures)) in (
+    let missed = hits-over _ _ _ _ (at .inv .0) (rw (c .enum-told .given .1) at (f .first-hit .ensures)) in (
       omega arith,
       omega arith,
       at .inv .2,
@@ -66,7 +66,7 @@ kind-at-requires : tie.Need-kind-at-requires Inv-loop μ-loop
 kind-at-requires c κs =
     let h = c .before in
     let f = h .before .before in
-    let g = rw (h .f .given .1) at (f .next-hit .ensures) in
+    let g = rw (h .f .given .1) at (f .first-hit .ensures) in
     let s = f .before .before .before .before .before .before .before .before .before in
     (g .1, s .pre .0 .within _ (g .1))
 
@@ -79,7 +79,7 @@ same-length-2 c = c .before .before .before .before .before .before .before .loo
 returns : tie.Need-returns Inv-loop μ-loop
 returns c =
     let h = c .before .before .before in
-    let g = rw (h .f .given .1) at (h .before .before .next-hit .ensures) in
+    let g = rw (h .f .given .1) at (h .before .before .first-hit .ensures) in
     sym (opaque-dark _ _ _ _ _ _ (g .1) (g .3) (sym (c .before .kind-at .ensures) ∙ c .if1 .taken))
 
 mul-distances : tie.Need-mul-distances Inv-loop μ-loop
@@ -100,13 +100,13 @@ add-m c = omega arith
 add-i : tie.Need-add-i Inv-loop μ-loop
 add-i c =
     let h = c .before .before .before in
-    let g = rw (h .f .given .1) at (h .before .before .next-hit .ensures) in
+    let g = rw (h .f .given .1) at (h .before .before .first-hit .ensures) in
     omega (arith, g .1)
 
 loop-less-2 : tie.Need-loop-less-2 Inv-loop μ-loop
 loop-less-2 c =
     let h = c .before .before .before in
-    let g = rw (h .f .given .1) at (h .before .before .next-hit .ensures) in
+    let g = rw (h .f .given .1) at (h .before .before .first-hit .ensures) in
     omega (arith, g .0, g .1)
 
 loop-again-2 : tie.Need-loop-again-2 Inv-loop μ-loop
@@ -114,7 +114,7 @@ unfolding insertAll
 loop-again-2 c =
     let h = c .before .before .before in
     let at = h .before .before .before .before .loop in
-    let g = rw (h .f .given .1) at (h .before .before .next-hit .ensures) in
+    let g = rw (h .f .given .1) at (h .before .before .first-hit .ensures) in
     let one = stored (at .distances) (at .places) (at .m) (h .f .given .0 .1 .0) (h .f .given .0 .0) (omega arith) (omega arith) in
     let a = h .before .before .before .before .before .before .before .before .before .before .before .args in
     let clear = rw (c .before .kind-at .ensures) at (ne-eqb (c .before .kind-at .result) 0 (c .if1 .left)) in (
@@ -215,7 +215,7 @@ transmittance-spec =
     Inv-loop
     μ-loop
     loop-holds
-    next-hit-requires
+    first-hit-requires
     enum-told
     loop-less
     loop-again
