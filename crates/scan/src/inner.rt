@@ -5,6 +5,7 @@ ghost use lib.ListN.{length, getD};
 ghost use Rattle.names.specs.Bits.{one32};
 ghost use Rattle.names.specs.Scene.{Sound, sceneOf};
 ghost use Rattle.triangle.specs.Meet.{meetOf};
+ghost use Rattle.triangle.specs.Missed.{Missed};
 ghost use Rattle.triangle.specs.Places.{triangleAt};
 ghost use Rattle.triangle.specs.declared.Meet.the-variants.{Hit};
 ghost use Rattle.scan.specs.Nearest.{beats, nearerOf, nearestOf};
@@ -28,7 +29,7 @@ pub fn nearest(points: &[f32], uses: &[u32], kinds: &[u8], numbers: &[f32], ray:
     let mut best = Nearest::Nothing;
     let mut i = 0;
     while i < n {
-        let f = first_hit(points, i, n, ray);
+        let f = first_hit(points, i, n, false, ray);
         match f {
             Nearest::Nothing => {
                 i = n;
@@ -92,7 +93,7 @@ pub fn transmittance(
     let mut m = 0;
     let mut i = 0;
     while i < n {
-        let f = first_hit(points, i, n, ray);
+        let f = first_hit(points, i, n, 0 < m, ray);
         match f {
             Nearest::Nothing => {
                 i = n;
@@ -147,16 +148,19 @@ fn product(uses: &[u32], numbers: &[f32], places: &[usize]) -> f32
 // again.
 const RUN: usize = 8;
 
-// The first hit from place i up to place n, in the list's order. Runs of triangles that are surely missed are passed over; the test decides of a
-// triangle that may be met.
-pub fn first_hit(points: &[f32], from: usize, n: usize, ray: Ray) -> Nearest
+// The first hit from place `from` up to place n, in the list's order. Runs of triangles that are surely missed are passed over; the test decides of a
+// triangle that may be met. Where `single` is true the first triangle is tested by itself: after a hit the next is often one too, and a run looked over for
+// nothing.
+pub fn first_hit(points: &[f32], from: usize, n: usize, single: bool, ray: Ray) -> Nearest
     requires { ⌜ (from ≤ n) × (n * 9 ≤ length (now points)) ⌝ }
     ensures { λ r. ⌜ FirstFrom (now (points .entry)) ray from n r ⌝ }
 {
     let mut i = from;
+    let mut one = single;
     while i < n {
         let k = run_of(n - i);
-        let c = triangle::inner::clear(points, i, k, ray);
+        let c = passed(points, i, k, one, ray);
+        one = false;
         let j = i + c as usize;
         if c == k {
             i = j;
@@ -173,6 +177,17 @@ pub fn first_hit(points: &[f32], from: usize, n: usize, ray: Ray) -> Nearest
         }
     }
     Nearest::Nothing
+}
+
+// How many of the k triangles from place i on are passed over: none where one is to be tested by itself.
+fn passed(points: &[f32], i: usize, k: u16, one: bool, ray: Ray) -> u16
+    requires { ⌜ (i + k) * 9 ≤ length (now points) ⌝ }
+    ensures { λ r. ⌜ (r ≤ k) × Missed (now (points .entry)) ray i (i + r) ⌝ }
+{
+    if one {
+        return 0;
+    }
+    triangle::inner::clear(points, i, k, ray)
 }
 
 // How many of those left are looked over at once.
