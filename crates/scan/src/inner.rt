@@ -5,7 +5,6 @@ ghost use lib.ListN.{length, getD};
 ghost use Rattle.names.specs.Bits.{one32};
 ghost use Rattle.names.specs.Scene.{Sound, sceneOf};
 ghost use Rattle.triangle.specs.Meet.{meetOf};
-ghost use Rattle.triangle.specs.Missed.{Missed};
 ghost use Rattle.triangle.specs.Places.{triangleAt};
 ghost use Rattle.triangle.specs.declared.Meet.the-variants.{Hit};
 ghost use Rattle.scan.specs.Nearest.{beats, nearerOf, nearestOf};
@@ -29,7 +28,7 @@ pub fn nearest(points: &[f32], uses: &[u32], kinds: &[u8], numbers: &[f32], ray:
     let mut best = Nearest::Nothing;
     let mut i = 0;
     while i < n {
-        let f = first_hit(points, i, n, false, ray);
+        let f = first_hit(points, i, n, ray);
         match f {
             Nearest::Nothing => {
                 i = n;
@@ -92,11 +91,14 @@ pub fn transmittance(
     let n = uses.len();
     let mut m = 0;
     let mut i = 0;
+    // after a hit the next triangle is searched by itself: it is often one too, and a run would be looked over for nothing
+    let mut end = n;
     while i < n {
-        let f = first_hit(points, i, n, 0 < m, ray);
+        let f = first_hit(points, i, end, ray);
         match f {
             Nearest::Nothing => {
-                i = n;
+                i = end;
+                end = n;
             }
             Nearest::At(j, t, _, _) => {
                 if kind_at(uses, kinds, j) == 0 {
@@ -106,11 +108,22 @@ pub fn transmittance(
                 places[m] = j;
                 m += 1;
                 i = j + 1;
+                end = one_more(i, n);
             }
         }
     }
     super::sort::in_order(&mut distances[..m], &mut places[..m]);
     product(uses, numbers, &places[..m])
+}
+
+// The place after i, or the end.
+fn one_more(i: usize, n: usize) -> usize
+    ensures { λ r. ⌜ (i < n → i < r) × (r ≤ n) ⌝ }
+{
+    if i < n {
+        return i + 1;
+    }
+    n
 }
 
 // The kind of the material that the triangle at place i uses: 0 is opaque.
@@ -148,19 +161,16 @@ fn product(uses: &[u32], numbers: &[f32], places: &[usize]) -> f32
 // again.
 const RUN: usize = 8;
 
-// The first hit from place `from` up to place n, in the list's order. Runs of triangles that are surely missed are passed over; the test decides of a
-// triangle that may be met. Where `single` is true the first triangle is tested by itself: after a hit the next is often one too, and a run looked over for
-// nothing.
-pub fn first_hit(points: &[f32], from: usize, n: usize, single: bool, ray: Ray) -> Nearest
+// The first hit from place i up to place n, in the list's order. Runs of triangles that are surely missed are passed over; the test decides of a
+// triangle that may be met.
+pub fn first_hit(points: &[f32], from: usize, n: usize, ray: Ray) -> Nearest
     requires { ⌜ (from ≤ n) × (n * 9 ≤ length (now points)) ⌝ }
     ensures { λ r. ⌜ FirstFrom (now (points .entry)) ray from n r ⌝ }
 {
     let mut i = from;
-    let mut one = single;
     while i < n {
         let k = run_of(n - i);
-        let c = passed(points, i, k, one, ray);
-        one = false;
+        let c = triangle::inner::clear(points, i, k, ray);
         let j = i + c as usize;
         if c == k {
             i = j;
@@ -177,17 +187,6 @@ pub fn first_hit(points: &[f32], from: usize, n: usize, single: bool, ray: Ray) 
         }
     }
     Nearest::Nothing
-}
-
-// How many of the k triangles from place i on are passed over: none where one is to be tested by itself.
-fn passed(points: &[f32], i: usize, k: u16, one: bool, ray: Ray) -> u16
-    requires { ⌜ (i + k) * 9 ≤ length (now points) ⌝ }
-    ensures { λ r. ⌜ (r ≤ k) × Missed (now (points .entry)) ray i (i + r) ⌝ }
-{
-    if one {
-        return 0;
-    }
-    triangle::inner::clear(points, i, k, ray)
 }
 
 // How many of those left are looked over at once.

@@ -9,10 +9,10 @@ use Rattle.scan.proofs.inner.first_hit.Statement.{statement}
 use Rattle.scan.proofs.inner.first_hit.Tie as tie
 
 abbrev Inv-loop : tie.InvT-loop
-Inv-loop points from n single ray i₀ one₀ i one = (from ≤ i) × (i ≤ n) × Missed points ray from i
+Inv-loop points from n ray i₀ i = (from ≤ i) × (i ≤ n) × Missed points ray from i
 
 abbrev μ-loop : tie.MeasureT-loop
-μ-loop points from n single ray i₀ one₀ i one = n - i
+μ-loop points from n ray i₀ i = n - i
 
 loop-holds : tie.Need-loop-holds Inv-loop μ-loop
 loop-holds c = (omega arith, omega arith, λ l p q. absurd (omega arith))
@@ -23,8 +23,8 @@ sub-run-of c = omega arith
 run-of-requires : tie.Need-run-of-requires Inv-loop μ-loop
 run-of-requires c κs = search needs
 
-passed-requires : tie.Need-passed-requires Inv-loop μ-loop
-passed-requires c κs = omega arith
+clear-requires : tie.Need-clear-requires Inv-loop μ-loop
+clear-requires c κs = omega arith
 
 cast-j : tie.Need-cast-j Inv-loop μ-loop
 cast-j c = search needs
@@ -33,14 +33,14 @@ add-j : tie.Need-add-j Inv-loop μ-loop
 add-j c = omega arith
 
 -- the run up to the triangle that may be met is missed too
-run-missed : (c : tie.After-passed Inv-loop μ-loop)
+run-missed : (c : tie.After-clear Inv-loop μ-loop)
     → let at = c .before .before .before in
     let a = at .before .before .args in
-    Missed (a .points .now) (a .ray) (a .from) (at .loop .i + c .passed .result)
+    Missed (a .points .now) (a .ray) (a .from) (at .loop .i + c .clear .result)
 run-missed c =
     let at = c .before .before .before in
     let a = at .before .before .args in
-    missed-more (a .points .now) (a .ray) (a .from) (at .loop .i) _ (at .loop .inv .2) (c .passed .ensures .1)
+    missed-more (a .points .now) (a .ray) (a .from) (at .loop .i) _ (at .loop .inv .2) (c .clear .ensures .1)
 
 loop-less : tie.Need-loop-less Inv-loop μ-loop
 loop-less c = omega (arith, c .before .before .run-of .ensures .1 (omega arith))
@@ -90,7 +90,7 @@ first-hit-spec =
     loop-holds
     sub-run-of
     run-of-requires
-    passed-requires
+    clear-requires
     cast-j
     add-j
     loop-less

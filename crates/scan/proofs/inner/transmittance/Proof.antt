@@ -1,9 +1,9 @@
 -- `scan::inner::transmittance` meets its contract. The loop's invariant: the first m of the two lists, put in order, are the hits of the first i
 -- triangles, each distance is a number and no hit is opaque. The triangles before the first hit are missed and add none. An opaque hit is the whole answer; otherwise
 -- the product is taken over the places of all hits, each of which stands in the list of uses.
-use mathlib.Core.Path.{_≡_, refl, sym, ap, _∙_}
+use mathlib.Core.Path.{_≡_, refl, sym, ap, subst, _∙_}
 use mathlib.Core.List.{List, [], _++_, List·Memᴰ·not-nil}
-use Prim.Native.Nat.{_≤_, _-_}
+use Prim.Native.Nat.{_≤_, _<_, _-_}
 use native.Mathlib.Numerals.{add-one}
 use native.Mathlib.Omega.{arith}
 use borrow.Author.Tests.{ne-eqb}
@@ -24,39 +24,44 @@ use Rattle.scan.proofs.inner.transmittance.Statement.{statement}
 use Rattle.scan.proofs.inner.transmittance.Tie as tie
 
 abbrev Inv-loop : tie.InvT-loop
-Inv-loop points uses kinds numbers ray distances₀ places₀ n m₀ i₀ distances places m i =
+Inv-loop points uses kinds numbers ray distances₀ places₀ n m₀ i₀ end₀ distances places m i end =
     (i ≤ n) × (m ≤ i) × (length distances ≡ length distances₀) × (length places ≡ length places₀)
     × (sortOf (paired (take m distances) (take m places)) ≡ hitsOf points ray i) × Numbers (paired (take m distances) (take m places))
-    × NoneOpaque uses kinds (hitsOf points ray i)
+    × NoneOpaque uses kinds (hitsOf points ray i) × (i < n → i < end) × (end ≤ n)
 
 abbrev μ-loop : tie.MeasureT-loop
-μ-loop points uses kinds numbers ray distances₀ places₀ n m₀ i₀ distances places m i = n - i
+μ-loop points uses kinds numbers ray distances₀ places₀ n m₀ i₀ end₀ distances places m i end = n - i
 
 loop-holds : tie.Need-loop-holds Inv-loop μ-loop
 unfolding hitsOf paired insertAll
-loop-holds c = (search needs, search needs, refl, refl, refl, tt, λ h m. absurd (List·Memᴰ·not-nil m))
+loop-holds c = (search needs, search needs, refl, refl, refl, tt, (λ h m. absurd (List·Memᴰ·not-nil m)), (λ h. h), omega arith)
 
 first-hit-requires : tie.Need-first-hit-requires Inv-loop μ-loop
-first-hit-requires c κs = (omega arith, omega arith)
+first-hit-requires c κs = let l = c .before .loop in (omega (arith, l .inv .7 (omega arith)), omega (arith, l .inv .8))
 
 enum-told : tie.Need-enum-told Inv-loop μ-loop
 enum-told c = search needs
 
 loop-less : tie.Need-loop-less Inv-loop μ-loop
-loop-less c = omega arith
+loop-less c =
+    let at = c .before .before .before .before .loop in
+    omega (arith, at .inv .7 (omega arith), at .inv .8)
 
 loop-again : tie.Need-loop-again Inv-loop μ-loop
 loop-again c =
     let f = c .before .before in
     let at = f .before .before .loop in
-    let missed = hits-over _ _ _ _ (at .inv .0) (rw (c .enum-told .given .1) at (f .first-hit .ensures)) in (
-      omega arith,
-      omega arith,
+    let ahead : at .i ≤ at .end = omega (arith, at .inv .7 (omega arith)) in
+    let missed = hits-over _ _ _ _ ahead (rw (c .enum-told .given .1) at (f .first-hit .ensures)) in (
+      at .inv .8,
+      omega (arith, at .inv .1, ahead),
       at .inv .2,
       at .inv .3,
       at .inv .4 ∙ sym missed,
       at .inv .5,
       rw missed (at .inv .6),
+      (λ h. h),
+      omega arith,
     )
 
 enum-known-f : tie.Need-enum-known-f Inv-loop μ-loop
@@ -68,7 +73,8 @@ kind-at-requires c κs =
     let f = h .before .before in
     let g = rw (h .f .given .1) at (f .first-hit .ensures) in
     let s = f .before .before .before .before .before .before .before .before .before in
-    (g .1, s .pre .0 .within _ (g .1))
+    let b : h .f .given .0 .0 < length (s .args .uses .now) = omega (arith, g .1, f .before .before .loop .inv .8) in
+    (b, s .pre .0 .within _ b)
 
 same-length : tie.Need-same-length Inv-loop μ-loop
 same-length c = c .before .before .before .before .before .before .before .loop .inv .2
@@ -80,7 +86,9 @@ returns : tie.Need-returns Inv-loop μ-loop
 returns c =
     let h = c .before .before .before in
     let g = rw (h .f .given .1) at (h .before .before .first-hit .ensures) in
-    sym (opaque-dark _ _ _ _ _ _ (g .1) (g .3) (sym (c .before .kind-at .ensures) ∙ c .if1 .taken))
+    let a = h .before .before .before .before .before .before .before .before .before .before .before .args in
+    let b : h .f .given .0 .0 < length (a .uses .now) = omega (arith, g .1, h .before .before .before .before .loop .inv .8) in
+    sym (opaque-dark _ _ _ _ _ _ b (g .3) (sym (c .before .kind-at .ensures) ∙ c .if1 .taken))
 
 mul-distances : tie.Need-mul-distances Inv-loop μ-loop
 mul-distances c = omega arith
@@ -103,29 +111,37 @@ add-i c =
     let g = rw (h .f .given .1) at (h .before .before .first-hit .ensures) in
     omega (arith, g .1)
 
+one-more-requires : tie.Need-one-more-requires Inv-loop μ-loop
+one-more-requires c κs = search needs
+
 loop-less-2 : tie.Need-loop-less-2 Inv-loop μ-loop
 loop-less-2 c =
-    let h = c .before .before .before in
+    let h = c .before .before .before .before in
     let g = rw (h .f .given .1) at (h .before .before .first-hit .ensures) in
-    omega (arith, g .0, g .1)
+    omega (arith, g .0, g .1, h .before .before .before .before .loop .inv .8)
 
 loop-again-2 : tie.Need-loop-again-2 Inv-loop μ-loop
 unfolding insertAll
 loop-again-2 c =
-    let h = c .before .before .before in
+    let h = c .before .before .before .before in
     let at = h .before .before .before .before .loop in
     let g = rw (h .f .given .1) at (h .before .before .first-hit .ensures) in
     let one = stored (at .distances) (at .places) (at .m) (h .f .given .0 .1 .0) (h .f .given .0 .0) (omega arith) (omega arith) in
     let a = h .before .before .before .before .before .before .before .before .before .before .before .args in
-    let clear = rw (c .before .kind-at .ensures) at (ne-eqb (c .before .kind-at .result) 0 (c .if1 .left)) in (
-      omega (arith, g .1),
+    let clear = rw (c .before .before .kind-at .ensures) at (ne-eqb (c .before .before .kind-at .result) 0 (c .before .if1 .left)) in (
+      omega (arith, g .1, at .inv .8),
       omega (arith, g .0),
       length-set (at .distances) (at .m) _ ∙ at .inv .2,
       length-set (at .places) (at .m) _ ∙ at .inv .3,
-      rw (one, insert-all-append [] (paired (take (at .m) (at .distances)) (take (at .m) (at .places))), at .inv .4, add-one) (sym (hits-first _ _ _ _ _ _ _ _ g)),
-      rw one (numbers-append (paired (take (at .m) (at .distances)) (take (at .m) (at .places))) _ (at .inv .5) (hit-number _ _ _ _ _ (g .3), tt)),
+      ap (λ (l : List Struck). sortOf l) one
+          ∙ insert-all-append [] (paired (take (at .m) (at .distances)) (take (at .m) (at .places))) _
+          ∙ rw (at .inv .4, add-one) (sym (hits-first _ _ _ _ _ _ _ _ g)),
+      subst (λ (l : List Struck). Numbers l) (sym one)
+          (numbers-append (paired (take (at .m) (at .distances)) (take (at .m) (at .places))) _ (at .inv .5) (hit-number _ _ _ _ _ (g .3), tt)),
       rw (add-one, hits-first _ _ _ _ _ _ _ _ g)
           (none-opaque-put (a .uses .now) (a .kinds .now) (struck (h .f .given .0 .1 .0) (h .f .given .0 .0)) (hitsOf (a .points .now) (a .ray) (at .i)) clear (at .inv .6)),
+      c .one-more .ensures .0,
+      c .one-more .ensures .1,
     )
 
 slice-relend-prefix-in-order : tie.Need-slice-relend-prefix-in-order Inv-loop μ-loop
@@ -230,6 +246,7 @@ transmittance-spec =
     slice-write-places
     add-m
     add-i
+    one-more-requires
     loop-less-2
     loop-again-2
     slice-relend-prefix-in-order
