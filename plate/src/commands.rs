@@ -59,6 +59,12 @@ pub fn check(paths: &[PathBuf], json: bool) -> Result<u8> {
                 println!("{}: {} is good: {} triangles, {} materials, {} lamps, {} faces, {} × {} × {} voxels of {:.3} × {:.3} × {:.3} m", path.display(),
                     hall.name, thousands(hall.triangles() as u64), hall.kinds.len(), hall.lamp_count(), hall.faces.len(),
                     hall.axes.width, hall.axes.height, hall.axes.depth, edge.x, edge.y, edge.z);
+                let marked = baking::prepare(&hall)?.marked;
+                let idle = hall.axes.count() as u64 - marked.active;
+                if idle > 0 {
+                    println!("note: {} of {} voxels lie more than two voxels from every surface. They are not baked but hold the open sky's light, and their neighbours some of it by the mean: \
+                        in a closed hall take larger voxels, so that there are none", thousands(idle), thousands(hall.axes.count() as u64));
+                }
                 if hall.sun.colour != Vec3::default() {
                     println!("note: a voxel's look at the sun starts {off:.2} m away, so what stands nearer casts no shadow on its sun number");
                 }
@@ -579,7 +585,7 @@ pub fn demo(args: &Demo) -> Result<u8> {
     let y = level(1.3, hall.corners.min.y, edge.y, hall.axes.height);
     let z = level(1.5, hall.corners.min.z, edge.z, hall.axes.depth);
     let camera = Camera { from: Vec3::new(6.2, 1.75, 14.5), to: Vec3::new(5.6, 1.35, 0.0), wide: 64.0 };
-    show("view.png", picture::view(&volume, &hall, &camera, 960, 540)?, None,
+    show("view.png", picture::view(&volume, &hall, &camera, 640, 360)?, None,
         "The hall as an archer sees it: three mats with their faces under their hoods, a net behind them, lamps on the ceiling, windows to the right with the sun's \
          patches on floor and wall. Lamps and sun fall straight here; what is bright in the shadows is the volume's.")?;
     show("plan.png", picture::slice(&volume, 1, y, Of::Irradiance(Vec3::new(0.0, 1.0, 0.0)), Some(&hall)), None,
@@ -588,11 +594,11 @@ pub fn demo(args: &Demo) -> Result<u8> {
     show("slice.png", picture::slice(&volume, 2, z, Of::Irradiance(Vec3::new(0.0, 0.0, 1.0)), Some(&hall)), None,
         "A slice across the hall just before the mats, light on a face turned to the archers.")?;
     let face = hall.faces.first().map(|f| f.name.clone()).context("the sample hall has faces")?;
-    let straight = face_picture(&volume, &hall, &face, true, 512)?;
+    let straight = face_picture(&volume, &hall, &face, true, 400)?;
     let exposure = straight.exposure();
     show("face.png", straight, Some(exposure),
         "A target's face with lamps and sun: the hood's shadow lies over the upper rim, an edge for each lamp.")?;
-    show("face-volume.png", face_picture(&volume, &hall, &face, false, 512)?, Some(exposure),
+    show("face-volume.png", face_picture(&volume, &hall, &face, false, 400)?, Some(exposure),
         "The same face at the same exposure by the volume alone: what is left of the light in that shadow.")?;
     println!("done in {}", lasting(begun.elapsed().as_secs_f64()));
     Ok(GOOD)

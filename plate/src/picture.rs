@@ -176,13 +176,8 @@ fn seen(volume: &Volume, hall: &Hall, scratch: &mut crate::baking::Scratch, from
     let (mut part, mut shortest) = (1.0f32, 1e-3f32);
     for _ in 0..16 {
         let Some(hit) = nearest(hall.scene(), Ray { origin: from, direction: way, shortest, longest: f32::INFINITY })? else {
-            let sky = hall.sky.chunks_exact(3);
-            let mut along = vec![0.0; SKY_LENGTH];
-            directions(&mut along)?;
-            let nearest_to = along.chunks_exact(3).map(|d| vec::dot(way, Vec3::new(d[0], d[1], d[2])));
-            if let Some((colour, _)) = sky.zip(nearest_to).max_by(|a, b| a.1.total_cmp(&b.1)) {
-                (0..3).for_each(|c| sum[c] += part * colour[c]);
-            }
+            let colour = sky_along(hall, way)?;
+            (0..3).for_each(|c| sum[c] += part * colour[c]);
             break;
         };
         let p = &hall.points[9 * hit.place..9 * hit.place + 9];
@@ -206,6 +201,19 @@ fn seen(volume: &Volume, hall: &Hall, scratch: &mut crate::baking::Scratch, from
         }
     }
     Ok(sum)
+}
+
+/// The sky along a direction: the mean of its colours around, the nearer the more.
+fn sky_along(hall: &Hall, way: Vec3) -> Result<[f32; 3]> {
+    let mut along = vec![0.0; SKY_LENGTH];
+    directions(&mut along)?;
+    let (mut sum, mut weights) = ([0.0; 3], 0.0);
+    for (d, colour) in along.chunks_exact(3).zip(hall.sky.chunks_exact(3)) {
+        let weight = (vec::dot(way, Vec3::new(d[0], d[1], d[2])) - 0.97).max(0.0);
+        (0..3).for_each(|c| sum[c] += weight * colour[c]);
+        weights += weight;
+    }
+    Ok(if weights > 0.0 { sum.map(|x| x / weights) } else { [0.0; 3] })
 }
 
 /// The face's colour where a point lies on it, within a centimetre.
