@@ -150,7 +150,8 @@ fn bake_one(hall: &Hall, out: &Path, asked: &Baking, stop: &AtomicBool) -> Resul
         }
     }
     let begun = Instant::now();
-    let last_line = std::sync::Mutex::new((Instant::now() - Duration::from_secs(60), None::<u64>));
+    // when the last line of JSON was written, and how many voxels were done at the start
+    let last_line = std::sync::Mutex::new((None::<Instant>, None::<u64>));
     let tell = |told: Told| {
         let mut last = last_line.lock().unwrap();
         if last.1.is_none() {
@@ -160,8 +161,8 @@ fn bake_one(hall: &Hall, out: &Path, asked: &Baking, stop: &AtomicBool) -> Resul
         }
         bar.set_position(told.voxels);
         bar.set_message(format!("{} rays", thousands(told.rays)));
-        if asked.json && last.0.elapsed() >= Duration::from_secs(1) {
-            last.0 = Instant::now();
+        if asked.json && last.0.map_or(true, |at| at.elapsed() >= Duration::from_secs(1)) {
+            last.0 = Some(Instant::now());
             let line = serde_json::json!({ "event": "progress", "hall": hall.name, "voxels": told.voxels, "of": prepared.marked.active,
                 "rays": told.rays, "calls": told.calls, "seconds": begun.elapsed().as_secs_f64() });
             println!("{line}");

@@ -175,7 +175,7 @@ pub struct FaceArgs {
     #[arg(long)]
     direct: bool,
     /// Pixels along the longer side
-    #[arg(long, default_value_t = 512, value_parser = clap::value_parser!(u32).range(1..=4096))]
+    #[arg(long, default_value_t = 256, value_parser = clap::value_parser!(u32).range(1..=4096))]
     size: u32,
     #[arg(long)]
     exposure: Option<f32>,
@@ -234,6 +234,8 @@ pub fn unit_vector(text: &str) -> Result<Vec3, String> {
 
 /// Runs the command that the arguments name.
 pub fn run() -> ExitCode {
+    // `plate stats x.vgrd | head -1` ends quietly, as other commands do
+    unsafe { libc::signal(libc::SIGPIPE, libc::SIG_DFL) };
     let cli = Cli::parse();
     let ended = match cli.command {
         Command::Demo(args) => commands::demo(&args),

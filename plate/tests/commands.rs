@@ -143,6 +143,43 @@ fn shares_give_the_same_bits() {
 }
 
 #[test]
+fn a_bake_stops_at_its_time() {
+    let (_dir, path) = small();
+    edit(&path, "voxels = [12, 6, 16]", "voxels = [32, 16, 32]");
+    let hall = read(&path);
+    let prepared = baking::prepare(&hall).unwrap();
+    let stop = AtomicBool::new(false);
+    let begun = std::time::Instant::now();
+    let asked = baking::Asked {
+        shares: 2,
+        threads: 2,
+        allowance: 2000,
+        save_every: Duration::from_secs(10),
+        stop: &stop,
+        until: Some(begun + Duration::from_millis(300)),
+        tell: &|_| (),
+        save: &|_| Ok(()),
+    };
+    let outcome = baking::run(&hall, &prepared, None, &asked).unwrap();
+    assert!(matches!(outcome, baking::Outcome::Stopped { done, .. } if done > 0 && done < prepared.marked.active));
+    assert!(begun.elapsed() < Duration::from_secs(5));
+}
+
+#[test]
+fn drawings_that_nobody_here_made() {
+    // Debian's package assimp-testmodels, where it is installed: each is read or refused in words
+    let Ok(list) = std::fs::read_dir("/usr/share/assimp/models/OBJ") else { return };
+    let (dir, _) = small();
+    for entry in list.flatten().filter(|e| e.path().extension().map_or(false, |x| x == "obj")) {
+        let text = format!("obj = {:?}\n[grid]\nvoxels = [8, 8, 8]\nmin = [-2, -2, -2]\nmax = [2, 2, 2]\n", entry.path().display().to_string());
+        std::fs::write(dir.path().join("other.toml"), text).unwrap();
+        let output = plate(dir.path(), &["check", "other.toml"]);
+        let all = words(&output);
+        assert!(matches!(output.status.code(), Some(0 | 3)) && !all.contains("panicked") && !all.is_empty(), "{:?}: {all}", entry.path());
+    }
+}
+
+#[test]
 fn a_hall_without_surfaces_is_all_ambient() {
     let (dir, path) = small();
     std::fs::write(dir.path().join("hall.obj"), "# nothing\n").unwrap();
@@ -464,6 +501,8 @@ fn words_and_shells() {
         says(dir.path(), &["completions", shell], 0, &["plate"]);
     }
     says(dir.path(), &["completions", "tcsh"], 2, &[]);
+    let ended = Command::new("sh").arg("-c").arg(format!("{} completions bash | head -n 1", env!("CARGO_BIN_EXE_plate"))).output().unwrap();
+    assert!(std::env::var("PLATE_EMULATE").is_ok() || !words(&ended).contains("panicked"), "{}", words(&ended));
     says(dir.path(), &["--version"], 0, &["plate 0.1.0"]);
     says(dir.path(), &[], 2, &["Usage"]);
     // nothing is written over another file
