@@ -551,6 +551,10 @@ fn drawing_of(reading: &mut Reading, hall: &HallFile, folder: &Path, inputs: &mu
         }
     };
     inputs.push(Input { file: hall.obj.get_ref().clone(), sha256: sha256(&bytes) });
+    if bytes.starts_with(&[0xFE, 0xFF]) || bytes.starts_with(&[0xFF, 0xFE]) {
+        reading.found.fault(&file, None, "is in UTF-16; save it as plain text", None);
+        return None;
+    }
     let drawing_folder = path.parent().unwrap_or(folder);
     let drawing = obj::read(&bytes, drawing_folder);
     for (name, bytes) in &drawing.files {
@@ -575,6 +579,8 @@ fn drawing_of(reading: &mut Reading, hall: &HallFile, folder: &Path, inputs: &mu
             continue;
         }
         let (line, words) = line_in(message);
+        let unknown = message.split('\'').nth(1).filter(|_| message.contains("not found in .mtl"));
+        let line = line.or_else(|| unknown.and_then(|name| line_naming(&bytes, &["usemtl"], name)));
         reading.found.warn(&file, line, words);
     }
     let line_of_face = |face: usize| face.checked_sub(1).and_then(|place| drawing.lines.get(place)).copied();

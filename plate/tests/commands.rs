@@ -346,7 +346,10 @@ fn check_names_the_drawings_lines_and_faces() {
     let text = with("f 13 14 15 16", "f 13 0 15 16");
     says(at, &["check", "hall.toml"], 3, &[&format!("hall.obj:{}:", line_of(&text, "f 13 0"))]);
     let text = with("usemtl mat", "usemtl mast");
-    says(at, &["check", "hall.toml"], 0, &[&format!("hall.obj:{}: face 8: no material", line_of(&text, "f 13 14")), "grey"]);
+    let named = format!("hall.obj:{}: material [ 'mast' ] not found", line_of(&text, "usemtl mast"));
+    says(at, &["check", "hall.toml"], 0, &[&named, &format!("hall.obj:{}: face 8: no material", line_of(&text, "f 13 14")), "grey"]);
+    std::fs::write(&obj, [0xFE, 0xFF, 0, b'v']).unwrap();
+    says(at, &["check", "hall.toml"], 3, &["is in UTF-16"]);
     with("mtllib hall.mtl", "mtllib other.mtl");
     says(at, &["check", "hall.toml"], 3, &["hall.obj:2: its material file other.mtl cannot be read"]);
     // carriage returns, and a drawing in millimetres with z up, are the same hall
