@@ -1,0 +1,224 @@
+//! A bake by shares, in calls of an allowance, that can be stopped and gone on with.
+//!
+//! One share is the library's own bake, and that a bake spread over calls ends as the unbroken one is proved of it. More shares divide the active voxels, each
+//! into one; every share is a bake of its own mask, the unblurred numbers of a voxel are taken from the share that has it, and the mean is taken last. That
+//! this gives the same bits is tested (tests/), and not proved.
+use crate::hall::Hall;
+use crate::part::{Part, Share};
+use crate::volume::Volume;
+use anyhow::Result;
+use geaidnosa::*;
+use std::sync::atomic::{AtomicBool, AtomicU64, AtomicUsize, Ordering::SeqCst};
+use std::sync::Mutex;
+use std::time::{Duration, Instant};
+
+/// What comes before a bake: masks and the sun.
+pub struct Prepared {
+    pub occupied: Vec<u8>,
+    pub active: Vec<u8>,
+    pub light: Vec<f32>,
+    pub marked: Marked,
+}
+
+pub struct Scratch {
+    distances: Vec<f32>,
+    places: Vec<usize>,
+}
+
+impl Scratch {
+    pub fn new(hall: &Hall) -> Scratch {
+        Scratch { distances: vec![0.0; hall.triangles()], places: vec![0; hall.triangles()] }
+    }
+
+    pub fn lent(&mut self) -> HitScratch<'_> {
+        HitScratch { distances: &mut self.distances, places: &mut self.places }
+    }
+}
+
+pub fn prepare(hall: &Hall) -> Result<Prepared> {
+    let n = hall.axes.count();
+    let (mut occupied, mut active, mut light, mut scratch) = (vec![0; n], vec![0; n], vec![0.0; n], vec![0.0; n]);
+    let marked = masks(hall.axes, hall.corners, &hall.points, &mut occupied, &mut active)?;
+    sun(hall.axes, hall.corners, hall.scene(), hall.sun.direction, &active, &mut light, &mut scratch, Scratch::new(hall).lent())?;
+    Ok(Prepared { occupied, active, light, marked })
+}
+
+/// The masks of the shares: active voxel number j goes to share j mod count.
+pub fn shares_of(active: &[u8], count: usize) -> Vec<Vec<u8>> {
+    let mut masks = vec![vec![0; active.len()]; count];
+    let voxels = active.iter().enumerate().filter(|(_, a)| **a == 1);
+    voxels.enumerate().for_each(|(j, (voxel, _))| masks[j % count][voxel] = 1);
+    masks
+}
+
+/// What is asked of a bake.
+pub struct Asked<'a> {
+    pub shares: usize,
+    pub threads: usize,
+    pub allowance: u64,
+    pub save_every: Duration,
+    /// Set from outside to stop after the calls under way.
+    pub stop: &'a AtomicBool,
+    pub until: Option<Instant>,
+    /// Called now and then with what is done so far.
+    pub tell: &'a (dyn Fn(Told) + Sync),
+    /// Called now and then with what there is to save.
+    pub save: &'a (dyn Fn(&Part) -> Result<()> + Sync),
+}
+
+#[derive(Clone, Copy, Debug)]
+pub struct Told {
+    pub voxels: u64,
+    pub rays: u64,
+    pub calls: u64,
+}
+
+pub enum Outcome {
+    Done { volume: Volume, rays: u64, seconds: f64 },
+    Stopped { part: Part, done: u64 },
+}
+
+/// A share as it was after some call.
+#[derive(Clone)]
+struct State {
+    progress: usize,
+    rays: u64,
+    volume: Vec<f32>,
+}
+
+pub fn run(hall: &Hall, prepared: &Prepared, from: Option<Part>, asked: &Asked) -> Result<Outcome> {
+    let n = hall.axes.count();
+    let begun = Instant::now();
+    let count = from.as_ref().map_or(asked.shares, |p| p.shares.len()).clamp(1, (prepared.marked.active as usize).max(1));
+    let masks = shares_of(&prepared.active, count);
+    let before = from.as_ref().map_or(0.0, |p| p.seconds);
+    // how many active voxels each mask has below an index
+    let taken = |mask: &[u8], progress: usize| mask[..progress].iter().map(|m| u64::from(*m)).sum::<u64>();
+    let kept: Vec<Mutex<State>> = (0..count)
+        .map(|s| match &from {
+            Some(part) => State { progress: part.shares[s].progress, rays: part.shares[s].rays, volume: part.volume.clone() },
+            None => State { progress: 0, rays: 0, volume: vec![0.0; 16 * n] },
+        })
+        .map(Mutex::new)
+        .collect();
+    let voxels = AtomicU64::new(kept.iter().zip(&masks).map(|(k, m)| taken(m, k.lock().unwrap().progress)).sum());
+    let rays = AtomicU64::new(kept.iter().map(|k| k.lock().unwrap().rays).sum());
+    let calls = AtomicU64::new(0);
+    let running = AtomicUsize::new(count);
+    let halted = || asked.stop.load(SeqCst) || asked.until.map_or(false, |end| Instant::now() >= end);
+    let failed = AtomicBool::new(false);
+    // the blurred volume, where one share was the whole bake
+    let blurred: Mutex<Option<Vec<f32>>> = Mutex::new(None);
+
+    // One share to its end or to the stop.
+    let work = |s: usize| -> Result<()> {
+        let mask = &masks[s];
+        let mut state = kept[s].lock().unwrap().clone();
+        let mut scratch = vec![0.0; 16 * n];
+        let mut hits = Scratch::new(hall);
+        let mut saved = Instant::now();
+        while state.progress < n && !halted() && !failed.load(SeqCst) {
+            let was = state.progress;
+            let baked = bake(hall.input(mask, &prepared.light), &mut state.volume, &mut scratch, hits.lent(), was, asked.allowance)?;
+            state.progress = baked.progress;
+            state.rays += baked.rays;
+            voxels.fetch_add(taken(mask, baked.progress) - taken(mask, was), SeqCst);
+            rays.fetch_add(baked.rays, SeqCst);
+            calls.fetch_add(1, SeqCst);
+            if state.progress == n {
+                // the last call blurs the volume, unless nothing is active; what is kept for a save is the unblurred one
+                let unblurred = if mask.contains(&1) { std::mem::take(&mut scratch) } else { state.volume.clone() };
+                let last = std::mem::replace(&mut state.volume, unblurred);
+                if count == 1 {
+                    *blurred.lock().unwrap() = Some(last);
+                }
+            }
+            if state.progress == n || saved.elapsed() >= asked.save_every {
+                *kept[s].lock().unwrap() = state.clone();
+                saved = Instant::now();
+            }
+        }
+        *kept[s].lock().unwrap() = state;
+        Ok(())
+    };
+
+    let told = || Told { voxels: voxels.load(SeqCst), rays: rays.load(SeqCst), calls: calls.load(SeqCst) };
+    let whole = || -> Option<Part> {
+        let states: Vec<State> = kept.iter().map(|k| k.lock().unwrap().clone()).collect();
+        joined(&states, &masks, n).map(|volume| Part {
+            shares: states.iter().map(|s| Share { progress: s.progress, rays: s.rays }).collect(),
+            seconds: before + begun.elapsed().as_secs_f64(),
+            volume,
+        })
+    };
+    let pool = rayon::ThreadPoolBuilder::new().num_threads(asked.threads.clamp(1, count)).build()?;
+    let results: Mutex<Vec<anyhow::Error>> = Mutex::new(Vec::new());
+    std::thread::scope(|scope| {
+        scope.spawn(|| {
+            pool.scope(|inner| {
+                for s in 0..count {
+                    let (work, running, failed, results) = (&work, &running, &failed, &results);
+                    inner.spawn(move |_| {
+                        if let Err(error) = work(s) {
+                            failed.store(true, SeqCst);
+                            results.lock().unwrap().push(error);
+                        }
+                        running.fetch_sub(1, SeqCst);
+                    });
+                }
+            });
+        });
+        let mut saved = Instant::now();
+        while running.load(SeqCst) > 0 {
+            std::thread::sleep(Duration::from_millis(20));
+            (asked.tell)(told());
+            if saved.elapsed() >= asked.save_every && running.load(SeqCst) > 0 {
+                if let Some(Err(error)) = whole().map(|part| (asked.save)(&part)) {
+                    failed.store(true, SeqCst);
+                    results.lock().unwrap().push(error);
+                }
+                saved = Instant::now();
+            }
+        }
+    });
+    if let Some(error) = results.into_inner().unwrap().into_iter().next() {
+        return Err(error);
+    }
+    (asked.tell)(told());
+    let finished = kept.iter().all(|k| k.lock().unwrap().progress == n);
+    if !finished {
+        let part = whole().unwrap_or_else(|| Part { shares: vec![Share { progress: 0, rays: 0 }; count], seconds: before, volume: vec![0.0; 16 * n] });
+        return Ok(Outcome::Stopped { done: told().voxels, part });
+    }
+    let volume = match blurred.into_inner().unwrap() {
+        Some(volume) => volume,
+        None => {
+            let mut all = whole().expect("every share is at its end").volume;
+            if prepared.marked.active > 0 {
+                coefficient_blur(hall.axes, &mut all, &mut vec![0.0; 16 * n])?;
+            }
+            all
+        }
+    };
+    let volume = Volume {
+        axes: hall.axes,
+        corners: hall.corners,
+        light: prepared.light.clone(),
+        volume,
+        occupied: prepared.occupied.clone(),
+        active: prepared.active.clone(),
+    };
+    Ok(Outcome::Done { volume, rays: told().rays, seconds: before + begun.elapsed().as_secs_f64() })
+}
+
+/// The unblurred volume of all shares: a voxel that its share has passed from there, every other from a share that has begun, where it is ambient. None where
+/// no share has begun.
+fn joined(states: &[State], masks: &[Vec<u8>], n: usize) -> Option<Vec<f32>> {
+    let mut all = states.iter().find(|s| s.progress > 0)?.volume.clone();
+    for (state, mask) in states.iter().zip(masks) {
+        for voxel in (0..n.min(state.progress)).filter(|v| mask[*v] == 1) {
+            all[16 * voxel..16 * voxel + 16].copy_from_slice(&state.volume[16 * voxel..16 * voxel + 16]);
+        }
+    }
+    Some(all)
+}

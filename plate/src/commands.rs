@@ -1,0 +1,607 @@
+//! The commands, one function each; each answers its exit code, or an error in words.
+use crate::baking::{self, Asked, Outcome, Prepared, Scratch, Told};
+use crate::faults::Found;
+use crate::hall::{self, thousands, vec, Hall};
+use crate::part::{self, Part};
+use crate::picture::{self, Camera, Of, Picture};
+use crate::volume::{irradiance, Volume};
+use crate::{files, light, Bake, Demo, FaceArgs, Look, Plan, Slice, ViewArgs, DIFFERS, GOOD, REFUSED, SAVED};
+use anyhow::{bail, ensure, Context, Result};
+use geaidnosa::{Refusal, Vec3};
+use indicatif::{ProgressBar, ProgressDrawTarget, ProgressStyle};
+use std::path::{Path, PathBuf};
+use std::sync::atomic::{AtomicBool, Ordering::SeqCst};
+use std::time::{Duration, Instant};
+
+/// Reads a hall; its warnings go to standard error, and its faults are the error.
+fn read_hall(path: &Path, warn: bool) -> Result<Hall> {
+    let mut found = Found::default();
+    let hall = hall::read(path, &mut found);
+    if warn {
+        found.warnings.iter().for_each(|w| eprintln!("warning: {w}"));
+    }
+    found.judged()?;
+    hall.context("the hall cannot be read")
+}
+
+fn cores() -> usize {
+    std::thread::available_parallelism().map_or(1, |n| n.get())
+}
+
+fn lasting(seconds: f64) -> String {
+    match seconds as u64 {
+        s if s < 10 => format!("{seconds:.1} s"),
+        s if s < 120 => format!("{s} s"),
+        s if s < 7200 => format!("{} min", s / 60),
+        s => format!("{:.1} h", s as f64 / 3600.0),
+    }
+}
+
+pub fn check(paths: &[PathBuf], json: bool) -> Result<u8> {
+    let mut code = GOOD;
+    for path in paths {
+        let mut found = Found::default();
+        let hall = hall::read(path, &mut found);
+        if !found.faults.is_empty() {
+            code = REFUSED;
+        }
+        if json {
+            let line = serde_json::json!({ "hall": path.display().to_string(), "faults": found.faults, "warnings": found.warnings });
+            println!("{line}");
+            continue;
+        }
+        found.faults.iter().for_each(|f| println!("{f}"));
+        found.warnings.iter().for_each(|w| println!("warning: {w}"));
+        match hall {
+            Some(hall) => {
+                let edge = hall.edges();
+                let off = 3.0 * vec::dot(edge, edge).sqrt();
+                println!("{}: {} is good: {} triangles, {} materials, {} lamps, {} faces, {} × {} × {} voxels of {:.3} × {:.3} × {:.3} m", path.display(),
+                    hall.name, thousands(hall.triangles() as u64), hall.kinds.len(), hall.lamp_count(), hall.faces.len(),
+                    hall.axes.width, hall.axes.height, hall.axes.depth, edge.x, edge.y, edge.z);
+                let marked = baking::prepare(&hall)?.marked;
+                let idle = hall.axes.count() as u64 - marked.active;
+                if idle > 0 {
+                    println!("note: {} of {} voxels lie more than two voxels from every surface. They are not baked but hold the open sky's light, and their neighbours some of it by the mean: \
+                        in a closed hall take larger voxels, so that there are none", thousands(idle), thousands(hall.axes.count() as u64));
+                }
+                if hall.sun.colour != Vec3::default() {
+                    println!("note: a voxel's look at the sun starts {off:.2} m away, so what stands nearer casts no shadow on its sun number");
+                }
+            }
+            None => println!("{}: {} faults", path.display(), found.faults.len()),
+        }
+    }
+    Ok(code)
+}
+
+/// The next moment at which the clock shows HH:MM.
+fn moment(text: &str) -> Result<Instant> {
+    let time = chrono::NaiveTime::parse_from_str(text, "%H:%M").with_context(|| format!("--until {text}: a time of the day as HH:MM is needed"))?;
+    let now = chrono::Local::now().naive_local();
+    let mut then = now.date().and_time(time);
+    if then <= now {
+        then += chrono::Duration::days(1);
+    }
+    Ok(Instant::now() + (then - now).to_std()?)
+}
+
+fn threads_of(asked: Option<usize>) -> Result<usize> {
+    let threads = asked.unwrap_or_else(cores);
+    ensure!((1..=1024).contains(&threads), "--threads {threads}: from 1 to 1,024");
+    Ok(threads)
+}
+
+pub fn bake(args: &Bake) -> Result<u8> {
+    ensure!(args.out.is_none() || args.halls.len() == 1, "--out names one volume, and {} halls are given", args.halls.len());
+    ensure!(args.save_every.is_finite() && (0.0..=86_400.0).contains(&args.save_every), "--save-every {}: seconds from 0 to 86,400", args.save_every);
+    let threads = threads_of(args.threads)?;
+    let shares = args.shares.unwrap_or(threads);
+    ensure!((1..=1024).contains(&shares), "--shares {shares}: from 1 to 1,024");
+    let until = args.until.as_deref().map(moment).transpose()?;
+    static STOP: AtomicBool = AtomicBool::new(false);
+    ctrlc::set_handler(|| STOP.store(true, SeqCst)).context("Ctrl-C cannot be watched")?;
+    // all halls are judged before the first is baked
+    let halls = args.halls.iter().map(|path| read_hall(path, true)).collect::<Result<Vec<Hall>>>()?;
+    for hall in &halls {
+        let least = hall.voxel_cost();
+        ensure!(args.allowance >= least, "--allowance {}: {} lamps need at least {least} rays a call (refusal 10)", args.allowance, hall.lamp_count());
+    }
+    let mut code = GOOD;
+    for hall in &halls {
+        let out = args.out.clone().unwrap_or_else(|| hall.file.with_extension("vgrd"));
+        let asked = Baking { threads, shares, allowance: args.allowance, until, save_every: args.save_every, resume: args.resume, fresh: args.fresh, json: args.json };
+        code = bake_one(hall, &out, &asked, &STOP)?;
+        if code == SAVED {
+            break;
+        }
+    }
+    Ok(code)
+}
+
+struct Baking {
+    threads: usize,
+    shares: usize,
+    allowance: u64,
+    until: Option<Instant>,
+    save_every: f64,
+    resume: bool,
+    fresh: bool,
+    json: bool,
+}
+
+fn bake_one(hall: &Hall, out: &Path, asked: &Baking, stop: &AtomicBool) -> Result<u8> {
+    let part_path = part::path_of(out);
+    files::clear_temporaries(out);
+    files::clear_temporaries(&part_path);
+    let from = match part_path.exists() && !asked.fresh {
+        true => Some(Part::read(&part_path, hall)?),
+        false if asked.resume => bail!("{}: there is no part file to go on from", part_path.display()),
+        false => None,
+    };
+    let prepared = baking::prepare(hall)?;
+    let bar = ProgressBar::with_draw_target(Some(prepared.marked.active), if asked.json { ProgressDrawTarget::hidden() } else { ProgressDrawTarget::stderr() });
+    bar.set_style(ProgressStyle::with_template("{prefix} [{bar:32}] {pos}/{len} voxels, {msg}, {eta} left")?.progress_chars("=> "));
+    bar.set_prefix(hall.name.clone());
+    if let Some(part) = &from {
+        let rays: u64 = part.shares.iter().map(|s| s.rays).sum();
+        if !asked.json {
+            eprintln!("{}: going on from {}, {} rays", hall.name, part_path.display(), thousands(rays));
+        }
+    }
+    let begun = Instant::now();
+    // when the last line of JSON was written, and how many voxels were done at the start
+    let last_line = std::sync::Mutex::new((None::<Instant>, None::<u64>));
+    let tell = |told: Told| {
+        let mut last = last_line.lock().unwrap();
+        if last.1.is_none() {
+            bar.set_position(told.voxels);
+            bar.reset_eta();
+            last.1 = Some(told.voxels);
+        }
+        bar.set_position(told.voxels);
+        bar.set_message(format!("{} rays", thousands(told.rays)));
+        if asked.json && last.0.map_or(true, |at| at.elapsed() >= Duration::from_secs(1)) {
+            last.0 = Some(Instant::now());
+            let line = serde_json::json!({ "event": "progress", "hall": hall.name, "voxels": told.voxels, "of": prepared.marked.active,
+                "rays": told.rays, "calls": told.calls, "seconds": begun.elapsed().as_secs_f64() });
+            println!("{line}");
+        }
+    };
+    let save = |part: &Part| part.write(&part_path, hall);
+    let save_every = Duration::from_secs_f64(asked.save_every);
+    let run = Asked { shares: asked.shares, threads: asked.threads, allowance: asked.allowance, save_every, stop, until: asked.until, tell: &tell, save: &save };
+    let outcome = baking::run(hall, &prepared, from, &run)?;
+    bar.finish_and_clear();
+    let said = |words: String, line: serde_json::Value| if asked.json { println!("{line}") } else { println!("{words}") };
+    match outcome {
+        Outcome::Done { volume, rays, seconds } => {
+            volume.write(out)?;
+            if part_path.exists() {
+                std::fs::remove_file(&part_path).with_context(|| part_path.display().to_string())?;
+            }
+            let (active, time) = (prepared.marked.active, lasting(seconds));
+            said(
+                format!("{}: {}, {} of {} voxels active, {} rays, {time}", hall.name, out.display(), thousands(active), thousands(hall.axes.count() as u64), thousands(rays)),
+                serde_json::json!({ "event": "done", "hall": hall.name, "volume": out.display().to_string(), "voxels": active, "rays": rays, "seconds": seconds }),
+            );
+            Ok(GOOD)
+        }
+        Outcome::Stopped { part, done } => {
+            part.write(&part_path, hall)?;
+            let of = prepared.marked.active;
+            said(
+                format!("{}: stopped at {} of {} voxels and saved in {}; the same command goes on from there", hall.name, thousands(done), thousands(of), part_path.display()),
+                serde_json::json!({ "event": "saved", "hall": hall.name, "part": part_path.display().to_string(), "voxels": done, "of": of }),
+            );
+            Ok(SAVED)
+        }
+    }
+}
+
+pub fn plan(args: &Plan) -> Result<u8> {
+    ensure!(args.sample >= 1, "--sample {}: one voxel in at least one", args.sample);
+    let threads = threads_of(args.threads)?;
+    let mut all = 0.0;
+    for path in &args.halls {
+        let hall = read_hall(path, true)?;
+        let cost = hall.voxel_cost();
+        ensure!(args.allowance >= cost, "--allowance {}: {} lamps need at least {cost} rays a call (refusal 10)", args.allowance, hall.lamp_count());
+        let Prepared { active, light, marked, .. } = baking::prepare(&hall)?;
+        let n = hall.axes.count();
+        println!("{}: {} of {} voxels active, {} triangles, {} lamps", hall.name, thousands(marked.active), thousands(n as u64), hall.triangles(), hall.lamp_count());
+        if marked.active == 0 {
+            println!("  nothing to bake: no surface is near the grid");
+            continue;
+        }
+        println!("  sure: from {} to {} rays (64 to {cost} a voxel)", thousands(64 * marked.active), thousands(cost * marked.active));
+        let mut mask = vec![0; n];
+        let mut taken = 0;
+        for (j, voxel) in (0..n).filter(|v| active[*v] == 1).enumerate() {
+            if j % args.sample == args.sample / 2 || (taken == 0 && j as u64 + 1 == marked.active) {
+                mask[voxel] = 1;
+                taken += 1;
+            }
+        }
+        let (mut volume, mut scratch) = (vec![0.0; 16 * n], vec![0.0; 16 * n]);
+        let begun = Instant::now();
+        let baked = geaidnosa::bake(hall.input(&mask, &light), &mut volume, &mut scratch, Scratch::new(&hall).lent(), 0, u64::MAX)?;
+        let seconds = begun.elapsed().as_secs_f64();
+        let factor = marked.active as f64 / f64::from(taken);
+        let rays = baked.rays as f64 * factor;
+        let whole = seconds * factor / threads as f64;
+        all += whole;
+        println!("  foretold from {taken} voxels baked in {}: some {} rays, {} calls at {} rays, {} with {threads} threads", lasting(seconds),
+            thousands(rays as u64), thousands((rays / args.allowance as f64).ceil() as u64), thousands(args.allowance), lasting(whole));
+    }
+    if args.halls.len() > 1 {
+        println!("all {} halls: {}", args.halls.len(), lasting(all));
+    }
+    Ok(GOOD)
+}
+
+fn exposed(picture: &Picture, asked: Option<f32>, png: &Path) -> Result<f32> {
+    let exposure = asked.unwrap_or_else(|| picture.exposure());
+    ensure!(exposure.is_finite() && exposure > 0.0, "--exposure {exposure}: a number above 0");
+    picture.write_png(png, exposure)?;
+    Ok(exposure)
+}
+
+pub fn slice(args: &Slice) -> Result<u8> {
+    let volume = Volume::read(&args.volume)?;
+    let counts = [volume.axes.width, volume.axes.height, volume.axes.depth];
+    let (axis, place) = match (args.x, args.y, args.z) {
+        (Some(x), _, _) => (0, x),
+        (_, Some(y), _) => (1, y),
+        (_, _, Some(z)) => (2, z),
+        _ => bail!("one of --x, --y and --z is needed"),
+    };
+    let name = ["x", "y", "z"][axis];
+    ensure!(place < counts[axis], "--{name} {place}: the volume has {name} from 0 to {} (refusal 11)", counts[axis] - 1);
+    let hall = args.hall.as_deref().map(|path| read_hall(path, false)).transpose()?;
+    if let Some(hall) = &hall {
+        ensure!((hall.axes, hall.corners) == (volume.axes, volume.corners), "{} has another grid than the volume", hall.file.display());
+    }
+    let shown = picture::slice(&volume, axis, place, args.of, hall.as_ref());
+    let exposure = exposed(&shown, args.exposure.or(args.of.is_part().then_some(1.0)), &args.png)?;
+    println!("{}: slice {name} = {place}, {} × {} pixels, white is {:.4}", args.png.display(), shown.width, shown.height, 1.0 / exposure);
+    Ok(GOOD)
+}
+
+/// A face's picture, linear.
+fn face_picture(volume: &Volume, hall: &Hall, name: &str, direct: bool, size: usize) -> Result<Picture> {
+    use rayon::prelude::*;
+    let names = || hall.faces.iter().map(|f| f.name.as_str()).collect::<Vec<_>>().join(", ");
+    let face = hall.faces.iter().find(|f| f.name == name).with_context(|| format!("{}: no face {name}; it has {}", hall.file.display(), names()))?;
+    let (across, up) = (vec::dot(face.across, face.across).sqrt(), vec::dot(face.up, face.up).sqrt());
+    let longer = across.max(up);
+    let pixels = |side: f32| ((size as f32 * side / longer).round() as usize).max(1);
+    let (width, height) = (pixels(across), pixels(up));
+    let rows: Result<Vec<Vec<[f32; 3]>>> = (0..height)
+        .into_par_iter()
+        .map(|row| {
+            let mut scratch = Scratch::new(hall);
+            (0..width)
+                .map(|column| {
+                    let (right, upward) = ((column as f32 + 0.5) / width as f32, 1.0 - (row as f32 + 0.5) / height as f32);
+                    let point = vec::add(face.corner, vec::add(vec::scale(face.across, right), vec::scale(face.up, upward)));
+                    let falls = light::falling(volume, direct.then_some(hall), &mut scratch, point, face.normal)?;
+                    Ok(light::sent(light::paint(face, right, upward), falls))
+                })
+                .collect()
+        })
+        .collect();
+    Ok(Picture { width, height, pixels: rows?.into_iter().flatten().collect() })
+}
+
+pub fn face(args: &FaceArgs) -> Result<u8> {
+    let volume = Volume::read(&args.volume)?;
+    let hall = read_hall(&args.hall, false)?;
+    let shown = face_picture(&volume, &hall, &args.name, args.direct, args.size as usize)?;
+    let exposure = exposed(&shown, args.exposure, &args.png)?;
+    println!("{}: face {}, {} × {} pixels, white is {:.4}", args.png.display(), args.name, shown.width, shown.height, 1.0 / exposure);
+    Ok(GOOD)
+}
+
+pub fn view(args: &ViewArgs) -> Result<u8> {
+    ensure!(args.wide > 1.0 && args.wide < 170.0, "--wide {}: degrees between 1 and 170", args.wide);
+    let way = vec::sub(args.to, args.from);
+    ensure!(way.x.hypot(way.z) > 1e-6, "--from and --to: the camera looks straight up or down, or nowhere");
+    let volume = Volume::read(&args.volume)?;
+    let hall = read_hall(&args.hall, false)?;
+    let size = args.size as usize;
+    let shown = picture::view(&volume, &hall, &Camera { from: args.from, to: args.to, wide: args.wide }, size, size * 9 / 16)?;
+    let exposure = exposed(&shown, args.exposure, &args.png)?;
+    println!("{}: {} × {} pixels, white is {:.4}", args.png.display(), shown.width, shown.height, 1.0 / exposure);
+    Ok(GOOD)
+}
+
+#[derive(serde::Deserialize)]
+struct Position {
+    x: f32,
+    y: f32,
+    z: f32,
+    nx: Option<f32>,
+    ny: Option<f32>,
+    nz: Option<f32>,
+}
+
+pub fn look(args: &Look) -> Result<u8> {
+    let volume = Volume::read(&args.volume)?;
+    let hall = args.direct.as_deref().map(|path| read_hall(path, false)).transpose()?;
+    let input: Box<dyn std::io::Read> = match args.positions.to_str() {
+        Some("-") => Box::new(std::io::stdin()),
+        _ => Box::new(std::fs::File::open(&args.positions).with_context(|| args.positions.display().to_string())?),
+    };
+    let mut rows = csv::ReaderBuilder::new().trim(csv::Trim::All).from_reader(input);
+    let positions = rows.deserialize().collect::<Result<Vec<Position>, _>>().with_context(|| args.positions.display().to_string())?;
+    // a frame is judged whole before anything is answered
+    let list: Vec<f32> = positions.iter().flat_map(|p| [p.x, p.y, p.z]).collect();
+    let (mut lights, mut coefficients) = (vec![0.0; positions.len()], vec![0.0; 16 * positions.len()]);
+    let place = |refused: geaidnosa::FirstRefused| match refused.refusal {
+        Refusal::Position | Refusal::Contents => anyhow::anyhow!("{}: position {} (counted from 1): {}", args.positions.display(), refused.place + 1, refused.refusal),
+        other => anyhow::anyhow!("{other}"),
+    };
+    geaidnosa::frame_lights(volume.axes, volume.corners, &volume.light, &list, &mut lights).map_err(place)?;
+    geaidnosa::frame_coefficients(volume.axes, volume.corners, &volume.volume, &list, &mut coefficients).map_err(place)?;
+    let mut out = csv::Writer::from_writer(std::io::stdout());
+    let mut head: Vec<String> = ["x", "y", "z", "nx", "ny", "nz", "sun", "sky", "Er", "Eg", "Eb"].map(String::from).to_vec();
+    head.extend((0..4).flat_map(|k| ["r", "g", "b"].map(|c| format!("c{k}{c}"))));
+    out.write_record(&head)?;
+    let mut scratch = hall.as_ref().map(Scratch::new);
+    for (row, p) in positions.iter().enumerate() {
+        let c = &coefficients[16 * row..16 * row + 16];
+        let normal = match (p.nx, p.ny, p.nz) {
+            (Some(x), Some(y), Some(z)) => {
+                let n = Vec3::new(x, y, z);
+                let squared = vec::dot(n, n);
+                ensure!(squared > 1e-12 && squared.is_finite(), "position {} (counted from 1): its normal is no direction", row + 1);
+                Some(vec::unit(n))
+            }
+            (None, None, None) => None,
+            _ => bail!("position {} (counted from 1): a normal has three numbers", row + 1),
+        };
+        ensure!(hall.is_none() || normal.is_some(), "position {} (counted from 1): --direct needs a normal", row + 1);
+        let mut fields: Vec<String> = [p.x, p.y, p.z].map(|x| x.to_string()).to_vec();
+        match normal {
+            Some(n) => {
+                let mut falls = irradiance(c, n).map(|x| x.max(0.0));
+                if let (Some(hall), Some(scratch)) = (&hall, &mut scratch) {
+                    let more = light::direct(hall, scratch, Vec3::new(p.x, p.y, p.z), n)?;
+                    (0..3).for_each(|k| falls[k] += more[k]);
+                }
+                fields.extend([n.x, n.y, n.z, lights[row], c[7]].map(|x| x.to_string()));
+                fields.extend(falls.map(|x| x.to_string()));
+            }
+            None => {
+                fields.extend(["", "", ""].map(String::from));
+                fields.extend([lights[row], c[7]].map(|x| x.to_string()));
+                fields.extend(["", "", ""].map(String::from));
+            }
+        }
+        fields.extend((0..4).flat_map(|k| (0..3).map(move |j| c[4 * k + j].to_string())));
+        out.write_record(&fields)?;
+    }
+    out.flush()?;
+    Ok(GOOD)
+}
+
+pub fn stats(paths: &[PathBuf]) -> Result<u8> {
+    for path in paths {
+        let volume = Volume::read(path)?;
+        let n = volume.axes.count();
+        let count = |mask: &[u8]| thousands(mask.iter().map(|m| u64::from(*m)).sum());
+        let (min, max, edge) = (volume.corners.min, volume.corners.max, hall::edges(volume.axes, volume.corners));
+        println!("{}: {} × {} × {} voxels of {:.3} × {:.3} × {:.3} m", path.display(), volume.axes.width, volume.axes.height, volume.axes.depth, edge.x, edge.y, edge.z);
+        println!("  from ({}, {}, {}) to ({}, {}, {})", min.x, min.y, min.z, max.x, max.y, max.z);
+        println!("  {} voxels, {} occupied, {} active, {} with sun 0", thousands(n as u64), count(&volume.occupied), count(&volume.active),
+            thousands(volume.light.iter().filter(|x| **x == 0.0).count() as u64));
+        let active: Vec<usize> = (0..n).filter(|v| volume.active[*v] == 1).collect();
+        if active.is_empty() {
+            continue;
+        }
+        let row = |name: &str, of: &dyn Fn(usize) -> f32| {
+            let (mut least, mut most, mut sum) = (f32::INFINITY, f32::NEG_INFINITY, 0.0f64);
+            for v in &active {
+                let x = of(*v);
+                (least, most, sum) = (least.min(x), most.max(x), sum + f64::from(x));
+            }
+            println!("  {name:<30} least {least:<10.4} mean {:<10.4} most {most:.4}", sum / active.len() as f64);
+        };
+        row("sun seen", &|v| volume.light[v]);
+        row("sky seen", &|v| volume.voxel(v)[7]);
+        for (name, n) in [("up +y", Vec3::new(0.0, 1.0, 0.0)), ("+z", Vec3::new(0.0, 0.0, 1.0)), ("+x", Vec3::new(1.0, 0.0, 0.0))] {
+            row(&format!("irradiance facing {name}"), &|v| {
+                let e = irradiance(volume.voxel(v), n);
+                0.2126 * e[0] + 0.7152 * e[1] + 0.0722 * e[2]
+            });
+        }
+    }
+    Ok(GOOD)
+}
+
+/// How two lists of one length differ, in words.
+fn compared(what: &str, first: &[f32], second: &[f32], a_voxel: usize, axes: geaidnosa::Axes) -> Option<String> {
+    let differ: Vec<usize> = (0..first.len()).filter(|i| first[*i].to_bits() != second[*i].to_bits()).collect();
+    let most = differ.iter().copied().max_by(|a, b| (first[*a] - second[*a]).abs().total_cmp(&(first[*b] - second[*b]).abs()))?;
+    let voxels = differ.iter().map(|i| i / a_voxel).collect::<std::collections::BTreeSet<_>>().len();
+    let v = most / a_voxel;
+    let (x, y, z) = (v % axes.width, v / axes.width % axes.height, v / axes.width / axes.height);
+    Some(format!("{what}: {} numbers in {} voxels differ, most at voxel ({x}, {y}, {z}): {} and {}", thousands(differ.len() as u64), thousands(voxels as u64), first[most], second[most]))
+}
+
+/// Every difference of two volumes, in words.
+fn differences(first: &Volume, second: &Volume) -> Vec<String> {
+    if first.axes != second.axes {
+        let size = |v: &Volume| format!("{} × {} × {}", v.axes.width, v.axes.height, v.axes.depth);
+        return vec![format!("axes: {} and {}", size(first), size(second))];
+    }
+    let corner = |v: &Volume| [<[f32; 3]>::from(v.corners.min), v.corners.max.into()].concat();
+    let mut words = Vec::new();
+    if corner(first).iter().zip(corner(second)).any(|(a, b)| a.to_bits() != b.to_bits()) {
+        words.push(format!("corners: {:?} and {:?}", corner(first), corner(second)));
+    }
+    words.extend(compared("sun", &first.light, &second.light, 1, first.axes));
+    words.extend(compared("coefficients", &first.volume, &second.volume, 16, first.axes));
+    for (what, a, b) in [("occupied", &first.occupied, &second.occupied), ("active", &first.active, &second.active)] {
+        let count = a.iter().zip(b).filter(|(x, y)| x != y).count();
+        if count > 0 {
+            words.push(format!("{what}: {count} voxels differ"));
+        }
+    }
+    words
+}
+
+pub fn diff(first: &Path, second: &Path) -> Result<u8> {
+    let words = differences(&Volume::read(first)?, &Volume::read(second)?);
+    if words.is_empty() {
+        println!("the same, bit for bit");
+        return Ok(GOOD);
+    }
+    words.iter().for_each(|w| println!("{w}"));
+    Ok(DIFFERS)
+}
+
+pub fn verify(volume_path: &Path, hall_path: &Path, sample: usize) -> Result<u8> {
+    let volume = Volume::read(volume_path)?;
+    let hall = read_hall(hall_path, false)?;
+    ensure!(sample >= 1, "--sample {sample}: at least one voxel");
+    let mut words = Vec::new();
+    if (hall.axes, hall.corners) != (volume.axes, volume.corners) {
+        println!("the hall's grid is not the volume's");
+        return Ok(DIFFERS);
+    }
+    let n = hall.axes.count();
+    let Prepared { occupied, active, light, marked } = baking::prepare(&hall)?;
+    if occupied != volume.occupied || active != volume.active {
+        words.push("the masks are not the hall's".to_string());
+    }
+    words.extend(compared("sun (file, then again)", &volume.light, &light, 1, hall.axes));
+    // A finished voxel is the mean of its 3×3×3 unblurred ones: bake those that are active, and the mean at the voxel is the whole bake's.
+    let voxels: Vec<usize> = (0..n).filter(|v| active[*v] == 1).collect();
+    let step = voxels.len().div_ceil(sample).max(1);
+    let chosen: Vec<usize> = voxels.iter().copied().skip(step / 2).step_by(step).collect();
+    let mut mask = vec![0; n];
+    let (w, h, d) = (hall.axes.width, hall.axes.height, hall.axes.depth);
+    let near = |at: usize, most: usize| at.saturating_sub(1)..(at + 2).min(most);
+    for v in &chosen {
+        let (x, y, z) = (v % w, v / w % h, v / w / h);
+        for (z, y, x) in near(z, d).flat_map(|z| near(y, h).flat_map(move |y| near(x, w).map(move |x| (z, y, x)))) {
+            let at = hall.axes.index(x, y, z);
+            mask[at] = active[at];
+        }
+    }
+    let (mut again, mut scratch) = (vec![0.0; 16 * n], vec![0.0; 16 * n]);
+    let baked = geaidnosa::bake(hall.input(&mask, &light), &mut again, &mut scratch, Scratch::new(&hall).lent(), 0, u64::MAX)?;
+    let wrong = chosen.iter().filter(|v| !volume.voxel(**v).iter().zip(&again[16 * **v..16 * **v + 16]).all(|(a, b)| a.to_bits() == b.to_bits())).count();
+    if wrong > 0 {
+        words.push(format!("{wrong} of {} voxels baked again come out differently", chosen.len()));
+    }
+    if words.is_empty() {
+        println!("good: masks and sun again, and {} of {} active voxels baked again ({} rays), bit for bit", chosen.len(), marked.active, thousands(baked.rays));
+        return Ok(GOOD);
+    }
+    words.iter().for_each(|w| println!("{w}"));
+    Ok(DIFFERS)
+}
+
+pub fn explain(number: u32) -> Result<u8> {
+    let Some(refusal) = Refusal::of_number(number) else {
+        let numbers: Vec<String> = Refusal::ALL.iter().map(|r| r.number().to_string()).collect();
+        bail!("{number}: no refusal has this number; there are {}", numbers.join(", "));
+    };
+    println!("refusal {number}: {}", refusal.words());
+    println!("{}", match refusal {
+        Refusal::Axis => "In hall.toml, grid.voxels: width, height and depth are whole numbers from 1 to 32.",
+        Refusal::Corner => "In hall.toml, grid.min and grid.max: min below max on every axis, all within 4,096 metres. Is unit right?",
+        Refusal::Length => "A list handed to the library has not the length that the grid or the triangles ask for. The program sees to this; a program of your own must.",
+        Refusal::TooMany => "Leave out what casts no light worth baking: chairs, screws, what is outside. A drawing has at most 4,096 triangles and 256 materials.",
+        Refusal::Point => "A point of the drawing is too far off or not finite. Is unit right? `plate check` names the face and its line.",
+        Refusal::Material => "A material's colour or transmission is out of range, in the material file or in hall.toml. `plate check` names it.",
+        Refusal::Light => "In hall.toml, sun and sky: sun.towards has a length, and every number is finite and at most 65,536.",
+        Refusal::Ray => "Only programs that trace rays of their own meet this one.",
+        Refusal::Progress => "A bake was asked to go on from past its end. The program never asks this.",
+        Refusal::Allowance => "Give --allowance at least 384 rays, and 64 more for each lamp.",
+        Refusal::Position => "A position looked up lies beyond 4,096 metres, or a slice past the grid.",
+        Refusal::File => "The volume file is not whole, not a volume, or changed since it was written. Bake it again.",
+        Refusal::Contents => "A list holds a number that no bake writes. Bake the volume again.",
+        Refusal::TooLong => "`volstat` reads files of at most 65,536 bytes; `plate stats` reads all of them.",
+        Refusal::Lamp => "In hall.toml, lamps: at most eight, each within 4,096 metres and of a colour of at most 65,536.",
+    });
+    Ok(GOOD)
+}
+
+const SAMPLE: [(&str, &str); 3] = [
+    ("hall.toml", include_str!("../demo/hall.toml")),
+    ("hall.obj", include_str!("../demo/hall.obj")),
+    ("hall.mtl", include_str!("../demo/hall.mtl")),
+];
+
+const BEGUN: [(&str, &str); 3] = [
+    ("hall.toml", include_str!("../new/hall.toml")),
+    ("hall.obj", include_str!("../new/hall.obj")),
+    ("hall.mtl", include_str!("../new/hall.mtl")),
+];
+
+/// Writes files into a folder, and none over another one.
+fn laid_out(dir: &Path, list: &[(&str, &str)]) -> Result<()> {
+    std::fs::create_dir_all(dir).with_context(|| dir.display().to_string())?;
+    for (name, text) in list {
+        let path = dir.join(name);
+        let there = std::fs::read(&path).ok();
+        ensure!(there.is_none() || there.as_deref() == Some(text.as_bytes()), "{} is there and is another file", path.display());
+    }
+    list.iter().try_for_each(|(name, text)| files::write_whole(&dir.join(name), &[text.as_bytes()]))
+}
+
+pub fn new(dir: &Path) -> Result<u8> {
+    laid_out(dir, &BEGUN)?;
+    println!("{}: a hall to begin with. Put your drawing in the place of hall.obj, then `plate check {0}`.", dir.join("hall.toml").display());
+    Ok(GOOD)
+}
+
+pub fn demo(args: &Demo) -> Result<u8> {
+    let begun = Instant::now();
+    let threads = threads_of(args.threads)?;
+    let dir = &args.dir;
+    laid_out(dir, &SAMPLE)?;
+    let hall = read_hall(&dir.join("hall.toml"), true)?;
+    println!("{}: a sample archery hall of {} triangles with {} lamps", dir.join("hall.toml").display(), hall.triangles(), hall.lamp_count());
+    let out = dir.join("hall.vgrd");
+    let asked = Baking { threads, shares: threads, allowance: 100_000, until: None, save_every: 10.0, resume: false, fresh: false, json: false };
+    static STOP: AtomicBool = AtomicBool::new(false);
+    ctrlc::set_handler(|| STOP.store(true, SeqCst)).context("Ctrl-C cannot be watched")?;
+    if bake_one(&hall, &out, &asked, &STOP)? == SAVED {
+        return Ok(SAVED);
+    }
+    let volume = Volume::read(&out)?;
+    let show = |name: &str, picture: Picture, exposure: Option<f32>, words: &str| -> Result<()> {
+        let path = dir.join(name);
+        exposed(&picture, exposure, &path)?;
+        println!("{}\n    {words}", path.display());
+        Ok(())
+    };
+    let edge = hall.edges();
+    let level = |at: f32, min: f32, edge: f32, count: usize| (((at - min) / edge) as usize).min(count - 1);
+    let y = level(1.3, hall.corners.min.y, edge.y, hall.axes.height);
+    let z = level(1.5, hall.corners.min.z, edge.z, hall.axes.depth);
+    let camera = Camera { from: Vec3::new(6.2, 1.75, 14.5), to: Vec3::new(5.6, 1.35, 0.0), wide: 64.0 };
+    show("view.png", picture::view(&volume, &hall, &camera, 640, 360)?, None,
+        "The hall as an archer sees it: three mats with their faces under hoods, a net behind them, lamps below the ceiling, windows to the right and the sun's patches on \
+         the floor. What falls straight from lamps and sun is added here; the light in the shadows is the volume's. The ceiling is turned to −y, where a volume reads too \
+         dark: hence its dark spots.")?;
+    show("plan.png", picture::slice(&volume, 1, y, Of::Irradiance(Vec3::new(0.0, 1.0, 0.0)), Some(&hall)), None,
+        "The volume from above at a height of 1.3 m, the archers' end below: light on a surface turned up. A bright spot below each of the six lamps, which is what ceiling \
+         and tube send down, not the lamp itself; bluish along the windows on the right; dark behind the mats. White lines are the surfaces cut.")?;
+    show("slice.png", picture::slice(&volume, 2, z, Of::Irradiance(Vec3::new(0.0, 0.0, 1.0)), Some(&hall)), None,
+        "A slice across the hall just before the mats, light on a face turned to the archers; the white lines are the hoods.")?;
+    let face = hall.faces.first().map(|f| f.name.clone()).context("the sample hall has faces")?;
+    let straight = face_picture(&volume, &hall, &face, true, 400)?;
+    let exposure = straight.exposure();
+    show("face.png", straight, Some(exposure),
+        "A target's face with lamps and sun: the hood's shadow lies over the upper rim, an edge for each of the lamps before it.")?;
+    show("face-volume.png", face_picture(&volume, &hall, &face, false, 400)?, Some(exposure),
+        "The same face at the same exposure by the volume alone: the light that is left in that shadow, without its edges.")?;
+    println!("done in {}", lasting(begun.elapsed().as_secs_f64()));
+    Ok(GOOD)
+}

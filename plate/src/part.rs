@@ -1,0 +1,101 @@
+//! The part file of an unfinished bake: one line of mark and SHA-256 of the rest, one line of JSON, then the unblurred volume as far as it is, f32 bits
+//! little-endian. It is written whole, and read only where every input is as it was.
+use crate::files;
+use crate::hall::{sha256, Hall, Input};
+use anyhow::{bail, ensure, Context, Result};
+use serde::{Deserialize, Serialize};
+use std::path::{Path, PathBuf};
+
+const MARK: &str = "plate-part-1";
+
+#[derive(Clone, Copy, Debug, PartialEq, Eq, Serialize, Deserialize)]
+#[serde(deny_unknown_fields)]
+pub struct Share {
+    pub progress: usize,
+    pub rays: u64,
+}
+
+#[derive(Clone, Debug, PartialEq, Serialize, Deserialize)]
+#[serde(deny_unknown_fields)]
+struct Head {
+    library: u32,
+    inputs: Vec<Input>,
+    /// Of every number that the library is handed.
+    numbers: String,
+    voxels: usize,
+    seconds: f64,
+    shares: Vec<Share>,
+}
+
+#[derive(Clone, Debug, PartialEq)]
+pub struct Part {
+    /// Each share's progress and rays; active voxel number j (counted from 0) is share j mod count's.
+    pub shares: Vec<Share>,
+    /// How long the bake has run.
+    pub seconds: f64,
+    /// 16·N numbers, unblurred: final where a share's progress has passed a voxel of its own, else ambient.
+    pub volume: Vec<f32>,
+}
+
+pub fn path_of(out: &Path) -> PathBuf {
+    let mut name = out.as_os_str().to_owned();
+    name.push(".part");
+    name.into()
+}
+
+impl Part {
+    pub fn write(&self, path: &Path, hall: &Hall) -> Result<()> {
+        let head = Head {
+            library: geaidnosa::version(),
+            inputs: hall.inputs.clone(),
+            numbers: hall.numbers_sha256(),
+            voxels: hall.axes.count(),
+            seconds: self.seconds,
+            shares: self.shares.clone(),
+        };
+        let mut body = serde_json::to_vec(&head)?;
+        body.push(b'\n');
+        body.extend(self.volume.iter().flat_map(|x| x.to_bits().to_le_bytes()));
+        files::write_whole(path, &[format!("{MARK} {}\n", sha256(&body)).as_bytes(), &body])
+    }
+
+    /// The part of this hall's bake; an error in words where the file is damaged or an input has changed.
+    pub fn read(path: &Path, hall: &Hall) -> Result<Part> {
+        let bytes = std::fs::read(path).with_context(|| path.display().to_string())?;
+        Part::of_bytes(&bytes, hall).with_context(|| format!("{} is not gone on with (--fresh begins anew)", path.display()))
+    }
+
+    pub fn of_bytes(bytes: &[u8], hall: &Hall) -> Result<Part> {
+        let (first, body) = split_line(bytes).context("it has no first line")?;
+        let first = std::str::from_utf8(first).ok().and_then(|line| line.split_once(' '));
+        let Some((MARK, sum)) = first else { bail!("it is no part file of this program") };
+        ensure!(sum == sha256(body), "it is damaged: its SHA-256 is not the one it names");
+        let (json, numbers) = split_line(body).context("it has no head")?;
+        let head: Head = serde_json::from_slice(json).context("its head cannot be read")?;
+        let changed: Vec<String> = head
+            .inputs
+            .iter()
+            .filter_map(|old| match hall.inputs.iter().find(|new| new.file == old.file) {
+                None => Some(format!("{} is no longer used", old.file)),
+                Some(new) if new.sha256 != old.sha256 => Some(format!("{} has changed", old.file)),
+                Some(_) => None,
+            })
+            .chain(hall.inputs.iter().filter(|new| head.inputs.iter().all(|old| old.file != new.file)).map(|new| format!("{} is new", new.file)))
+            .collect();
+        ensure!(changed.is_empty(), "since it was saved {}", changed.join(", "));
+        ensure!(head.library == geaidnosa::version(), "it was baked by another version of the library");
+        ensure!(head.numbers == hall.numbers_sha256(), "another version of this program made other numbers of the same files");
+        let n = hall.axes.count();
+        ensure!(head.voxels == n && numbers.len() == 64 * n, "its volume is not of the hall's grid");
+        ensure!((1..=n.max(1)).contains(&head.shares.len()), "it has no shares");
+        ensure!(head.shares.iter().all(|s| s.progress <= n), "a share's progress is past the grid");
+        ensure!(head.seconds.is_finite() && head.seconds >= 0.0, "its time is no number");
+        let volume = numbers.chunks_exact(4).map(|b| f32::from_le_bytes([b[0], b[1], b[2], b[3]])).collect();
+        Ok(Part { shares: head.shares, seconds: head.seconds, volume })
+    }
+}
+
+fn split_line(bytes: &[u8]) -> Option<(&[u8], &[u8])> {
+    let end = bytes.iter().position(|b| *b == b'\n')?;
+    Some((&bytes[..end], &bytes[end + 1..]))
+}

@@ -1,0 +1,534 @@
+//! Every command with good and bad input, through the program itself; and the numbers it writes held to the library's own bake.
+use geaidnosa::*;
+use plate::{baking, faults::Found, hall, part::Part, volume::Volume};
+use std::path::{Path, PathBuf};
+use std::process::{Command, Output};
+use std::sync::atomic::AtomicBool;
+use std::time::Duration;
+
+/// On another processor `PLATE_EMULATE` names what runs the program.
+fn program() -> Command {
+    match std::env::var("PLATE_EMULATE").ok().filter(|e| !e.is_empty()) {
+        Some(emulate) => {
+            let mut command = Command::new(emulate);
+            command.arg(env!("CARGO_BIN_EXE_plate"));
+            command
+        }
+        None => Command::new(env!("CARGO_BIN_EXE_plate")),
+    }
+}
+
+fn plate(dir: &Path, args: &[&str]) -> Output {
+    program().args(args).current_dir(dir).output().expect("the program runs")
+}
+
+fn words(output: &Output) -> String {
+    String::from_utf8_lossy(&output.stdout).into_owned() + &String::from_utf8_lossy(&output.stderr)
+}
+
+/// Runs it, and holds the exit code and that the words are said; a panic is never good.
+fn says(dir: &Path, args: &[&str], code: i32, said: &[&str]) -> String {
+    let output = plate(dir, args);
+    let all = words(&output);
+    assert_eq!(output.status.code(), Some(code), "{args:?}: {all}");
+    assert!(!all.contains("panicked"), "{args:?}: {all}");
+    for word in said {
+        assert!(all.contains(word), "{args:?} does not say \"{word}\": {all}");
+    }
+    all
+}
+
+/// A small hall in a folder of its own.
+fn small() -> (tempfile::TempDir, PathBuf) {
+    let dir = tempfile::tempdir().unwrap();
+    says(dir.path(), &["new", "."], 0, &["hall.toml", "plate check"]);
+    let path = dir.path().join("hall.toml");
+    (dir, path)
+}
+
+fn edit(path: &Path, from: &str, to: &str) {
+    let text = std::fs::read_to_string(path).unwrap();
+    assert!(text.contains(from), "{from}");
+    std::fs::write(path, text.replacen(from, to, 1)).unwrap();
+}
+
+fn read(path: &Path) -> hall::Hall {
+    let mut found = Found::default();
+    let hall = hall::read(path, &mut found);
+    assert!(found.faults.is_empty(), "{:?}", found.faults);
+    hall.unwrap()
+}
+
+/// The bake as a program of one's own would do it: one call, no share, no part.
+fn unbroken(hall: &hall::Hall) -> (Volume, u64) {
+    let (n, t) = (hall.axes.count(), hall.triangles());
+    let (mut occupied, mut active, mut light, mut kept) = (vec![0; n], vec![0; n], vec![0.0; n], vec![0.0; n]);
+    let (mut volume, mut scratch, mut distances, mut places) = (vec![0.0; 16 * n], vec![0.0; 16 * n], vec![0.0; t], vec![0; t]);
+    masks(hall.axes, hall.corners, &hall.points, &mut occupied, &mut active).unwrap();
+    let hits = HitScratch { distances: &mut distances, places: &mut places };
+    sun(hall.axes, hall.corners, hall.scene(), hall.sun.direction, &active, &mut light, &mut kept, hits).unwrap();
+    let hits = HitScratch { distances: &mut distances, places: &mut places };
+    let baked = bake(hall.input(&active, &light), &mut volume, &mut scratch, hits, 0, u64::MAX).unwrap();
+    assert_eq!(baked.progress, n);
+    (Volume { axes: hall.axes, corners: hall.corners, light, volume, occupied, active }, baked.rays)
+}
+
+#[test]
+fn a_volume_is_the_unbroken_bakes_bit_for_bit() {
+    let (dir, path) = small();
+    let (volume, rays) = unbroken(&read(&path));
+    let bytes = volume.bytes().unwrap();
+    for (shares, allowance) in [("1", "448"), ("1", "1000000"), ("2", "5000"), ("3", "5000"), ("8", "20000")] {
+        let out = format!("by-{shares}-{allowance}.vgrd");
+        let said = says(dir.path(), &["bake", "hall.toml", "-o", &out, "--shares", shares, "--threads", "2", "--allowance", allowance], 0, &["my hall"]);
+        assert!(said.contains(&hall::thousands(rays)), "{said}");
+        assert_eq!(std::fs::read(dir.path().join(&out)).unwrap(), bytes, "{shares} shares");
+        assert!(!dir.path().join(format!("{out}.part")).exists());
+    }
+    says(dir.path(), &["bake", "hall.toml", "--json"], 0, &["\"event\":\"done\"", &format!("\"rays\":{rays}")]);
+    assert_eq!(std::fs::read(dir.path().join("hall.vgrd")).unwrap(), bytes);
+}
+
+/// A bake in the test's own process: from a part, if there is one, for so many calls.
+fn baked(hall: &hall::Hall, from: Option<Part>, shares: usize, threads: usize, calls: u64) -> baking::Outcome {
+    let prepared = baking::prepare(hall).unwrap();
+    let stop = AtomicBool::new(false);
+    let told = |told: baking::Told| stop.fetch_or(told.calls >= calls, std::sync::atomic::Ordering::SeqCst);
+    let asked = baking::Asked {
+        shares,
+        threads,
+        allowance: hall.voxel_cost() * 40,
+        save_every: Duration::from_millis(1),
+        stop: &stop,
+        until: None,
+        tell: &|t| {
+            told(t);
+        },
+        save: &|_| Ok(()),
+    };
+    baking::run(hall, &prepared, from, &asked).unwrap()
+}
+
+#[test]
+fn shares_give_the_same_bits() {
+    let (_dir, path) = small();
+    // open to a sky on all sides, all of it coloured, and with no surface near some voxels
+    edit(&path, "voxels = [12, 6, 16]", "voxels = [9, 8, 11]");
+    edit(&path, "max = [6.1, 3.1, 8.1]", "max = [6.1, 7.1, 8.1]");
+    edit(&path, "colour = [0.0, 0.0, 0.0]", "colour = [2.0, 1.5, 1.0]");
+    let hall = read(&path);
+    let (volume, rays) = unbroken(&hall);
+    assert!(volume.active.contains(&0) && volume.active.contains(&1));
+    for shares in [1, 2, 3, 8, 500] {
+        // stopped after one call, gone on with through a part file, stopped again ..
+        let mut from = None;
+        let mut stops = 0;
+        let done = loop {
+            match baked(&hall, from.take(), shares, 2, 1) {
+                baking::Outcome::Done { volume, rays, .. } => break (volume, rays),
+                baking::Outcome::Stopped { part, .. } => {
+                    let file = path.with_extension("part");
+                    part.write(&file, &hall).unwrap();
+                    from = Some(Part::read(&file, &hall).unwrap());
+                    let read = from.as_ref().unwrap();
+                    assert_eq!((&read.shares, &read.volume), (&part.shares, &part.volume));
+                    stops += 1;
+                }
+            }
+        };
+        assert!(stops > 0, "{shares} shares were not stopped once");
+        assert_eq!(done.1, rays, "{shares} shares");
+        assert_eq!(done.0.bytes().unwrap(), volume.bytes().unwrap(), "{shares} shares");
+    }
+}
+
+#[test]
+fn a_bake_stops_at_its_time() {
+    let (_dir, path) = small();
+    edit(&path, "voxels = [12, 6, 16]", "voxels = [32, 16, 32]");
+    let hall = read(&path);
+    let prepared = baking::prepare(&hall).unwrap();
+    let stop = AtomicBool::new(false);
+    let begun = std::time::Instant::now();
+    let asked = baking::Asked {
+        shares: 2,
+        threads: 2,
+        allowance: 2000,
+        save_every: Duration::from_secs(10),
+        stop: &stop,
+        until: Some(begun + Duration::from_millis(300)),
+        tell: &|_| (),
+        save: &|_| Ok(()),
+    };
+    let outcome = baking::run(&hall, &prepared, None, &asked).unwrap();
+    assert!(matches!(outcome, baking::Outcome::Stopped { done, .. } if done > 0 && done < prepared.marked.active));
+    assert!(begun.elapsed() < Duration::from_secs(5));
+}
+
+#[test]
+fn drawings_that_nobody_here_made() {
+    // Debian's package assimp-testmodels, where it is installed: each is read or refused in words
+    let Ok(list) = std::fs::read_dir("/usr/share/assimp/models/OBJ") else { return };
+    let (dir, _) = small();
+    for entry in list.flatten().filter(|e| e.path().extension().map_or(false, |x| x == "obj")) {
+        let text = format!("obj = {:?}\n[grid]\nvoxels = [8, 8, 8]\nmin = [-2, -2, -2]\nmax = [2, 2, 2]\n", entry.path().display().to_string());
+        std::fs::write(dir.path().join("other.toml"), text).unwrap();
+        let output = plate(dir.path(), &["check", "other.toml"]);
+        let all = words(&output);
+        assert!(matches!(output.status.code(), Some(0 | 3)) && !all.contains("panicked") && !all.is_empty(), "{:?}: {all}", entry.path());
+    }
+}
+
+#[test]
+fn a_hall_without_surfaces_is_all_ambient() {
+    let (dir, path) = small();
+    std::fs::write(dir.path().join("hall.obj"), "# nothing\n").unwrap();
+    let (volume, rays) = unbroken(&read(&path));
+    assert_eq!(rays, 0);
+    says(dir.path(), &["check", "hall.toml"], 0, &["the hall is empty"]);
+    says(dir.path(), &["plan", "hall.toml"], 0, &["nothing to bake"]);
+    says(dir.path(), &["bake", "hall.toml"], 0, &["0 rays"]);
+    assert_eq!(std::fs::read(dir.path().join("hall.vgrd")).unwrap(), volume.bytes().unwrap());
+}
+
+#[test]
+fn killed_bakes_go_on_to_the_same_bits() {
+    let (dir, path) = small();
+    edit(&path, "voxels = [12, 6, 16]", "voxels = [20, 10, 24]");
+    let bytes = unbroken(&read(&path)).0.bytes().unwrap();
+    // a seed of this run's own; what fails is printed with it
+    let mut seed = std::time::SystemTime::now().duration_since(std::time::UNIX_EPOCH).unwrap().as_nanos() as u64 | 1;
+    let mut next = |below: u64| {
+        seed ^= seed << 13;
+        seed ^= seed >> 7;
+        seed ^= seed << 17;
+        seed % below
+    };
+    let kills: usize = std::env::var("PLATE_KILLS").ok().and_then(|k| k.parse().ok()).unwrap_or(20);
+    let (mut killed, mut saved, mut round) = (0, 0, 0);
+    while killed < kills {
+        round += 1;
+        let shares = ["1", "2", "3"][next(3) as usize];
+        let _ = std::fs::remove_file(dir.path().join("hall.vgrd"));
+        loop {
+            let mut child = program()
+                .args(["bake", "hall.toml", "--shares", shares, "--threads", "2", "--allowance", "3000", "--save-every", "0", "--json"])
+                .current_dir(dir.path())
+                .stdout(std::process::Stdio::null())
+                .stderr(std::process::Stdio::piped())
+                .spawn()
+                .unwrap();
+            let begun = std::time::Instant::now();
+            let wait = Duration::from_millis(next(400));
+            let ended = loop {
+                if let Some(status) = child.try_wait().unwrap() {
+                    break Some(status);
+                }
+                if begun.elapsed() >= wait && killed < kills {
+                    break None;
+                }
+                std::thread::sleep(Duration::from_millis(2));
+            };
+            match ended {
+                Some(status) => {
+                    let output = child.wait_with_output().unwrap();
+                    assert!(status.success(), "round {round}, {shares} shares: {}", String::from_utf8_lossy(&output.stderr));
+                    break;
+                }
+                None => {
+                    child.kill().unwrap();
+                    child.wait().unwrap();
+                    killed += 1;
+                    // what stands under the names is whole
+                    if let Ok(part) = std::fs::read(dir.path().join("hall.vgrd.part")) {
+                        Part::of_bytes(&part, &read(&path)).unwrap();
+                        saved += 1;
+                    }
+                    if let Ok(volume) = std::fs::read(dir.path().join("hall.vgrd")) {
+                        assert_eq!(volume, bytes);
+                    }
+                }
+            }
+        }
+        assert_eq!(std::fs::read(dir.path().join("hall.vgrd")).unwrap(), bytes, "round {round}, {shares} shares");
+        let left: Vec<_> = std::fs::read_dir(dir.path()).unwrap().map(|e| e.unwrap().file_name()).collect();
+        assert!(left.iter().all(|n| !n.to_string_lossy().ends_with(".tmp") && !n.to_string_lossy().ends_with(".part")), "{left:?}");
+    }
+    println!("{killed} kills in {round} bakes, {saved} with a part file");
+}
+
+#[test]
+fn stops_are_saved_and_changed_inputs_are_refused() {
+    let (dir, path) = small();
+    let at = dir.path();
+    edit(&path, "voxels = [12, 6, 16]", "voxels = [32, 16, 32]");
+    let child = program().args(["bake", "hall.toml", "--allowance", "2000"]).current_dir(at).stdout(std::process::Stdio::piped()).spawn().unwrap();
+    std::thread::sleep(Duration::from_millis(1500));
+    assert!(Command::new("kill").args(["-INT", &child.id().to_string()]).status().unwrap().success());
+    let output = child.wait_with_output().unwrap();
+    assert_eq!(output.status.code(), Some(130), "{}", words(&output));
+    assert!(words(&output).contains("saved in hall.vgrd.part"), "{}", words(&output));
+    for (file, from, to) in [("hall.toml", "6.0, 5.5, 5.0", "6.0, 5.5, 5.1"), ("hall.obj", "v 6 3 0", "v 6 3 0.0"), ("hall.mtl", "0.65", "0.66")] {
+        let was = std::fs::read(at.join(file)).unwrap();
+        edit(&at.join(file), from, to);
+        says(at, &["bake", "hall.toml"], 3, &[&format!("{file} has changed"), "--fresh"]);
+        std::fs::write(at.join(file), was).unwrap();
+    }
+    let part = at.join("hall.vgrd.part");
+    let good = std::fs::read(&part).unwrap();
+    let mut bad = good.clone();
+    let middle = bad.len() / 2;
+    bad[middle] ^= 1;
+    std::fs::write(&part, &bad).unwrap();
+    says(at, &["bake", "hall.toml"], 3, &["damaged"]);
+    std::fs::write(&part, &good[..good.len() - 1]).unwrap();
+    says(at, &["bake", "hall.toml"], 3, &["damaged"]);
+    std::fs::write(&part, "").unwrap();
+    says(at, &["bake", "hall.toml"], 3, &["no first line"]);
+    std::fs::remove_file(&part).unwrap();
+    says(at, &["bake", "hall.toml", "--resume"], 3, &["no part file"]);
+    says(at, &["bake", "hall.toml", "--resume", "--fresh"], 2, &["cannot be used with"]);
+    says(at, &["bake", "hall.toml", "--until", "25:99"], 3, &["HH:MM"]);
+    says(at, &["bake", "hall.toml", "--allowance", "447"], 3, &["at least 448", "refusal 10"]);
+    says(at, &["bake", "hall.toml", "hall.toml", "-o", "x.vgrd"], 3, &["one volume"]);
+    says(at, &["bake"], 2, &[]);
+    says(at, &["bake", "no.toml"], 3, &["no.toml", "cannot be read"]);
+    assert!(!at.join("hall.vgrd").exists());
+}
+
+#[test]
+fn check_says_every_fault_with_its_place() {
+    let (dir, path) = small();
+    let at = dir.path();
+    says(at, &["check", "hall.toml"], 0, &["my hall is good", "16 triangles", "1 lamps"]);
+    says(at, &["check", "hall.toml", "--json"], 0, &["\"faults\":[]"]);
+    edit(&path, "voxels = [12, 6, 16]", "voxels = [12, 0, 33]");
+    edit(&path, "min = [-0.1, -0.1, -0.1]", "min = [-0.1, -5000.0, -0.1]");
+    edit(&path, "towards = [0.5, 0.7, 0.5]", "towards = [0.0, 0.0, 0.0]");
+    edit(&path, "horizon = [0.6, 0.6, 0.6]", "horizon = [0.6, 70000.0, 0.6]");
+    edit(&path, "transmission = 0.6", "transmission = 1.5");
+    edit(&path, "at = [3.0, 2.7, 4.0]", "at = [3.0, 2.7]");
+    edit(&path, "colour = [6.0, 5.5, 5.0]", "colour = [6.0, 5.5, nan]");
+    edit(&path, "across = [0.8, 0.0, 0.0]", "across = [0.0, 0.8, 0.0]");
+    let said = says(
+        at,
+        &["check", "hall.toml"],
+        3,
+        &[
+            "hall.toml:", "height 0 is outside 1..32 (refusal 1)", "depth 33 is outside 1..32 (refusal 1)", "grid.min: -5000 is not a number within ±4,096 (refusal 2)",
+            "sun.towards: a direction of no length (refusal 7)", "sky.horizon: 70000", "transmission 1.5 is outside 0..1 (refusal 6)", "lamp 1: at: 2 numbers where three",
+            "lamp 1: colour: NaN", "(refusal 19)", "across and up span no face",
+        ],
+    );
+    let line = std::fs::read_to_string(&path).unwrap().lines().position(|l| l.starts_with("voxels")).unwrap() + 1;
+    assert!(said.contains(&format!("hall.toml:{line}: grid.voxels: height 0")), "{said}");
+    says(at, &["check", "hall.toml", "--json"], 3, &["\"refusal\":19"]);
+}
+
+#[test]
+fn check_names_the_drawings_lines_and_faces() {
+    let (dir, path) = small();
+    let (at, obj) = (dir.path(), dir.path().join("hall.obj"));
+    let good = std::fs::read_to_string(&obj).unwrap();
+    let line_of = |text: &str, start: &str| text.lines().position(|l| l.starts_with(start)).unwrap() + 1;
+    let with = |from: &str, to: &str| {
+        let text = good.replacen(from, to, 1);
+        assert_ne!(text, good);
+        std::fs::write(&obj, &text).unwrap();
+        text
+    };
+    let text = with("v 0 3 8", "v 0 5000 8");
+    says(at, &["check", "hall.toml"], 3, &[&format!("hall.obj:{}: face 3: point 8 at (0, 5000, 8)", line_of(&text, "f 1 4 8 5")), "(refusal 5)"]);
+    let text = with("v 6 3 0", "v 6 x3 0");
+    says(at, &["check", "hall.toml"], 3, &[&format!("hall.obj:{}: v: \"x3\" is no finite number", line_of(&text, "v 6 x3 0"))]);
+    let text = with("f 9 10 11 12", "f 9 10 11 99");
+    says(at, &["check", "hall.toml"], 3, &[&format!("hall.obj:{}: face 7: point 99, and the drawing has 18", line_of(&text, "f 9 10 11 99"))]);
+    let text = with("f 13 14 15 16", "f 13 0 15 16");
+    says(at, &["check", "hall.toml"], 3, &[&format!("hall.obj:{}:", line_of(&text, "f 13 0"))]);
+    let text = with("usemtl mat", "usemtl mast");
+    let named = format!("hall.obj:{}: material [ 'mast' ] not found", line_of(&text, "usemtl mast"));
+    says(at, &["check", "hall.toml"], 0, &[&named, &format!("hall.obj:{}: face 8: no material", line_of(&text, "f 13 14")), "grey"]);
+    std::fs::write(&obj, [0xFE, 0xFF, 0, b'v']).unwrap();
+    says(at, &["check", "hall.toml"], 3, &["is in UTF-16"]);
+    with("mtllib hall.mtl", "mtllib other.mtl");
+    says(at, &["check", "hall.toml"], 3, &["hall.obj:2: its material file other.mtl cannot be read"]);
+    // carriage returns, and a drawing in millimetres with z up, are the same hall
+    std::fs::write(&obj, good.replace('\n', "\r\n")).unwrap();
+    assert_eq!(read(&path).points.len(), 16 * 9);
+    let text = with("v 0 3 8", "v 0 5000 8").replace('\n', "\r\n");
+    std::fs::write(&obj, text).unwrap();
+    says(at, &["check", "hall.toml"], 3, &["face 3: point 8"]);
+    std::fs::write(&obj, &good).unwrap();
+    let before = read(&path).points;
+    let turned: String = good.lines().map(|l| match l.strip_prefix("v ") {
+        Some(p) => {
+            let p: Vec<f64> = p.split(' ').map(|x| x.parse::<f64>().unwrap() * 1000.0).collect();
+            format!("v {} {} {}\n", p[0], -p[2], p[1])
+        }
+        None => format!("{l}\n"),
+    }).collect();
+    std::fs::write(&obj, turned).unwrap();
+    edit(&path, "unit = \"m\"", "unit = \"mm\"");
+    edit(&path, "up = \"y\"", "up = \"z\"");
+    assert!(before.iter().zip(&read(&path).points).all(|(a, b)| (a - b).abs() < 1e-5));
+    // too many triangles
+    std::fs::write(&obj, good + &"f 1 2 3\n".repeat(4096)).unwrap();
+    says(at, &["check", "hall.toml"], 3, &["4,112 triangles, and at most 4,096 are taken (refusal 4)"]);
+    // eight lamps are taken, nine are not
+    let (_dir, path) = small();
+    let lamps = "[[lamps]]\nat = [1.0, 1.0, 1.0]\ncolour = [1.0, 1.0, 1.0]\n".repeat(8);
+    std::fs::write(&path, std::fs::read_to_string(&path).unwrap() + &lamps).unwrap();
+    says(path.parent().unwrap(), &["check", "hall.toml"], 3, &["lamp 9: 9 lamps", "(refusal 19)"]);
+}
+
+#[test]
+fn check_warns() {
+    let (dir, path) = small();
+    edit(&path, "across = [0.8, 0.0, 0.0]\n", "across = [-0.8, 0.0, 0.0]\n");
+    edit(&path, "at = [3.0, 2.7, 4.0]", "at = [3.0, 3.0, 4.0]");
+    edit(&path, "[materials.net]", "[materials.nett]");
+    edit(&path, "colour = [0.0, 0.0, 0.0]", "colour = [1.0, 1.0, 1.0]");
+    says(dir.path(), &["check", "hall.toml"], 0, &["turned to −z", "is it inside a wall?", "materials.nett: no material of this name", "note: a voxel's look at the sun starts"]);
+    edit(&path, "at = [3.0, 3.0, 4.0]", "at = [3.0, 30.0, 4.0]");
+    edit(&path, "voxels = [12, 6, 16]", "voxels = [12, 12, 32]");
+    says(dir.path(), &["check", "hall.toml"], 0, &["outside the grid", "hold the open sky's light"]);
+    edit(&path, "name = \"my hall\"", "nime = \"my hall\"");
+    says(dir.path(), &["check", "hall.toml"], 3, &["hall.toml:", "nime"]);
+    edit(&path, "nime = \"my hall\"", "name = my hall");
+    says(dir.path(), &["check", "hall.toml"], 3, &["hall.toml:2:"]);
+}
+
+#[test]
+fn skies() {
+    let (dir, path) = small();
+    let sky = "zenith = [0.3, 0.5, 0.9]\nhorizon = [0.6, 0.6, 0.6]";
+    edit(&path, sky, "uniform = [2.0, 1.0, 0.5]");
+    let hall = read(&path);
+    // the irradiance of a uniform sky of 1 is π, whichever way a surface is turned
+    assert!((hall.ambient.c0.y - std::f32::consts::PI).abs() < 1e-3 && hall.ambient.c1.y.abs() < 2e-2, "{:?}", hall.ambient);
+    // a picture whose upper half is bright
+    let picture = image::RgbImage::from_fn(64, 32, |_, y| image::Rgb(if y < 16 { [255; 3] } else { [0; 3] }));
+    picture.save(dir.path().join("sky.png")).unwrap();
+    edit(&path, "uniform = [2.0, 1.0, 0.5]", "picture = \"sky.png\"\nbrightness = 2.0");
+    let hall = read(&path);
+    assert!(hall.inputs.iter().any(|i| i.file == "sky.png"));
+    let mut along = vec![0.0; SKY_LENGTH];
+    directions(&mut along).unwrap();
+    for (d, colour) in along.chunks(3).zip(hall.sky.chunks(3)) {
+        assert!(d[1].abs() < 0.25 || (colour[0] - if d[1] > 0.0 { 2.0 } else { 0.0 }).abs() < 1e-3, "{d:?} {colour:?}");
+    }
+    std::fs::write(dir.path().join("sky.png"), "no picture").unwrap();
+    says(dir.path(), &["check", "hall.toml"], 3, &["sky.picture", "no picture that can be read"]);
+    edit(&path, "picture = \"sky.png\"", "picture = \"sky.png\"\nuniform = [1.0, 1.0, 1.0]");
+    says(dir.path(), &["check", "hall.toml"], 3, &["sky: give one of"]);
+}
+
+#[test]
+fn pictures_and_numbers() {
+    let (dir, path) = small();
+    let at = dir.path();
+    says(at, &["bake", "hall.toml"], 0, &[]);
+    let hall = read(&path);
+    let volume = Volume::read(&at.join("hall.vgrd")).unwrap();
+    for of in ["sun", "sky", "c0", "c3", "E:0,0,1", "E:-1,0,0"] {
+        says(at, &["slice", "hall.vgrd", "--z", "3", "--of", of, "--png", "s.png", "--hall", "hall.toml"], 0, &["s.png: slice z = 3"]);
+    }
+    let slice = image::open(at.join("s.png")).unwrap();
+    assert!(slice.width() > 300 && slice.height() > 100);
+    says(at, &["slice", "hall.vgrd", "--y", "2", "--png", "s.png", "--exposure", "1"], 0, &["white is 1.0000"]);
+    // a pixel is its voxel: the upper left one of a plan is voxel (0, y, 0)
+    let shown = image::open(at.join("s.png")).unwrap().to_rgb8();
+    let e = plate::volume::irradiance(volume.voxel(volume.axes.index(0, 2, 0)), Vec3::new(0.0, 1.0, 0.0));
+    let expected = |x: f32| if x <= 0.0031308 { 12.92 * x } else { 1.055 * x.min(1.0).powf(1.0 / 2.4) - 0.055 };
+    (0..3).for_each(|c| assert!((f32::from(shown.get_pixel(0, 0).0[c]) / 255.0 - expected(e[c])).abs() < 0.01));
+    says(at, &["slice", "hall.vgrd", "--z", "16", "--png", "s.png"], 3, &["z from 0 to 15", "refusal 11"]);
+    says(at, &["slice", "hall.vgrd", "--png", "s.png"], 2, &[]);
+    says(at, &["slice", "hall.vgrd", "--z", "1", "--x", "1", "--png", "s.png"], 2, &[]);
+    says(at, &["slice", "hall.vgrd", "--z", "1", "--of", "E:0,0,0", "--png", "s.png"], 2, &["no direction"]);
+    says(at, &["slice", "hall.obj", "--z", "1", "--png", "s.png"], 3, &["hall.obj", "refusal 12"]);
+    says(at, &["slice", "hall.vgrd", "--z", "1", "--png", "none/s.png"], 3, &["cannot be written"]);
+    says(at, &["face", "hall.vgrd", "hall.toml", "a", "--size", "64", "--png", "f.png"], 0, &["64 × 64"]);
+    says(at, &["face", "hall.vgrd", "hall.toml", "a", "--size", "64", "--direct", "--png", "g.png", "--exposure", "1"], 0, &["64 × 64"]);
+    says(at, &["face", "hall.vgrd", "hall.toml", "b", "--png", "f.png"], 3, &["no face b; it has a"]);
+    says(at, &["view", "hall.vgrd", "hall.toml", "--from", "3,1.6,7", "--to", "3,1.3,0", "--size", "64", "--png", "v.png"], 0, &["64 × 36"]);
+    says(at, &["view", "hall.vgrd", "hall.toml", "--from", "3,1.6,7", "--to", "3,0,7", "--png", "v.png"], 3, &["straight up or down"]);
+    says(at, &["view", "hall.vgrd", "hall.toml", "--from", "3,1.6", "--to", "3,0,7", "--png", "v.png"], 2, &["three numbers"]);
+    // looking up: the numbers are the library's
+    std::fs::write(at.join("p.csv"), "x,y,z,nx,ny,nz\n3,1.5,4,0,1,0\n3,1.3,0.4,0,0,2\n").unwrap();
+    let said = says(at, &["look", "hall.vgrd", "p.csv"], 0, &["x,y,z,nx,ny,nz,sun,sky,Er"]);
+    let c = volume.coefficients(Vec3::new(3.0, 1.5, 4.0)).unwrap();
+    let e = plate::volume::irradiance(&c, Vec3::new(0.0, 1.0, 0.0));
+    assert!(said.lines().nth(1).unwrap().contains(&format!(",{},{},{},", e[0], e[1], e[2])), "{said}");
+    let straight = says(at, &["look", "hall.vgrd", "p.csv", "--direct", "hall.toml"], 0, &[]);
+    let number = |text: &str| text.lines().nth(1).unwrap().split(',').nth(8).unwrap().parse::<f32>().unwrap();
+    // the lamp stands 1.2 m above the first position and nothing between: colour/d²
+    let lamp = hall.lamps[3] / (1.2f32 * 1.2);
+    assert!((number(&straight) - number(&said) - lamp).abs() < 0.02 * lamp, "{straight} {said}");
+    std::fs::write(at.join("q.csv"), "x,y,z\n3,1.5,4\n3,5000,4\n").unwrap();
+    says(at, &["look", "hall.vgrd", "q.csv"], 3, &["position 2 (counted from 1)", "refusal 11"]);
+    says(at, &["look", "hall.vgrd", "p.csv", "--direct", "no.toml"], 3, &["no.toml"]);
+    std::fs::write(at.join("q.csv"), "x,y\n3,1.5\n").unwrap();
+    says(at, &["look", "hall.vgrd", "q.csv"], 3, &["q.csv", "missing field"]);
+    std::fs::write(at.join("q.csv"), "x,y,z\n3,1.5,4\n").unwrap();
+    says(at, &["look", "hall.vgrd", "q.csv", "--direct", "hall.toml"], 3, &["needs a normal"]);
+    says(at, &["stats", "hall.vgrd"], 0, &["12 × 6 × 16 voxels", "irradiance facing +z"]);
+    says(at, &["stats", "hall.toml"], 3, &["refusal 12"]);
+    says(at, &["plan", "hall.toml"], 0, &["sure: from", "foretold"]);
+    says(at, &["plan", "hall.toml", "hall.toml", "--sample", "1"], 0, &["all 2 halls"]);
+    says(at, &["plan", "hall.toml", "--sample", "0"], 3, &["--sample 0"]);
+    // differing and verifying
+    says(at, &["diff", "hall.vgrd", "hall.vgrd"], 0, &["the same, bit for bit"]);
+    says(at, &["verify", "hall.vgrd", "hall.toml"], 0, &["good: masks and sun again, and 16 of"]);
+    says(at, &["verify", "hall.vgrd", "hall.toml", "--sample", "100000"], 0, &["good"]);
+    let mut other = volume.clone();
+    let place = (0..volume.axes.count()).find(|v| volume.active[*v] == 1).unwrap();
+    other.volume[16 * place + 2] = f32::from_bits(other.volume[16 * place + 2].to_bits() ^ 1);
+    other.write(&at.join("other.vgrd")).unwrap();
+    says(at, &["diff", "hall.vgrd", "other.vgrd"], 1, &["coefficients: 1 numbers in 1 voxels differ"]);
+    says(at, &["verify", "other.vgrd", "hall.toml", "--sample", "100000"], 1, &["1 of"]);
+    edit(&path, "colour = [6.0, 5.5, 5.0]", "colour = [6.1, 5.5, 5.0]");
+    says(at, &["verify", "hall.vgrd", "hall.toml"], 1, &["come out differently"]);
+    edit(&path, "max = [6.1, 3.1, 8.1]", "max = [6.1, 3.1, 8.2]");
+    says(at, &["verify", "hall.vgrd", "hall.toml"], 1, &["grid is not the volume's"]);
+    says(at, &["slice", "hall.vgrd", "--z", "3", "--png", "s.png", "--hall", "hall.toml"], 3, &["another grid"]);
+}
+
+#[test]
+fn words_and_shells() {
+    let dir = tempfile::tempdir().unwrap();
+    for row in Refusal::ALL {
+        says(dir.path(), &["explain", &row.number().to_string()], 0, &[row.words()]);
+    }
+    says(dir.path(), &["explain", "15"], 3, &["no refusal has this number"]);
+    for shell in ["bash", "zsh", "fish"] {
+        says(dir.path(), &["completions", shell], 0, &["plate"]);
+    }
+    says(dir.path(), &["completions", "tcsh"], 2, &[]);
+    let ended = Command::new("sh").arg("-c").arg(format!("{} completions bash | head -n 1", env!("CARGO_BIN_EXE_plate"))).output().unwrap();
+    assert!(std::env::var("PLATE_EMULATE").is_ok() || !words(&ended).contains("panicked"), "{}", words(&ended));
+    says(dir.path(), &["--version"], 0, &["plate 0.1.0"]);
+    says(dir.path(), &[], 2, &["Usage"]);
+    // nothing is written over another file
+    std::fs::write(dir.path().join("hall.obj"), "mine").unwrap();
+    says(dir.path(), &["new", "."], 3, &["hall.obj", "is another file"]);
+    assert_eq!(std::fs::read(dir.path().join("hall.obj")).unwrap(), b"mine");
+}
+
+#[test]
+fn the_demo_shows_what_it_says() {
+    let dir = tempfile::tempdir().unwrap();
+    says(dir.path(), &["demo", "d"], 0, &["534 triangles", "view.png", "plan.png", "slice.png", "face.png", "face-volume.png", "done in"]);
+    let at = dir.path().join("d");
+    says(&at, &["verify", "hall.vgrd", "hall.toml", "--sample", "8"], 0, &["good"]);
+    // the white of the face is darker at its upper rim, in the hood's shadow, than at its sides
+    let rim = |name: &str| {
+        let face = image::open(at.join(name)).unwrap().to_luma8();
+        let (w, h) = face.dimensions();
+        [(w / 2, h / 40), (w / 40, h / 2), (w - 1 - w / 40, h / 2)].map(|(x, y)| i32::from(face.get_pixel(x, y).0[0]))
+    };
+    let [above, left, right] = rim("face.png");
+    assert!(above + 30 < left && above + 30 < right, "{above} {left} {right}");
+    // and by the volume alone there is no such shadow
+    let [above, left, right] = rim("face-volume.png");
+    assert!((above - left).abs() < 30 && (above - right).abs() < 30, "{above} {left} {right}");
+}

@@ -1,0 +1,123 @@
+//! Bytes turned at random in drawings, material files, hall files and part files: read or refused in words, and never a panic.
+use plate::{faults::Found, hall, part::Part, part::Share};
+use std::path::Path;
+
+struct Random(u64);
+
+impl Random {
+    fn below(&mut self, n: usize) -> usize {
+        self.0 ^= self.0 << 13;
+        self.0 ^= self.0 >> 7;
+        self.0 ^= self.0 << 17;
+        (self.0 % n.max(1) as u64) as usize
+    }
+}
+
+const PIECES: [&str; 24] = [
+    "f ", "v ", "\n", "-1", "0", "99999999999999999999", "1e400", "nan", "/", "//", "usemtl ", "mtllib hall.mtl", "o ", "g ", "s off", "t crease 1/9999999/0 2", "l 1 2", "p 1", "[", "]",
+    "=", "\"", "\r", "\0",
+];
+
+/// Some bytes changed, cut out, put in or doubled.
+fn turned(good: &[u8], random: &mut Random) -> Vec<u8> {
+    let mut bytes = good.to_vec();
+    for _ in 0..1 + random.below(6) {
+        let at = random.below(bytes.len());
+        match random.below(5) {
+            0 if !bytes.is_empty() => bytes[at] = random.below(256) as u8,
+            1 if !bytes.is_empty() => drop(bytes.drain(at..(at + 1 + random.below(40)).min(bytes.len()))),
+            2 => drop(bytes.splice(at..at, PIECES[random.below(PIECES.len())].bytes())),
+            3 => drop(bytes.splice(at..at, (0..1 + random.below(8)).map(|_| 32 + random.below(90) as u8).collect::<Vec<_>>())),
+            _ => {
+                let end = (at + random.below(60)).min(bytes.len());
+                let piece = bytes[at..end].to_vec();
+                drop(bytes.splice(at..at, piece));
+            }
+        }
+    }
+    bytes
+}
+
+fn rounds() -> usize {
+    std::env::var("PLATE_FUZZ").ok().and_then(|n| n.parse().ok()).unwrap_or(2000)
+}
+
+fn seeded(name: &str) -> Random {
+    let seed = std::env::var("PLATE_SEED").ok().and_then(|n| n.parse().ok()).unwrap_or_else(|| std::process::id() as u64 * 2_654_435_761 + 12345);
+    println!("{name}: PLATE_SEED={seed}");
+    Random(seed | 1)
+}
+
+fn laid_out(dir: &Path) {
+    for (name, text) in [("hall.toml", include_str!("../new/hall.toml")), ("hall.obj", include_str!("../new/hall.obj")), ("hall.mtl", include_str!("../new/hall.mtl"))] {
+        std::fs::write(dir.join(name), text).unwrap();
+    }
+}
+
+/// A hall comes back exactly when there is no fault, and then the library takes it.
+fn judged(dir: &Path) -> bool {
+    let mut found = Found::default();
+    let hall = hall::read(&dir.join("hall.toml"), &mut found);
+    assert_eq!(hall.is_some(), found.faults.is_empty());
+    found.faults.iter().for_each(|f| assert!(!f.to_string().is_empty() && !f.words.contains("the library refuses"), "{f}"));
+    hall.is_some()
+}
+
+fn fuzzed(name: &str) {
+    let dir = tempfile::tempdir().unwrap();
+    laid_out(dir.path());
+    let good = std::fs::read(dir.path().join(name)).unwrap();
+    let mut random = seeded(name);
+    let (mut read, mut bytes) = (0, 0);
+    for _ in 0..rounds() {
+        let bad = turned(&good, &mut random);
+        bytes += bad.len();
+        std::fs::write(dir.path().join(name), bad).unwrap();
+        read += usize::from(judged(dir.path()));
+    }
+    println!("{name}: {} turned files, {bytes} bytes, {read} read", rounds());
+}
+
+#[test]
+fn drawings() {
+    fuzzed("hall.obj");
+}
+
+#[test]
+fn material_files() {
+    fuzzed("hall.mtl");
+}
+
+#[test]
+fn hall_files() {
+    fuzzed("hall.toml");
+}
+
+#[test]
+fn part_files() {
+    let dir = tempfile::tempdir().unwrap();
+    laid_out(dir.path());
+    let hall = hall::read(&dir.path().join("hall.toml"), &mut Found::default()).unwrap();
+    let n = hall.axes.count();
+    let part = Part { shares: vec![Share { progress: 7, rays: 500 }; 2], seconds: 1.5, volume: vec![0.25; 16 * n] };
+    let path = dir.path().join("x.part");
+    part.write(&path, &hall).unwrap();
+    let good = std::fs::read(&path).unwrap();
+    assert_eq!(Part::of_bytes(&good, &hall).unwrap(), part);
+    let mut random = seeded("part files");
+    // the volume is most of it: turn the two lines as often
+    let lines = good.iter().enumerate().filter(|(_, b)| **b == b'\n').nth(1).unwrap().0 + 1;
+    for round in 0..rounds() {
+        let mut bad = if round % 2 == 0 { turned(&good, &mut random) } else { [turned(&good[..lines], &mut random), good[lines..].to_vec()].concat() };
+        // every other one with a right sum, so that what stands behind it is read too
+        if round % 4 >= 2 {
+            if let Some(first) = bad.iter().position(|b| *b == b'\n') {
+                let body = bad.split_off(first + 1);
+                bad = [format!("plate-part-1 {}\n", hall::sha256(&body)).into_bytes(), body].concat();
+            }
+        }
+        if let Ok(read) = Part::of_bytes(&bad, &hall) {
+            assert!(read.volume.len() == 16 * n && read.shares.iter().all(|s| s.progress <= n));
+        }
+    }
+}

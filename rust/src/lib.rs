@@ -1,0 +1,544 @@
+//! The proved light bake for Rust: a safe call for each of include/geaidnosa.h.
+//!
+//! Every list is lent as a slice, so its length goes with it, and a list that a call writes is lent alone: the overlap that C forbids in words, borrowing
+//! shuts out. Each call tests its input itself; where it refuses, it answers the [`Refusal`] and has written nothing. Calls have no state of their own, so
+//! they may run side by side. What the numbers of a volume mean stands in docs/USE.md.
+//!
+//! N is the voxel count, width·height·depth; voxel (x,y,z) has the index x + width·(y + height·z). T is the triangle count.
+use std::fmt;
+
+mod face;
+
+/// The version of the C face that this crate was written to.
+pub const VERSION_NUMBER: u32 = 1_000;
+/// How many numbers a sky and the list of directions have: nine sets of 64 triples.
+pub const SKY_LENGTH: usize = 1_728;
+/// How many numbers a voxel has: four coefficients of red, green, blue and a fourth number.
+pub const VOXEL_LENGTH: usize = 16;
+/// The least rays that a bake's call may be allowed, without lamps and for each lamp more.
+pub const LEAST_ALLOWANCE: u64 = 384;
+pub const LEAST_ALLOWANCE_A_LAMP: u64 = 64;
+
+#[repr(C)]
+#[derive(Clone, Copy, Debug, Default, PartialEq)]
+pub struct Vec3 {
+    pub x: f32,
+    pub y: f32,
+    pub z: f32,
+}
+
+impl Vec3 {
+    pub const fn new(x: f32, y: f32, z: f32) -> Vec3 {
+        Vec3 { x, y, z }
+    }
+}
+
+impl From<[f32; 3]> for Vec3 {
+    fn from([x, y, z]: [f32; 3]) -> Vec3 {
+        Vec3 { x, y, z }
+    }
+}
+
+impl From<Vec3> for [f32; 3] {
+    fn from(v: Vec3) -> [f32; 3] {
+        [v.x, v.y, v.z]
+    }
+}
+
+/// How many voxels stand along each axis.
+#[repr(C)]
+#[derive(Clone, Copy, Debug, Default, PartialEq, Eq)]
+pub struct Axes {
+    pub width: usize,
+    pub height: usize,
+    pub depth: usize,
+}
+
+impl Axes {
+    /// How many voxels there are, N; for axes that [`Refusal::Axis`] would refuse, the largest number where the product is too large.
+    pub fn count(self) -> usize {
+        self.width.saturating_mul(self.height).saturating_mul(self.depth)
+    }
+
+    /// The index of a voxel.
+    pub fn index(self, x: usize, y: usize, z: usize) -> usize {
+        x + self.width * (y + self.height * z)
+    }
+}
+
+/// The box that the voxels fill.
+#[repr(C)]
+#[derive(Clone, Copy, Debug, Default, PartialEq)]
+pub struct Corners {
+    pub min: Vec3,
+    pub max: Vec3,
+}
+
+/// From origin along direction, between the distances shortest and longest, both counted in.
+#[repr(C)]
+#[derive(Clone, Copy, Debug, PartialEq)]
+pub struct Ray {
+    pub origin: Vec3,
+    pub direction: Vec3,
+    pub shortest: f32,
+    pub longest: f32,
+}
+
+#[repr(C)]
+#[derive(Clone, Copy, Debug, PartialEq)]
+pub struct Triangle {
+    pub p0: Vec3,
+    pub p1: Vec3,
+    pub p2: Vec3,
+}
+
+/// The sun: the direction towards it, which need not be a unit vector, and its colour.
+#[repr(C)]
+#[derive(Clone, Copy, Debug, PartialEq)]
+pub struct Light {
+    pub direction: Vec3,
+    pub colour: Vec3,
+}
+
+/// Four coefficients over the basis 1, y, z, x, each a colour: the irradiance of the whole sky.
+#[repr(C)]
+#[derive(Clone, Copy, Debug, Default, PartialEq)]
+pub struct Ambient {
+    pub c0: Vec3,
+    pub c1: Vec3,
+    pub c2: Vec3,
+    pub c3: Vec3,
+}
+
+/// The triangles of a hall and their materials.
+#[derive(Clone, Copy, Debug)]
+pub struct Scene<'a> {
+    /// 9·T: p0 x y z, p1 x y z, p2 x y z of each triangle.
+    pub points: &'a [f32],
+    /// T: the material of each triangle.
+    pub uses: &'a [u32],
+    /// One a material, 0 opaque or 1 translucent.
+    pub kinds: &'a [u8],
+    /// 7 a material: base RGB, emissive RGB, transmission.
+    pub numbers: &'a [f32],
+}
+
+/// Two lists of at least T, which a call that traces rays writes as it likes.
+#[derive(Debug)]
+pub struct HitScratch<'a> {
+    pub distances: &'a mut [f32],
+    pub places: &'a mut [usize],
+}
+
+/// Why a call refuses: a row of the table, whose number [`Refusal::number`] gives and whose words are its `Display`.
+#[derive(Clone, Copy, Debug, PartialEq, Eq, Hash)]
+#[repr(u32)]
+pub enum Refusal {
+    Axis = 1,
+    Corner = 2,
+    Length = 3,
+    TooMany = 4,
+    Point = 5,
+    Material = 6,
+    Light = 7,
+    Ray = 8,
+    Progress = 9,
+    Allowance = 10,
+    Position = 11,
+    File = 12,
+    Contents = 13,
+    TooLong = 14,
+    Lamp = 19,
+}
+
+impl Refusal {
+    /// Every row, in the table's order.
+    pub const ALL: [Refusal; 15] = [
+        Refusal::Axis,
+        Refusal::Corner,
+        Refusal::Length,
+        Refusal::TooMany,
+        Refusal::Point,
+        Refusal::Material,
+        Refusal::Light,
+        Refusal::Ray,
+        Refusal::Progress,
+        Refusal::Allowance,
+        Refusal::Position,
+        Refusal::File,
+        Refusal::Contents,
+        Refusal::TooLong,
+        Refusal::Lamp,
+    ];
+
+    pub fn number(self) -> u32 {
+        self as u32
+    }
+
+    /// The row of this number, if the table has it.
+    pub fn of_number(number: u32) -> Option<Refusal> {
+        Refusal::ALL.into_iter().find(|row| row.number() == number)
+    }
+
+    /// The table's words.
+    pub fn words(self) -> &'static str {
+        match self {
+            Refusal::Axis => "an axis outside 1..32",
+            Refusal::Corner => "a corner not finite or beyond 4,096 in magnitude, or a voxel edge below 1/1024",
+            Refusal::Length => "a lent list of the wrong length",
+            Refusal::TooMany => "more than 4,096 triangles or 256 materials",
+            Refusal::Point => "a triangle's point not finite or beyond 4,096 in magnitude",
+            Refusal::Material => "a kind other than 0 and 1, a material's colour not finite or beyond 65,536 in magnitude, a transmission outside 0..1, an index past the materials",
+            Refusal::Light => "a light direction with a component beyond 4,096 or of squared length 1e-12 or less; a light, ambient or sky number not finite or beyond 65,536",
+            Refusal::Ray => "a ray's origin beyond 65,536, direction beyond 2, shortest distance outside 0..65,536, or longest distance NaN",
+            Refusal::Progress => "progress above the voxel count",
+            Refusal::Allowance => "an allowance below 384 + 64·lamps",
+            Refusal::Position => "a position not finite or beyond 4,096, or a voxel index past the grid",
+            Refusal::File => "any fault in a volume file",
+            Refusal::Contents => "a mask's entry not 0 or 1; a light not finite or beyond 2^64 in magnitude; a coefficient not finite or beyond 2^96",
+            Refusal::TooLong => "more than 65,536 bytes",
+            Refusal::Lamp => "more than eight lamps, a lamp's position not finite or beyond 4,096 in magnitude, or its colour not finite or beyond 65,536",
+        }
+    }
+
+    fn good(number: u32) -> Result<(), Refusal> {
+        match number {
+            0 => Ok(()),
+            // every call's contract names its rows, all of them above
+            n => Err(Refusal::of_number(n).unwrap_or_else(|| unreachable!("a refusal {n} that the table does not have"))),
+        }
+    }
+}
+
+impl fmt::Display for Refusal {
+    fn fmt(&self, f: &mut fmt::Formatter) -> fmt::Result {
+        write!(f, "{} (refusal {})", self.words(), self.number())
+    }
+}
+
+impl std::error::Error for Refusal {}
+
+/// A frame's refusal: the first position that the single lookup would refuse, counted from 0; 0 too where no position causes it.
+#[derive(Clone, Copy, Debug, PartialEq, Eq)]
+pub struct FirstRefused {
+    pub refusal: Refusal,
+    pub place: usize,
+}
+
+impl fmt::Display for FirstRefused {
+    fn fmt(&self, f: &mut fmt::Formatter) -> fmt::Result {
+        match self.refusal {
+            Refusal::Position | Refusal::Contents => write!(f, "position {}: {}", self.place, self.refusal),
+            other => other.fmt(f),
+        }
+    }
+}
+
+impl std::error::Error for FirstRefused {}
+
+/// Where a ray meets a triangle.
+#[derive(Clone, Copy, Debug, PartialEq)]
+pub struct Hit {
+    /// The triangle's place in the lent list; 0 from [`meet`].
+    pub place: usize,
+    pub t: f32,
+    pub u: f32,
+    pub v: f32,
+}
+
+/// How many voxels are occupied, and how many active.
+#[derive(Clone, Copy, Debug, PartialEq, Eq)]
+pub struct Marked {
+    pub occupied: u64,
+    pub active: u64,
+}
+
+/// What one call of a bake did: the index of the next voxel, which is N when the bake is done, and the rays that this call fired.
+#[derive(Clone, Copy, Debug, PartialEq, Eq)]
+pub struct Baked {
+    pub progress: usize,
+    pub rays: u64,
+}
+
+/// What a volume file says of its grid.
+#[derive(Clone, Copy, Debug, PartialEq)]
+pub struct Head {
+    pub axes: Axes,
+    pub corners: Corners,
+}
+
+/// What `volstat` prints of a file.
+#[derive(Clone, Copy, Debug, PartialEq, Eq)]
+pub struct Figures {
+    pub axes: Axes,
+    pub occupied: u64,
+    pub active: u64,
+    pub zeros: u64,
+}
+
+fn hit_of(answer: face::RayHit) -> Result<Option<Hit>, Refusal> {
+    Refusal::good(answer.refusal)?;
+    Ok((answer.hit == 1).then(|| Hit {
+        place: answer.place,
+        t: answer.t,
+        u: answer.u,
+        v: answer.v,
+    }))
+}
+
+// Every call below hands pointers of slices, non-null, aligned and of the length that is passed, for the one call; what is written is lent as &mut.
+
+/// The archive's version: [`VERSION_NUMBER`] where this crate and the archive are of one version. Refuses nothing.
+pub fn version() -> u32 {
+    unsafe { face::geaidnosa_version() }
+}
+
+/// Writes the directions, x, y and z of each, over a list of [`SKY_LENGTH`] numbers: direction i of set s is triple 64·s + i. Refuses 3.
+pub fn directions(out: &mut [f32]) -> Result<(), Refusal> {
+    Refusal::good(unsafe { face::geaidnosa_directions(out.as_mut_ptr(), out.len()) })
+}
+
+/// Which of the nine sets of directions a voxel uses, 0 to 8. Refuses nothing.
+pub fn set_of_voxel(x: usize, y: usize, z: usize) -> usize {
+    unsafe { face::geaidnosa_set_of_voxel(x, y, z) }
+}
+
+/// Where a ray meets one triangle, or none for a miss. Refuses 5, 8.
+pub fn meet(ray: Ray, triangle: Triangle) -> Result<Option<Hit>, Refusal> {
+    hit_of(unsafe { face::geaidnosa_meet(ray, triangle) })
+}
+
+/// The nearest hit among all triangles, and among equal distances the one of the highest place. Refuses 3, 4, 5, 6, 8.
+pub fn nearest(scene: Scene, ray: Ray) -> Result<Option<Hit>, Refusal> {
+    let Scene { points, uses, kinds, numbers } = scene;
+    hit_of(unsafe {
+        face::geaidnosa_nearest(
+            points.as_ptr(), points.len(), uses.as_ptr(), uses.len(), kinds.as_ptr(), kinds.len(), numbers.as_ptr(), numbers.len(), ray,
+        )
+    })
+}
+
+/// How much light passes along a ray, from 1 down to 0; writes hit scratch alone. Refuses 3, 4, 5, 6, 8.
+pub fn transmittance(scene: Scene, ray: Ray, hits: HitScratch) -> Result<f32, Refusal> {
+    let Scene { points, uses, kinds, numbers } = scene;
+    let answer = unsafe {
+        face::geaidnosa_transmittance(
+            points.as_ptr(), points.len(), uses.as_ptr(), uses.len(), kinds.as_ptr(), kinds.len(), numbers.as_ptr(), numbers.len(), ray,
+            hits.distances.as_mut_ptr(), hits.distances.len(), hits.places.as_mut_ptr(), hits.places.len(),
+        )
+    };
+    Refusal::good(answer.refusal)?;
+    Ok(answer.transmittance)
+}
+
+/// Fills both masks, N each, whatever stood there: occupied where a triangle's sample lies in the voxel, active within two voxels of that on every axis.
+/// Refuses 1, 2, 3 (points in no multiple of nine too), 4, 5.
+pub fn masks(axes: Axes, corners: Corners, points: &[f32], occupied: &mut [u8], active: &mut [u8]) -> Result<Marked, Refusal> {
+    let answer = unsafe {
+        face::geaidnosa_masks(
+            axes, corners, points.as_ptr(), points.len(), occupied.as_mut_ptr(), occupied.len(), active.as_mut_ptr(), active.len(),
+        )
+    };
+    Refusal::good(answer.refusal)?;
+    Ok(Marked { occupied: answer.occupied, active: answer.active })
+}
+
+/// Scratch gets the light as it was, and the light the square of its 3×3×3 mean; N numbers each. Refuses 1, 3, 13.
+pub fn light_blur(axes: Axes, light: &mut [f32], scratch: &mut [f32]) -> Result<(), Refusal> {
+    Refusal::good(unsafe { face::geaidnosa_light_blur(axes, light.as_mut_ptr(), light.len(), scratch.as_mut_ptr(), scratch.len()) })
+}
+
+/// Scratch gets the volume as it was, and the volume its 3×3×3 mean; 16·N numbers each. Refuses 1, 3, 13.
+pub fn coefficient_blur(axes: Axes, volume: &mut [f32], scratch: &mut [f32]) -> Result<(), Refusal> {
+    Refusal::good(unsafe { face::geaidnosa_coefficient_blur(axes, volume.as_mut_ptr(), volume.len(), scratch.as_mut_ptr(), scratch.len()) })
+}
+
+/// Fills the light, N numbers, with what each voxel sees of the sun, blurred, and scratch with the same before the blur; where no voxel is active the light is
+/// all 1.0 and scratch stays as it was. Answers the rays fired, one for each active voxel. Refuses 1, 2, 3, 4, 5, 6, 7, 13.
+pub fn sun(
+    axes: Axes, corners: Corners, scene: Scene, direction: Vec3, active: &[u8], light: &mut [f32], scratch: &mut [f32], hits: HitScratch,
+) -> Result<u64, Refusal> {
+    let Scene { points, uses, kinds, numbers } = scene;
+    let answer = unsafe {
+        face::geaidnosa_sun(
+            axes, corners, points.as_ptr(), points.len(), uses.as_ptr(), uses.len(), kinds.as_ptr(), kinds.len(), numbers.as_ptr(), numbers.len(),
+            direction, active.as_ptr(), active.len(), light.as_mut_ptr(), light.len(), scratch.as_mut_ptr(), scratch.len(),
+            hits.distances.as_mut_ptr(), hits.distances.len(), hits.places.as_mut_ptr(), hits.places.len(),
+        )
+    };
+    Refusal::good(answer.refusal)?;
+    Ok(answer.rays)
+}
+
+/// What a bake reads and never writes.
+#[derive(Clone, Copy, Debug)]
+pub struct BakeInput<'a> {
+    pub axes: Axes,
+    pub corners: Corners,
+    pub scene: Scene<'a>,
+    /// The sun.
+    pub light: Light,
+    pub ambient: Ambient,
+    /// [`SKY_LENGTH`] numbers: the colour seen along direction i of set s is triple 64·s + i.
+    pub sky: &'a [f32],
+    /// 6 a lamp, none to eight: position x y z, colour RGB.
+    pub lamps: &'a [f32],
+    /// The mask of the voxels to bake, N.
+    pub active: &'a [u8],
+    /// What [`sun`] wrote, N.
+    pub lights: &'a [f32],
+}
+
+/// Bakes the volume, 16·N numbers, from progress on: an active voxel is taken while at least 384 + 64·lamps rays of the allowance remain. Call again with the
+/// progress answered and the same lists until it is N. At progress 0 the volume's contents do not matter; scratch's never do. The last call leaves the volume
+/// before its 3×3×3 mean in scratch and the mean in the volume; the others do not touch scratch, and where no voxel is active no call writes it.
+/// Refuses 1, 2, 3, 4, 5, 6, 7, 19, 9, 10, 13.
+pub fn bake(input: BakeInput, volume: &mut [f32], scratch: &mut [f32], hits: HitScratch, progress: usize, allowance: u64) -> Result<Baked, Refusal> {
+    let BakeInput { axes, corners, scene, light, ambient, sky, lamps, active, lights } = input;
+    let Scene { points, uses, kinds, numbers } = scene;
+    let answer = unsafe {
+        face::geaidnosa_bake(
+            axes, corners, points.as_ptr(), points.len(), uses.as_ptr(), uses.len(), kinds.as_ptr(), kinds.len(), numbers.as_ptr(), numbers.len(),
+            light, ambient, sky.as_ptr(), sky.len(), lamps.as_ptr(), lamps.len(), active.as_ptr(), active.len(), lights.as_ptr(), lights.len(),
+            volume.as_mut_ptr(), volume.len(), scratch.as_mut_ptr(), scratch.len(),
+            hits.distances.as_mut_ptr(), hits.distances.len(), hits.places.as_mut_ptr(), hits.places.len(), progress, allowance,
+        )
+    };
+    Refusal::good(answer.refusal)?;
+    Ok(Baked { progress: answer.progress, rays: answer.rays })
+}
+
+/// The light at a position. Refuses 1, 2, 3, 11, and 13 among the eight cells read.
+pub fn light_at(axes: Axes, corners: Corners, light: &[f32], position: Vec3) -> Result<f32, Refusal> {
+    let answer = unsafe { face::geaidnosa_light_at(axes, corners, light.as_ptr(), light.len(), position) };
+    Refusal::good(answer.refusal)?;
+    Ok(answer.light)
+}
+
+/// The four coefficients at a position. Refuses 1, 2, 3, 11, and 13 among the eight cells read.
+pub fn coefficients_at(axes: Axes, corners: Corners, volume: &[f32], position: Vec3) -> Result<[f32; VOXEL_LENGTH], Refusal> {
+    let answer = unsafe { face::geaidnosa_coefficients_at(axes, corners, volume.as_ptr(), volume.len(), position) };
+    Refusal::good(answer.refusal)?;
+    Ok(answer.numbers)
+}
+
+/// One voxel's sixteen numbers, as a part of the volume or, where unblurred is asked, of scratch; no copy is made. Refuses 1, 3 (either list), 11.
+pub fn voxel_part<'a>(axes: Axes, volume: &'a [f32], scratch: &'a [f32], index: usize, unblurred: bool) -> Result<&'a [f32], Refusal> {
+    let answer = unsafe {
+        face::geaidnosa_voxel_part(axes, volume.as_ptr(), volume.len(), scratch.as_ptr(), scratch.len(), index, u8::from(unblurred))
+    };
+    Refusal::good(answer.refusal)?;
+    let list = if unblurred { scratch } else { volume };
+    Ok(&list[answer.start..answer.start + VOXEL_LENGTH])
+}
+
+/// The refusal of [`voxel_part`] on the same arguments: 1, 3 or 11.
+pub fn voxel_refusal(axes: Axes, volume: &[f32], scratch: &[f32], index: usize, unblurred: bool) -> Result<(), Refusal> {
+    Refusal::good(unsafe {
+        face::geaidnosa_voxel_refusal(axes, volume.as_ptr(), volume.len(), scratch.as_ptr(), scratch.len(), index, u8::from(unblurred))
+    })
+}
+
+fn first_refused(answer: face::FirstRefusal) -> Result<(), FirstRefused> {
+    Refusal::good(answer.refusal).map_err(|refusal| FirstRefused { refusal, place: answer.place })
+}
+
+/// The light at each of a list of positions, x y z of each, in answers, one number a position: each what [`light_at`] gives there.
+/// Refuses 1, 2, 3, and the first of what that call refuses at a position (11, 13), with its place.
+pub fn frame_lights(axes: Axes, corners: Corners, light: &[f32], positions: &[f32], answers: &mut [f32]) -> Result<(), FirstRefused> {
+    first_refused(unsafe {
+        face::geaidnosa_frame_lights(
+            axes, corners, light.as_ptr(), light.len(), positions.as_ptr(), positions.len(), answers.as_mut_ptr(), answers.len(),
+        )
+    })
+}
+
+/// The four coefficients at each of a list of positions, x y z of each, in answers, sixteen numbers a position: those of [`coefficients_at`] there.
+/// Refuses 1, 2, 3, and the first of what that call refuses at a position (11, 13), with its place.
+pub fn frame_coefficients(axes: Axes, corners: Corners, volume: &[f32], positions: &[f32], answers: &mut [f32]) -> Result<(), FirstRefused> {
+    first_refused(unsafe {
+        face::geaidnosa_frame_coefficients(
+            axes, corners, volume.as_ptr(), volume.len(), positions.as_ptr(), positions.len(), answers.as_mut_ptr(), answers.len(),
+        )
+    })
+}
+
+/// A file's axes and corners, from which its lists' lengths follow. Refuses 12.
+pub fn file_axes(bytes: &[u8]) -> Result<Head, Refusal> {
+    let answer = unsafe { face::geaidnosa_file_axes(bytes.as_ptr(), bytes.len()) };
+    Refusal::good(answer.refusal)?;
+    Ok(Head { axes: answer.axes, corners: answer.corners })
+}
+
+/// How many bytes a file of these axes has: 96 + 70·N. Refuses 1.
+pub fn volume_bytes(axes: Axes) -> Result<usize, Refusal> {
+    let answer = unsafe { face::geaidnosa_volume_bytes(axes) };
+    Refusal::good(answer.refusal)?;
+    Ok(answer.bytes)
+}
+
+/// Reads a file into the four lists and answers its axes and corners; foreign bodies are skipped. Refuses 12, then 3.
+pub fn read_volume(bytes: &[u8], light: &mut [f32], volume: &mut [f32], occupied: &mut [u8], active: &mut [u8]) -> Result<Head, Refusal> {
+    let answer = unsafe {
+        face::geaidnosa_read_volume(
+            bytes.as_ptr(), bytes.len(), light.as_mut_ptr(), light.len(), volume.as_mut_ptr(), volume.len(),
+            occupied.as_mut_ptr(), occupied.len(), active.as_mut_ptr(), active.len(),
+        )
+    };
+    Refusal::good(answer.refusal)?;
+    Ok(Head { axes: answer.axes, corners: answer.corners })
+}
+
+/// Writes a file over bytes, which has exactly as many as [`volume_bytes`] answers. Refuses 1, 2, 3, 13.
+pub fn write_volume(
+    axes: Axes, corners: Corners, light: &[f32], volume: &[f32], occupied: &[u8], active: &[u8], bytes: &mut [u8],
+) -> Result<(), Refusal> {
+    Refusal::good(unsafe {
+        face::geaidnosa_write_volume(
+            axes, corners, light.as_ptr(), light.len(), volume.as_ptr(), volume.len(), occupied.as_ptr(), occupied.len(),
+            active.as_ptr(), active.len(), bytes.as_mut_ptr(), bytes.len(),
+        )
+    })
+}
+
+/// What `volstat` prints of a file: axes, occupied and active counts, and how many lights are zero. Refuses 14, then 12.
+pub fn file_figures(bytes: &[u8]) -> Result<Figures, Refusal> {
+    let answer = unsafe { face::geaidnosa_file_figures(bytes.as_ptr(), bytes.len()) };
+    Refusal::good(answer.refusal)?;
+    Ok(Figures {
+        axes: Axes { width: answer.width, height: answer.height, depth: answer.depth },
+        occupied: answer.occupied,
+        active: answer.active,
+        zeros: answer.zeros,
+    })
+}
+
+/// The square root, rounded to the nearest; of a number below 0 (but −0) NaN. On bit patterns of f32; whatever is NaN answers 0x7FC00000. Refuses nothing.
+pub fn root_bits(bits: u32) -> u32 {
+    unsafe { face::geaidnosa_root_bits(bits) }
+}
+
+/// The largest whole number not above, on bit patterns of f32. Refuses nothing.
+pub fn floor_bits(bits: u32) -> u32 {
+    unsafe { face::geaidnosa_floor_bits(bits) }
+}
+
+/// The least whole number not below, on bit patterns of f32. Refuses nothing.
+pub fn ceiling_bits(bits: u32) -> u32 {
+    unsafe { face::geaidnosa_ceiling_bits(bits) }
+}
+
+/// The number without its sign, on bit patterns of f32. Refuses nothing.
+pub fn magnitude_bits(bits: u32) -> u32 {
+    unsafe { face::geaidnosa_magnitude_bits(bits) }
+}
+
+/// The larger of two, of two equals the second, NaN if either is; on bit patterns of f32. Refuses nothing.
+pub fn larger_bits(first: u32, second: u32) -> u32 {
+    unsafe { face::geaidnosa_larger_bits(first, second) }
+}
+
+/// The smaller of two, of two equals the second, NaN if either is; on bit patterns of f32. Refuses nothing.
+pub fn smaller_bits(first: u32, second: u32) -> u32 {
+    unsafe { face::geaidnosa_smaller_bits(first, second) }
+}

@@ -1,0 +1,143 @@
+//! The figures of the rules through the wrapper, every call once, and a refusal of each row that a call can give.
+use geaidnosa::*;
+
+const ONE: Axes = Axes { width: 1, height: 1, depth: 1 };
+
+fn unit_box(x: f32) -> Corners {
+    Corners { min: Vec3::new(0.0, 0.0, 0.0), max: Vec3::new(x, 1.0, 1.0) }
+}
+
+fn down(x: f32, y: f32, z: f32) -> Ray {
+    Ray { origin: Vec3::new(x, y, z), direction: Vec3::new(0.0, 0.0, -1.0), shortest: 0.0, longest: f32::INFINITY }
+}
+
+const Q: Triangle = Triangle { p0: Vec3::new(0.0, 0.0, 0.0), p1: Vec3::new(1.0, 0.0, 0.0), p2: Vec3::new(0.0, 1.0, 0.0) };
+const Q_POINTS: [f32; 9] = [0.0, 0.0, 0.0, 1.0, 0.0, 0.0, 0.0, 1.0, 0.0];
+const SHEET: [f32; 7] = [0.5, 0.5, 0.5, 0.0, 0.0, 0.0, 0.5];
+
+#[test]
+fn the_archive_is_of_this_version() {
+    assert_eq!(version(), VERSION_NUMBER);
+    let header = include_str!("../../include/geaidnosa.h");
+    assert!(header.contains(&format!("GEAIDNOSA_VERSION_NUMBER {VERSION_NUMBER} ")));
+    // the words of the table are the header's
+    for row in Refusal::ALL {
+        assert!(header.contains(&format!("{:>5}  {}\n", row.number(), row.words())), "{row}");
+        assert_eq!(Refusal::of_number(row.number()), Some(row));
+    }
+    assert_eq!(Refusal::of_number(15), None);
+}
+
+#[test]
+fn rays() {
+    assert_eq!(meet(down(0.25, 0.25, 1.0), Q), Ok(Some(Hit { place: 0, t: 1.0, u: 0.25, v: 0.25 })));
+    assert!(meet(down(0.5, 0.5, 1.0), Q).unwrap().is_some());
+    assert_eq!(meet(down(0.5, 0.75, 1.0), Q), Ok(None));
+    assert_eq!(meet(down(f32::NAN, 0.75, 1.0), Q), Err(Refusal::Ray));
+    assert_eq!(meet(down(0.0, 0.0, 1.0), Triangle { p0: Vec3::new(5000.0, 0.0, 0.0), ..Q }), Err(Refusal::Point));
+    for (sheets, passes) in [(0, 1.0), (13, 0.5f32.powi(13)), (14, 0.0)] {
+        let points = Q_POINTS.repeat(sheets);
+        let uses = vec![0; sheets];
+        let scene = Scene { points: &points, uses: &uses, kinds: &[1], numbers: &SHEET };
+        let (mut distances, mut places) = (vec![0.0; sheets], vec![0; sheets]);
+        let hits = HitScratch { distances: &mut distances, places: &mut places };
+        assert_eq!(transmittance(scene, down(0.25, 0.25, 1.0), hits), Ok(passes));
+        // the highest place among equal distances
+        assert_eq!(nearest(scene, down(0.25, 0.25, 1.0)).unwrap().map(|hit| hit.place + 1), (sheets > 0).then_some(sheets));
+    }
+    let scene = Scene { points: &Q_POINTS, uses: &[1], kinds: &[1], numbers: &SHEET };
+    assert_eq!(nearest(scene, down(0.25, 0.25, 1.0)), Err(Refusal::Material));
+    let hits = HitScratch { distances: &mut [], places: &mut [] };
+    assert_eq!(transmittance(scene, down(0.25, 0.25, 1.0), hits), Err(Refusal::Length));
+    let many = Scene { points: &vec![0.0; 9 * 4097], uses: &vec![0; 4097], kinds: &[1], numbers: &SHEET };
+    assert_eq!(nearest(many, down(0.25, 0.25, 1.0)), Err(Refusal::TooMany));
+}
+
+#[test]
+fn grids() {
+    let (mut occupied, mut active) = ([9; 6], [9; 6]);
+    let axes = Axes { width: 6, height: 1, depth: 1 };
+    let points: Vec<f32> = Q_POINTS.iter().map(|x| x * 0.5).collect();
+    assert_eq!(masks(axes, unit_box(6.0), &points, &mut occupied, &mut active), Ok(Marked { occupied: 1, active: 3 }));
+    assert_eq!((occupied, active), ([1, 0, 0, 0, 0, 0], [1, 1, 1, 0, 0, 0]));
+    assert_eq!(masks(Axes { width: 33, ..axes }, unit_box(6.0), &points, &mut occupied, &mut active), Err(Refusal::Axis));
+    assert_eq!(masks(axes, unit_box(f32::NAN), &points, &mut occupied, &mut active), Err(Refusal::Corner));
+    let (mut light, mut scratch) = ([1.0, 0.0], [0.0; 2]);
+    light_blur(Axes { width: 2, ..ONE }, &mut light, &mut scratch).unwrap();
+    assert_eq!((light, scratch), ([0.25, 0.25], [1.0, 0.0]));
+    let (mut volume, mut kept) = ([3.0; 16], [0.0; 16]);
+    coefficient_blur(ONE, &mut volume, &mut kept).unwrap();
+    assert_eq!((volume, kept), ([3.0; 16], [3.0; 16]));
+    volume[3] = f32::NAN;
+    assert_eq!(coefficient_blur(ONE, &mut volume, &mut kept), Err(Refusal::Contents));
+    assert_eq!(set_of_voxel(2, 2, 2), 1);
+    let mut table = [0.0; SKY_LENGTH];
+    directions(&mut table).unwrap();
+    assert!(table.chunks(3).all(|d| (d.iter().map(|x| x * x).sum::<f32>() - 1.0).abs() < 1e-5));
+    assert_eq!(directions(&mut [0.0; 3]), Err(Refusal::Length));
+}
+
+#[test]
+fn bakes() {
+    let axes = Axes { width: 3, height: 1, depth: 1 };
+    let empty = Scene { points: &[], uses: &[], kinds: &[], numbers: &[] };
+    let mut lights = [0.0; 3];
+    let rays = sun(axes, unit_box(3.0), empty, Vec3::new(0.0, 1.0, 0.0), &[1; 3], &mut lights, &mut [0.0; 3], HitScratch { distances: &mut [], places: &mut [] });
+    assert_eq!((rays, lights), (Ok(3), [1.0; 3]));
+    let input = BakeInput {
+        axes,
+        corners: unit_box(3.0),
+        scene: empty,
+        light: Light { direction: Vec3::new(0.0, 1.0, 0.0), colour: Vec3::default() },
+        ambient: Ambient::default(),
+        sky: &[1.0; SKY_LENGTH],
+        lamps: &[],
+        active: &[1; 3],
+        lights: &lights,
+    };
+    let run = |input: BakeInput, progress: usize, allowance: u64| {
+        let (mut volume, mut scratch) = ([0.0; 48], [0.0; 48]);
+        bake(input, &mut volume, &mut scratch, HitScratch { distances: &mut [], places: &mut [] }, progress, allowance)
+    };
+    assert_eq!(run(input, 0, 384), Ok(Baked { progress: 1, rays: 64 }));
+    assert_eq!(run(input, 0, 448), Ok(Baked { progress: 2, rays: 128 }));
+    assert_eq!(run(input, 0, 383), Err(Refusal::Allowance));
+    assert_eq!(run(input, 4, 383), Err(Refusal::Progress));
+    assert_eq!(run(BakeInput { lamps: &[0.0; 54], ..input }, 0, 999_999), Err(Refusal::Lamp));
+    assert_eq!(run(BakeInput { sky: &[f32::NAN; SKY_LENGTH], ..input }, 0, 999_999), Err(Refusal::Light));
+    let part = voxel_part(ONE, &[1.0; 16], &[2.0; 16], 0, true).unwrap();
+    assert_eq!(part, [2.0; 16]);
+    assert_eq!(voxel_refusal(ONE, &[1.0; 16], &[2.0; 16], 1, true), Err(Refusal::Position));
+}
+
+#[test]
+fn lookups_and_files() {
+    let axes = Axes { width: 2, height: 1, depth: 1 };
+    for (x, light) in [(-0.25, 0.75), (0.5, 0.5), (1.75, 1.0)] {
+        assert_eq!(light_at(axes, unit_box(2.0), &[0.0, 1.0], Vec3::new(x, 0.0, 0.0)), Ok(light));
+    }
+    let mut answers = [0.0; 2];
+    frame_lights(axes, unit_box(2.0), &[0.0, 1.0], &[0.5, 0.0, 0.0, 1.75, 0.0, 0.0], &mut answers).unwrap();
+    assert_eq!(answers, [0.5, 1.0]);
+    let refused = frame_lights(axes, unit_box(2.0), &[0.0, 1.0], &[0.5, 0.0, 0.0, f32::NAN, 0.0, 0.0], &mut answers);
+    assert_eq!(refused, Err(FirstRefused { refusal: Refusal::Position, place: 1 }));
+    let mut sixteen = [0.0; 16];
+    frame_coefficients(ONE, unit_box(1.0), &[4.0; 16], &[0.5, 0.0, 0.0], &mut sixteen).unwrap();
+    assert_eq!(coefficients_at(ONE, unit_box(1.0), &[4.0; 16], Vec3::new(0.5, 0.0, 0.0)), Ok(sixteen));
+    let mut bytes = vec![0; volume_bytes(ONE).unwrap()];
+    assert_eq!(bytes.len(), 166);
+    write_volume(ONE, unit_box(1.0), &[0.25], &[0.0; 16], &[1], &[1], &mut bytes).unwrap();
+    assert_eq!(file_axes(&bytes), Ok(Head { axes: ONE, corners: unit_box(1.0) }));
+    assert_eq!(file_figures(&bytes), Ok(Figures { axes: ONE, occupied: 1, active: 1, zeros: 0 }));
+    let (mut light, mut volume, mut occupied, mut active) = ([0.0], [1.0; 16], [0], [0]);
+    read_volume(&bytes, &mut light, &mut volume, &mut occupied, &mut active).unwrap();
+    assert_eq!((light, volume, occupied, active), ([0.25], [0.0; 16], [1], [1]));
+    assert_eq!(file_axes(&[]), Err(Refusal::File));
+    assert_eq!(file_figures(&[0; 65_537]), Err(Refusal::TooLong));
+    assert_eq!(root_bits(4f32.to_bits()), 2f32.to_bits());
+    assert_eq!(floor_bits(1.5f32.to_bits()), 1f32.to_bits());
+    assert_eq!(ceiling_bits(1.5f32.to_bits()), 2f32.to_bits());
+    assert_eq!(magnitude_bits((-1.5f32).to_bits()), 1.5f32.to_bits());
+    assert_eq!(larger_bits((-0f32).to_bits(), 0), 0);
+    assert_eq!(smaller_bits(0, (-0f32).to_bits()), (-0f32).to_bits());
+}
