@@ -500,6 +500,9 @@ fn pictures_and_numbers() {
     edit(&path, "max = [6.1, 3.1, 8.1]", "max = [6.1, 3.1, 8.2]");
     says(at, &["verify", "hall.vgrd", "hall.toml"], 1, &["grid is not the volume's"]);
     says(at, &["slice", "hall.vgrd", "--z", "3", "--png", "s.png", "--hall", "hall.toml"], 3, &["another grid"]);
+    says(at, &["face", "hall.vgrd", "hall.toml", "a", "--png", "f.png"], 3, &["another grid"]);
+    says(at, &["view", "hall.vgrd", "hall.toml", "--from", "3,1.6,7", "--to", "3,1.3,0", "--png", "v.png"], 3, &["another grid"]);
+    says(at, &["look", "hall.vgrd", "p.csv", "--direct", "hall.toml"], 3, &["another grid"]);
 }
 
 #[test]
