@@ -247,6 +247,11 @@ fn exposed(picture: &Picture, asked: Option<f32>, png: &Path) -> Result<f32> {
     Ok(exposure)
 }
 
+fn same_grid(volume: &Volume, hall: &Hall) -> Result<()> {
+    ensure!((hall.axes, hall.corners) == (volume.axes, volume.corners), "{} has another grid than the volume", hall.file.display());
+    Ok(())
+}
+
 pub fn slice(args: &Slice) -> Result<u8> {
     let volume = Volume::read(&args.volume)?;
     let counts = [volume.axes.width, volume.axes.height, volume.axes.depth];
@@ -260,7 +265,7 @@ pub fn slice(args: &Slice) -> Result<u8> {
     ensure!(place < counts[axis], "--{name} {place}: the volume has {name} from 0 to {} (refusal 11)", counts[axis] - 1);
     let hall = args.hall.as_deref().map(|path| read_hall(path, false)).transpose()?;
     if let Some(hall) = &hall {
-        ensure!((hall.axes, hall.corners) == (volume.axes, volume.corners), "{} has another grid than the volume", hall.file.display());
+        same_grid(&volume, hall)?;
     }
     let shown = picture::slice(&volume, axis, place, args.of, hall.as_ref());
     let exposure = exposed(&shown, args.exposure.or(args.of.is_part().then_some(1.0)), &args.png)?;
@@ -297,6 +302,7 @@ fn face_picture(volume: &Volume, hall: &Hall, name: &str, direct: bool, size: us
 pub fn face(args: &FaceArgs) -> Result<u8> {
     let volume = Volume::read(&args.volume)?;
     let hall = read_hall(&args.hall, false)?;
+    same_grid(&volume, &hall)?;
     let shown = face_picture(&volume, &hall, &args.name, args.direct, args.size as usize)?;
     let exposure = exposed(&shown, args.exposure, &args.png)?;
     println!("{}: face {}, {} × {} pixels, white is {:.4}", args.png.display(), args.name, shown.width, shown.height, 1.0 / exposure);
@@ -309,6 +315,7 @@ pub fn view(args: &ViewArgs) -> Result<u8> {
     ensure!(way.x.hypot(way.z) > 1e-6, "--from and --to: the camera looks straight up or down, or nowhere");
     let volume = Volume::read(&args.volume)?;
     let hall = read_hall(&args.hall, false)?;
+    same_grid(&volume, &hall)?;
     let size = args.size as usize;
     let shown = picture::view(&volume, &hall, &Camera { from: args.from, to: args.to, wide: args.wide }, size, size * 9 / 16)?;
     let exposure = exposed(&shown, args.exposure, &args.png)?;
@@ -329,6 +336,7 @@ struct Position {
 pub fn look(args: &Look) -> Result<u8> {
     let volume = Volume::read(&args.volume)?;
     let hall = args.direct.as_deref().map(|path| read_hall(path, false)).transpose()?;
+    hall.as_ref().map_or(Ok(()), |hall| same_grid(&volume, hall))?;
     let input: Box<dyn std::io::Read> = match args.positions.to_str() {
         Some("-") => Box::new(std::io::stdin()),
         _ => Box::new(std::fs::File::open(&args.positions).with_context(|| args.positions.display().to_string())?),

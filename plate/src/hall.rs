@@ -292,11 +292,7 @@ pub fn read(path: &Path, found: &mut Found) -> Option<Hall> {
             return None;
         }
     };
-    let folder = match path.parent() {
-        Some(folder) if folder.as_os_str().is_empty() => Path::new("."),
-        Some(folder) => folder,
-        None => Path::new("."),
-    };
+    let folder = path.parent().unwrap_or(Path::new(""));
     let before = found.faults.len();
     let mut inputs = vec![Input { file: file_name(path), sha256: sha256(&bytes) }];
     let mut reading = Reading { text: &text, file, found };
@@ -584,14 +580,6 @@ fn drawing_of(reading: &mut Reading, hall: &HallFile, folder: &Path, inputs: &mu
         reading.found.warn(&file, line, words);
     }
     let line_of_face = |face: usize| face.checked_sub(1).and_then(|place| drawing.lines.get(place)).copied();
-    for (face, point) in &drawing.beyond {
-        let words = format!("face {face}: point {point}, and the drawing has {}", drawing.points.len());
-        reading.found.fault(&file, line_of_face(*face), words, None);
-    }
-    if !drawing.beyond.is_empty() {
-        return None;
-    }
-    let used: BTreeSet<usize> = drawing.triangles.iter().flat_map(|t| t.points).collect();
     let placed: Vec<[f32; 3]> = drawing
         .points
         .iter()
@@ -600,16 +588,24 @@ fn drawing_of(reading: &mut Reading, hall: &HallFile, folder: &Path, inputs: &mu
             if z_up { [x, z, -y] } else { [x, y, z] }.map(|c| c as f32)
         })
         .collect();
-    let bad: BTreeSet<usize> = used.into_iter().filter(|p| placed[*p].iter().any(|c| !(c.abs() <= FAR))).collect();
-    let mut told = BTreeSet::new();
-    for triangle in &drawing.triangles {
-        for point in triangle.points.iter().filter(|p| bad.contains(p)) {
-            if told.insert((triangle.face, *point)) {
-                let [x, y, z] = placed[*point];
-                let words = format!("face {}: point {} at ({x}, {y}, {z}) is beyond ±4,096 metres or not finite", triangle.face, point + 1);
-                reading.found.fault(&file, line_of_face(triangle.face), words, Some(Refusal::Point));
+    let (mut told, mut beyond) = (BTreeSet::new(), false);
+    for (face, place) in &drawing.corners {
+        let (line, point) = (line_of_face(*face), place.saturating_add(1));
+        match usize::try_from(*place).ok().and_then(|place| placed.get(place)) {
+            None => {
+                beyond = true;
+                let words = format!("face {face}: point {point}, and the drawing has {}", placed.len());
+                reading.found.fault(&file, line, words, None);
             }
+            Some([x, y, z]) if [x, y, z].iter().any(|c| !(c.abs() <= FAR)) && told.insert((face, place)) => {
+                let words = format!("face {face}: point {point} at ({x}, {y}, {z}) is beyond ±4,096 metres or not finite");
+                reading.found.fault(&file, line, words, Some(Refusal::Point));
+            }
+            Some(_) => {}
         }
+    }
+    if beyond {
+        return None;
     }
     let count = drawing.triangles.len();
     if count > 4096 {

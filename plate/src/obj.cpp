@@ -40,7 +40,7 @@ struct Reader : tinyobj::MaterialReader {
 struct Drawing {
     std::vector<double> points;
     std::vector<int64_t> triangles;  // v0 v1 v2 material face
-    std::vector<int64_t> beyond;     // face and index, where a face names a point that is not there
+    std::vector<int64_t> corners;    // face and point of every corner of every face, also points that are not there
     std::vector<uint64_t> lines;     // the line of each face
     std::vector<tinyobj::material_t> materials;
     Reader reader;
@@ -100,6 +100,7 @@ void read(Drawing *drawing, const std::string &text, const std::string &folder) 
             return;
         }
         const int64_t count = int64_t(drawing->points.size() / 3);
+        bool beyond = false;
         for (const tinyobj::shape_t &shape : shapes) {
             const tinyobj::mesh_t &mesh = shape.mesh;
             size_t at = 0;
@@ -113,16 +114,15 @@ void read(Drawing *drawing, const std::string &text, const std::string &folder) 
                 } else {
                     for (size_t k = 0; k < corners; k++) {
                         const int64_t index = mesh.indices[at + k].vertex_index;
-                        if (index < 0 || index >= count) {
-                            drawing->beyond.push_back(face);
-                            drawing->beyond.push_back(index);
-                        }
+                        beyond = beyond || index < 0 || index >= count;
+                        drawing->corners.push_back(face);
+                        drawing->corners.push_back(index);
                     }
                 }
                 at += corners;
             }
         }
-        if (!drawing->beyond.empty()) return;  // no triangles of points that are not there
+        if (beyond) return;  // no triangles of points that are not there
     }
 }
 
@@ -157,7 +157,7 @@ void plate_obj_free(Drawing *drawing) { delete drawing; }
 
 PlateList plate_obj_points(const Drawing *d) { return {d->points.data(), d->points.size()}; }
 PlateList plate_obj_triangles(const Drawing *d) { return {d->triangles.data(), d->triangles.size()}; }
-PlateList plate_obj_beyond(const Drawing *d) { return {d->beyond.data(), d->beyond.size()}; }
+PlateList plate_obj_corners(const Drawing *d) { return {d->corners.data(), d->corners.size()}; }
 PlateList plate_obj_lines(const Drawing *d) { return {d->lines.data(), d->lines.size()}; }
 PlateList plate_obj_messages(const Drawing *d) { return {d->messages.data(), d->messages.size()}; }
 PlateList plate_obj_error(const Drawing *d) { return {d->error.data(), d->error.size()}; }

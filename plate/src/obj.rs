@@ -26,8 +26,8 @@ pub struct Drawing {
     pub triangles: Vec<Triangle>,
     /// The line on which each face stands, face 1 first.
     pub lines: Vec<u64>,
-    /// Faces that name a point which is not there, with the point's number as the file counts, from 1.
-    pub beyond: Vec<(usize, i64)>,
+    /// The face and the point's place of every corner of every face, also of points that are not there. Where one is not there, there are no triangles.
+    pub corners: Vec<(usize, i64)>,
     pub materials: Vec<Material>,
     /// Material files that were read, by their name in the drawing, and what they held.
     pub files: Vec<(String, Vec<u8>)>,
@@ -58,7 +58,7 @@ extern "C" {
     fn plate_obj_free(drawing: *mut Handle);
     fn plate_obj_points(drawing: *const Handle) -> List;
     fn plate_obj_triangles(drawing: *const Handle) -> List;
-    fn plate_obj_beyond(drawing: *const Handle) -> List;
+    fn plate_obj_corners(drawing: *const Handle) -> List;
     fn plate_obj_lines(drawing: *const Handle) -> List;
     fn plate_obj_messages(drawing: *const Handle) -> List;
     fn plate_obj_error(drawing: *const Handle) -> List;
@@ -86,6 +86,7 @@ unsafe fn text(list: List) -> String {
 /// Reads a drawing; material files are looked for in the folder.
 pub fn read(bytes: &[u8], folder: &Path) -> Drawing {
     use std::os::unix::ffi::OsStrExt;
+    let folder = if folder.as_os_str().is_empty() { Path::new(".") } else { folder };
     let Ok(folder) = CString::new(folder.as_os_str().as_bytes()) else {
         return Drawing { error: Some("the folder's name has a zero byte".into()), ..Drawing::default() };
     };
@@ -104,7 +105,7 @@ pub fn read(bytes: &[u8], folder: &Path) -> Drawing {
                 .map(|t| Triangle { points: [t[0] as usize, t[1] as usize, t[2] as usize], material: usize::try_from(t[3]).ok(), face: t[4] as usize })
                 .collect(),
             lines: copied::<u64>(plate_obj_lines(handle)),
-            beyond: copied::<i64>(plate_obj_beyond(handle)).chunks_exact(2).map(|b| (b[0] as usize, b[1].saturating_add(1))).collect(),
+            corners: copied::<i64>(plate_obj_corners(handle)).chunks_exact(2).map(|c| (c[0] as usize, c[1])).collect(),
             materials: (0..plate_obj_materials(handle))
                 .map(|i| plate_obj_material(handle, i))
                 .map(|m| Material { name: text(m.name), base: m.base, emissive: m.emissive, dissolve: m.dissolve })

@@ -261,9 +261,14 @@ fn killed_bakes_go_on_to_the_same_bits() {
 fn stops_are_saved_and_changed_inputs_are_refused() {
     let (dir, path) = small();
     let at = dir.path();
-    edit(&path, "voxels = [12, 6, 16]", "voxels = [32, 16, 32]");
-    let child = program().args(["bake", "hall.toml", "--allowance", "2000"]).current_dir(at).stdout(std::process::Stdio::piped()).spawn().unwrap();
-    std::thread::sleep(Duration::from_millis(1500));
+    edit(&path, "voxels = [12, 6, 16]", "voxels = [32, 32, 32]");
+    let mut command = program();
+    command.args(["bake", "hall.toml", "--threads", "1", "--allowance", "2000", "--save-every", "0"]).current_dir(at);
+    let child = command.stdout(std::process::Stdio::piped()).spawn().unwrap();
+    let begun = std::time::Instant::now();
+    while !at.join("hall.vgrd.part").exists() && begun.elapsed() < Duration::from_secs(60) {
+        std::thread::sleep(Duration::from_millis(1));
+    }
     assert!(Command::new("kill").args(["-INT", &child.id().to_string()]).status().unwrap().success());
     let output = child.wait_with_output().unwrap();
     assert_eq!(output.status.code(), Some(130), "{}", words(&output));
@@ -343,6 +348,10 @@ fn check_names_the_drawings_lines_and_faces() {
     says(at, &["check", "hall.toml"], 3, &[&format!("hall.obj:{}: v: \"x3\" is no finite number", line_of(&text, "v 6 x3 0"))]);
     let text = with("f 9 10 11 12", "f 9 10 11 99");
     says(at, &["check", "hall.toml"], 3, &[&format!("hall.obj:{}: face 7: point 99, and the drawing has 18", line_of(&text, "f 9 10 11 99"))]);
+    // both faults of one drawing, and the file's name as a reader would write it
+    std::fs::write(&obj, text.replacen("v 0 3 8", "v 0 5000 8", 1)).unwrap();
+    let said = says(at, &["check", "hall.toml"], 3, &["face 7: point 99", "face 3: point 8 at (0, 5000, 8)", "hall.toml: 3 faults"]);
+    assert!(said.starts_with("hall.obj:"), "{said}");
     let text = with("f 13 14 15 16", "f 13 0 15 16");
     says(at, &["check", "hall.toml"], 3, &[&format!("hall.obj:{}:", line_of(&text, "f 13 0"))]);
     let text = with("usemtl mat", "usemtl mast");
@@ -491,6 +500,9 @@ fn pictures_and_numbers() {
     edit(&path, "max = [6.1, 3.1, 8.1]", "max = [6.1, 3.1, 8.2]");
     says(at, &["verify", "hall.vgrd", "hall.toml"], 1, &["grid is not the volume's"]);
     says(at, &["slice", "hall.vgrd", "--z", "3", "--png", "s.png", "--hall", "hall.toml"], 3, &["another grid"]);
+    says(at, &["face", "hall.vgrd", "hall.toml", "a", "--png", "f.png"], 3, &["another grid"]);
+    says(at, &["view", "hall.vgrd", "hall.toml", "--from", "3,1.6,7", "--to", "3,1.3,0", "--png", "v.png"], 3, &["another grid"]);
+    says(at, &["look", "hall.vgrd", "p.csv", "--direct", "hall.toml"], 3, &["another grid"]);
 }
 
 #[test]
