@@ -2,7 +2,7 @@
 use crate::baking::{self, Asked, Outcome, Prepared, Scratch, Told};
 use crate::faults::Found;
 use crate::hall::{self, thousands, vec, Hall};
-use crate::part::{self, Part};
+use crate::part::{self, Only, Part};
 use crate::picture::{self, Camera, Of, Picture};
 use crate::volume::{irradiance, Volume};
 use crate::{files, light, Bake, Demo, FaceArgs, Look, Plan, Slice, ViewArgs, DIFFERS, GOOD, REFUSED, SAVED};
@@ -109,8 +109,9 @@ pub fn bake(args: &Bake) -> Result<u8> {
     }
     let mut code = GOOD;
     for hall in &halls {
-        let out = args.out.clone().unwrap_or_else(|| hall.file.with_extension("vgrd"));
-        let asked = Baking { threads, shares, allowance: args.allowance, until, save_every: args.save_every, resume: args.resume, fresh: args.fresh, json: args.json };
+        let ending = args.share.map_or("vgrd".into(), |o| format!("share{}of{}", o.share, o.of));
+        let out = args.out.clone().unwrap_or_else(|| hall.file.with_extension(ending));
+        let asked = Baking { threads, shares, share: args.share, allowance: args.allowance, until, save_every: args.save_every, resume: args.resume, fresh: args.fresh, json: args.json };
         code = bake_one(hall, &out, &asked, &STOP)?;
         if code == SAVED {
             break;
@@ -122,6 +123,7 @@ pub fn bake(args: &Bake) -> Result<u8> {
 struct Baking {
     threads: usize,
     shares: usize,
+    share: Option<Only>,
     allowance: u64,
     until: Option<Instant>,
     save_every: f64,
@@ -134,17 +136,32 @@ fn bake_one(hall: &Hall, out: &Path, asked: &Baking, stop: &AtomicBool) -> Resul
     let part_path = part::path_of(out);
     files::clear_temporaries(out);
     files::clear_temporaries(&part_path);
+    // a share that is done stays: a job that is run again costs nothing
+    if asked.share.is_some() && out.exists() && !asked.fresh {
+        let part = Part::read(out, hall, asked.share)?;
+        ensure!(part.finished(hall), "{} is the part of an unfinished bake", out.display());
+        let rays = part.rays();
+        match asked.json {
+            true => println!("{}", serde_json::json!({ "event": "done", "hall": hall.name, "volume": out.display().to_string(), "rays": rays, "seconds": part.seconds })),
+            false => println!("{}: {} is there and done, {} rays (--fresh bakes it anew)", hall.name, out.display(), thousands(rays)),
+        }
+        return Ok(GOOD);
+    }
     let from = match part_path.exists() && !asked.fresh {
-        true => Some(Part::read(&part_path, hall)?),
+        true => Some(Part::read(&part_path, hall, asked.share)?),
         false if asked.resume => bail!("{}: there is no part file to go on from", part_path.display()),
         false => None,
     };
     let prepared = baking::prepare(hall)?;
+    let prepared = match asked.share {
+        Some(only) => prepared.share(only),
+        None => prepared,
+    };
     let bar = ProgressBar::with_draw_target(Some(prepared.marked.active), if asked.json { ProgressDrawTarget::hidden() } else { ProgressDrawTarget::stderr() });
     bar.set_style(ProgressStyle::with_template("{prefix} [{bar:32}] {pos}/{len} voxels, {msg}, {eta} left")?.progress_chars("=> "));
     bar.set_prefix(hall.name.clone());
     if let Some(part) = &from {
-        let rays: u64 = part.shares.iter().map(|s| s.rays).sum();
+        let rays = part.rays();
         if !asked.json {
             eprintln!("{}: going on from {}, {} rays", hall.name, part_path.display(), thousands(rays));
         }
@@ -175,8 +192,11 @@ fn bake_one(hall: &Hall, out: &Path, asked: &Baking, stop: &AtomicBool) -> Resul
     bar.finish_and_clear();
     let said = |words: String, line: serde_json::Value| if asked.json { println!("{line}") } else { println!("{words}") };
     match outcome {
-        Outcome::Done { volume, rays, seconds } => {
-            volume.write(out)?;
+        Outcome::Done { volume, part, rays, seconds } => {
+            match asked.share {
+                Some(_) => part.write(out, hall)?,
+                None => volume.write(out)?,
+            }
             if part_path.exists() {
                 std::fs::remove_file(&part_path).with_context(|| part_path.display().to_string())?;
             }
@@ -197,6 +217,48 @@ fn bake_one(hall: &Hall, out: &Path, asked: &Baking, stop: &AtomicBool) -> Resul
             Ok(SAVED)
         }
     }
+}
+
+/// The shares in their order, each once; every fault in words.
+fn all_shares(hall: &Hall, paths: &[PathBuf]) -> Result<Vec<Part>> {
+    let mut faults = Vec::new();
+    let mut read: Vec<(Only, &PathBuf, Part)> = Vec::new();
+    for path in paths {
+        let part = std::fs::read(path).map_err(anyhow::Error::from).and_then(|bytes| Part::of_bytes(&bytes, hall));
+        match part.map(|p| (p.only, p)) {
+            Err(error) => faults.push(format!("{}: {error:#}", path.display())),
+            Ok((None, _)) => faults.push(format!("{}: it is the part of a whole bake, and no share", path.display())),
+            Ok((Some(only), part)) if !part.finished(hall) => faults.push(format!("{}: share {only} is not at its end: {} rays so far", path.display(), thousands(part.rays()))),
+            Ok((Some(only), part)) => match read.iter().find(|(other, ..)| *other == only) {
+                Some((_, other, _)) => faults.push(format!("{}: share {only} is given twice, {} is it too", path.display(), other.display())),
+                None => read.push((only, path, part)),
+            },
+        }
+    }
+    let of = read.first().map_or(0, |(only, ..)| only.of);
+    faults.extend(read.iter().filter(|(only, ..)| only.of != of).map(|(only, path, _)| format!("{}: share {only}, where {} is one of {of}", path.display(), read[0].1.display())));
+    if faults.is_empty() {
+        let missing: Vec<String> = (1..=of).filter(|s| read.iter().all(|(only, ..)| only.share != *s)).map(|share| Only { share, of }.to_string()).collect();
+        if !missing.is_empty() {
+            faults.push(format!("missing: share {}", missing.join(", ")));
+        }
+    }
+    ensure!(faults.is_empty(), "{}", faults.join("\n"));
+    read.sort_by_key(|(only, ..)| only.share);
+    Ok(read.into_iter().map(|(.., part)| part).collect())
+}
+
+pub fn join(hall: &Path, paths: &[PathBuf], out: Option<&Path>) -> Result<u8> {
+    let hall = read_hall(hall, true)?;
+    let out = out.map_or_else(|| hall.file.with_extension("vgrd"), Path::to_path_buf);
+    files::clear_temporaries(&out);
+    let shares = all_shares(&hall, paths)?;
+    let prepared = baking::prepare(&hall)?;
+    prepared.meant(&hall, baking::joined_shares(&prepared, &shares))?.write(&out)?;
+    let rays = shares.iter().fold(0u64, |sum, part| sum.saturating_add(part.rays()));
+    println!("{}: {} of {} shares, {} of {} voxels active, {} rays, {} over the shares", hall.name, out.display(), shares.len(),
+        thousands(prepared.marked.active), thousands(hall.axes.count() as u64), thousands(rays), lasting(shares.iter().map(|p| p.seconds).sum()));
+    Ok(GOOD)
 }
 
 pub fn plan(args: &Plan) -> Result<u8> {
@@ -480,7 +542,7 @@ pub fn verify(volume_path: &Path, hall_path: &Path, sample: usize) -> Result<u8>
         return Ok(DIFFERS);
     }
     let n = hall.axes.count();
-    let Prepared { occupied, active, light, marked } = baking::prepare(&hall)?;
+    let Prepared { occupied, active, light, marked, .. } = baking::prepare(&hall)?;
     if occupied != volume.occupied || active != volume.active {
         words.push("the masks are not the hall's".to_string());
     }
@@ -576,7 +638,7 @@ pub fn demo(args: &Demo) -> Result<u8> {
     let hall = read_hall(&dir.join("hall.toml"), true)?;
     println!("{}: a sample archery hall of {} triangles with {} lamps", dir.join("hall.toml").display(), hall.triangles(), hall.lamp_count());
     let out = dir.join("hall.vgrd");
-    let asked = Baking { threads, shares: threads, allowance: 100_000, until: None, save_every: 10.0, resume: false, fresh: false, json: false };
+    let asked = Baking { threads, shares: threads, share: None, allowance: 100_000, until: None, save_every: 10.0, resume: false, fresh: false, json: false };
     static STOP: AtomicBool = AtomicBool::new(false);
     ctrlc::set_handler(|| STOP.store(true, SeqCst)).context("Ctrl-C cannot be watched")?;
     if bake_one(&hall, &out, &asked, &STOP)? == SAVED {

@@ -52,6 +52,15 @@ enum Command {
     Plan(Plan),
     /// Bake halls into volume files; Ctrl-C saves, and the same command goes on from there
     Bake(Bake),
+    /// Join the files of all shares of a bake (`bake --share`) into the volume
+    Join {
+        hall: PathBuf,
+        #[arg(required = true)]
+        shares: Vec<PathBuf>,
+        /// The volume file; else the hall's name with .vgrd
+        #[arg(short, long)]
+        out: Option<PathBuf>,
+    },
     /// Picture of one slice of a volume
     Slice(Slice),
     /// Picture of a target's face: how bright it looks
@@ -113,10 +122,13 @@ pub struct Bake {
     /// The volume file, where one hall is baked; else each hall's name with .vgrd
     #[arg(short, long)]
     out: Option<PathBuf>,
+    /// One machine's share of the voxels, 3/8 for the third of eight: baked into a share file (else named .share3of8) for `join`
+    #[arg(long, value_name = "I/N")]
+    share: Option<part::Only>,
     /// How many threads; all cores where it is left out. One is the library's own bake; more divide the voxels into shares
     #[arg(long)]
     threads: Option<usize>,
-    /// Into how many shares a new bake is divided; as many as threads where it is left out
+    /// Into how many shares a new bake is divided on this machine; as many as threads where it is left out
     #[arg(long)]
     shares: Option<usize>,
     /// Rays a call: between calls the bake can stop
@@ -243,6 +255,7 @@ pub fn run() -> ExitCode {
         Command::Check { halls, json } => commands::check(&halls, json),
         Command::Plan(args) => commands::plan(&args),
         Command::Bake(args) => commands::bake(&args),
+        Command::Join { hall, shares, out } => commands::join(&hall, &shares, out.as_deref()),
         Command::Slice(args) => commands::slice(&args),
         Command::Face(args) => commands::face(&args),
         Command::View(args) => commands::view(&args),
