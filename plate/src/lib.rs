@@ -5,6 +5,7 @@ pub mod faults;
 pub mod files;
 pub mod hall;
 pub mod light;
+pub mod man;
 pub mod obj;
 pub mod part;
 pub mod picture;
@@ -88,6 +89,8 @@ enum Command {
     Explain { number: u32 },
     /// Completions for a shell, on standard output
     Completions { shell: clap_complete::Shell },
+    /// The manual page as roff, on standard output: `plate man | man -l -`
+    Man,
 }
 
 #[derive(clap::Args)]
@@ -266,6 +269,10 @@ pub fn run() -> ExitCode {
         Command::Explain { number } => commands::explain(number),
         Command::Completions { shell } => {
             clap_complete::generate(shell, &mut Cli::command(), "plate", &mut std::io::stdout());
+            Ok(GOOD)
+        }
+        Command::Man => {
+            print!("{}", man::page(Cli::command()));
             Ok(GOOD)
         }
     };

@@ -637,6 +637,15 @@ fn words_and_shells() {
     says(dir.path(), &["completions", "tcsh"], 2, &[]);
     let ended = Command::new("sh").arg("-c").arg(format!("{} completions bash | head -n 1", env!("CARGO_BIN_EXE_plate"))).output().unwrap();
     assert!(std::env::var("PLATE_EMULATE").is_ok() || !words(&ended).contains("panicked"), "{}", words(&ended));
+    // the manual page names every command, and where groff is installed it finds nothing to warn of
+    let page = says(dir.path(), &["man"], 0, &[".TH PLATE 1", ".SH NAME", "\\-\\-share"]);
+    for command in ["demo", "new", "check", "plan", "bake", "join", "slice", "face", "view", "look", "stats", "diff", "verify", "explain", "completions", "man"] {
+        assert!(page.contains(&format!(".SS {command}\n")), "{command}: {page}");
+    }
+    std::fs::write(dir.path().join("plate.1"), &page).unwrap();
+    if let Ok(warned) = Command::new("groff").args(["-man", "-Tutf8", "-Kutf8", "-ww", "-z", "plate.1"]).current_dir(dir.path()).output() {
+        assert!(warned.status.success() && words(&warned).is_empty(), "{}", words(&warned));
+    }
     says(dir.path(), &["--version"], 0, &["plate 0.1.0"]);
     says(dir.path(), &[], 2, &["Usage"]);
     // nothing is written over another file
