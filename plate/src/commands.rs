@@ -317,21 +317,35 @@ fn same_grid(volume: &Volume, hall: &Hall) -> Result<()> {
 pub fn slice(args: &Slice) -> Result<u8> {
     let volume = Volume::read(&args.volume)?;
     let counts = [volume.axes.width, volume.axes.height, volume.axes.depth];
+    let names = ["x", "y", "z"];
     let (axis, place) = match (args.x, args.y, args.z) {
-        (Some(x), _, _) => (0, x),
-        (_, Some(y), _) => (1, y),
-        (_, _, Some(z)) => (2, z),
-        _ => bail!("one of --x, --y and --z is needed"),
+        (Some(x), _, _) => (0, Some(x)),
+        (_, Some(y), _) => (1, Some(y)),
+        (_, _, Some(z)) => (2, Some(z)),
+        _ => (names.iter().position(|n| *n == args.across).context("--across: one of x, y and z")?, None),
     };
-    let name = ["x", "y", "z"][axis];
-    ensure!(place < counts[axis], "--{name} {place}: the volume has {name} from 0 to {} (refusal 11)", counts[axis] - 1);
+    let name = names[axis];
+    ensure!(place.map_or(true, |p| p < counts[axis]), "--{name} {place}: the volume has {name} from 0 to {} (refusal 11)", counts[axis] - 1, place = place.unwrap_or(0));
     let hall = args.hall.as_deref().map(|path| read_hall(path, false)).transpose()?;
     if let Some(hall) = &hall {
         same_grid(&volume, hall)?;
     }
-    let shown = picture::slice(&volume, axis, place, args.of, hall.as_ref());
-    let exposure = exposed(&shown, args.exposure.or(args.of.is_part().then_some(1.0)), &args.png)?;
-    println!("{}: slice {name} = {place}, {} × {} pixels, white is {:.4}", args.png.display(), shown.width, shown.height, 1.0 / exposure);
+    let asked = args.exposure.or(args.of.is_part().then_some(1.0));
+    if let (Some(place), Some(png)) = (place, &args.png) {
+        let shown = picture::slice(&volume, axis, place, args.of, hall.as_ref(), asked);
+        let exposure = exposed(&shown, asked, png)?;
+        println!("{}: slice {name} = {place}, {} × {} pixels, white is {:.4}", png.display(), shown.width, shown.height, 1.0 / exposure);
+        return Ok(GOOD);
+    }
+    // all slices at one exposure, so that they can be held beside each other
+    let dir = args.all.as_ref().context("--png or --all is needed")?;
+    std::fs::create_dir_all(dir).with_context(|| dir.display().to_string())?;
+    let plain = (0..volume.axes.count()).map(|v| args.of.colour(&volume, v)).collect();
+    let exposure = asked.unwrap_or_else(|| Picture { width: volume.axes.count(), height: 1, pixels: plain }.exposure());
+    for place in 0..counts[axis] {
+        exposed(&picture::slice(&volume, axis, place, args.of, hall.as_ref(), Some(exposure)), Some(exposure), &dir.join(format!("{name}{place:02}.png")))?;
+    }
+    println!("{}: {} slices across {name}, {name}00.png to {name}{:02}.png, white is {:.4}", dir.display(), counts[axis], counts[axis] - 1, 1.0 / exposure);
     Ok(GOOD)
 }
 
@@ -522,8 +536,18 @@ fn differences(first: &Volume, second: &Volume) -> Vec<String> {
     words
 }
 
-pub fn diff(first: &Path, second: &Path) -> Result<u8> {
-    let words = differences(&Volume::read(first)?, &Volume::read(second)?);
+pub fn diff(first: &Path, second: &Path, png: Option<&Path>) -> Result<u8> {
+    let (first, second) = (Volume::read(first)?, Volume::read(second)?);
+    let words = differences(&first, &second);
+    match png {
+        Some(png) if first.axes == second.axes => {
+            let (shown, most) = picture::difference(&first, &second);
+            shown.write_png(png, 1.0)?;
+            println!("{}: the slices across z in rows, red where a bit differs, white is {most}", png.display());
+        }
+        Some(png) => println!("{}: no picture of volumes of other axes", png.display()),
+        None => (),
+    }
     if words.is_empty() {
         println!("the same, bit for bit");
         return Ok(GOOD);
@@ -660,10 +684,10 @@ pub fn demo(args: &Demo) -> Result<u8> {
         "The hall as an archer sees it: three mats with their faces under hoods, a net behind them, lamps below the ceiling, windows to the right and the sun's patches on \
          the floor. What falls straight from lamps and sun is added here; the light in the shadows is the volume's. The ceiling is turned to −y, where a volume reads too \
          dark: hence its dark spots.")?;
-    show("plan.png", picture::slice(&volume, 1, y, Of::Irradiance(Vec3::new(0.0, 1.0, 0.0)), Some(&hall)), None,
+    show("plan.png", picture::slice(&volume, 1, y, Of::Irradiance(Vec3::new(0.0, 1.0, 0.0)), Some(&hall), None), None,
         "The volume from above at a height of 1.3 m, the archers' end below: light on a surface turned up. A bright spot below each of the six lamps, which is what ceiling \
          and tube send down, not the lamp itself; bluish along the windows on the right; dark behind the mats. White lines are the surfaces cut.")?;
-    show("slice.png", picture::slice(&volume, 2, z, Of::Irradiance(Vec3::new(0.0, 0.0, 1.0)), Some(&hall)), None,
+    show("slice.png", picture::slice(&volume, 2, z, Of::Irradiance(Vec3::new(0.0, 0.0, 1.0)), Some(&hall), None), None,
         "A slice across the hall just before the mats, light on a face turned to the archers; the white lines are the hoods.")?;
     let face = hall.faces.first().map(|f| f.name.clone()).context("the sample hall has faces")?;
     let straight = face_picture(&volume, &hall, &face, true, 400)?;

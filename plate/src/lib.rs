@@ -76,7 +76,13 @@ enum Command {
         volumes: Vec<PathBuf>,
     },
     /// Compare two volumes bit for bit (exit 1 where they differ)
-    Diff { first: PathBuf, second: PathBuf },
+    Diff {
+        first: PathBuf,
+        second: PathBuf,
+        /// Picture of where they differ: the slices across z in rows
+        #[arg(long)]
+        png: Option<PathBuf>,
+    },
     /// Judge a volume file: its masks and sun again, and some of its voxels baked again, bit for bit (exit 1 where they differ)
     Verify {
         volume: PathBuf,
@@ -167,6 +173,12 @@ pub struct Slice {
     /// The slice across z, seen with the height upwards
     #[arg(long, group = "place")]
     z: Option<usize>,
+    /// All slices into this folder, at one exposure
+    #[arg(long, group = "place", value_name = "DIR", conflicts_with = "png")]
+    all: Option<PathBuf>,
+    /// What the slices of --all lie across
+    #[arg(long, default_value = "z", value_parser = ["x", "y", "z"])]
+    across: String,
     /// sun, sky, c0, c1, c2, c3, or E:nx,ny,nz for the irradiance at a normal
     #[arg(long, default_value = "E:0,1,0", allow_hyphen_values = true)]
     of: picture::Of,
@@ -176,8 +188,8 @@ pub struct Slice {
     /// Factor from a number to the picture's brightness; where it is left out, one that brings the brightest hundredth to white
     #[arg(long)]
     exposure: Option<f32>,
-    #[arg(long)]
-    png: PathBuf,
+    #[arg(long, required_unless_present = "all")]
+    png: Option<PathBuf>,
 }
 
 #[derive(clap::Args)]
@@ -264,7 +276,7 @@ pub fn run() -> ExitCode {
         Command::View(args) => commands::view(&args),
         Command::Look(args) => commands::look(&args),
         Command::Stats { volumes } => commands::stats(&volumes),
-        Command::Diff { first, second } => commands::diff(&first, &second),
+        Command::Diff { first, second, png } => commands::diff(&first, &second, png.as_deref()),
         Command::Verify { volume, hall, sample } => commands::verify(&volume, &hall, sample),
         Command::Explain { number } => commands::explain(number),
         Command::Completions { shell } => {

@@ -571,6 +571,14 @@ fn pictures_and_numbers() {
     (0..3).for_each(|c| assert!((f32::from(shown.get_pixel(0, 0).0[c]) / 255.0 - expected(e[c])).abs() < 0.01));
     says(at, &["slice", "hall.vgrd", "--z", "16", "--png", "s.png"], 3, &["z from 0 to 15", "refusal 11"]);
     says(at, &["slice", "hall.vgrd", "--png", "s.png"], 2, &[]);
+    says(at, &["slice", "hall.vgrd", "--z", "1"], 2, &["--png"]);
+    says(at, &["slice", "hall.vgrd", "--all", "all", "--png", "s.png"], 2, &["cannot be used with"]);
+    says(at, &["slice", "hall.vgrd", "--all", "all", "--across", "w"], 2, &[]);
+    says(at, &["slice", "hall.vgrd", "--all", "all", "--hall", "hall.toml"], 0, &["all: 16 slices across z, z00.png to z15.png"]);
+    says(at, &["slice", "hall.vgrd", "--all", "all", "--across", "y", "--exposure", "1"], 0, &["6 slices across y", "white is 1.0000"]);
+    assert_eq!(std::fs::read_dir(at.join("all")).unwrap().count(), 16 + 6);
+    // each is the slice alone at the same exposure
+    assert_eq!(std::fs::read(at.join("all/y02.png")).unwrap(), std::fs::read(at.join("s.png")).unwrap());
     says(at, &["slice", "hall.vgrd", "--z", "1", "--x", "1", "--png", "s.png"], 2, &[]);
     says(at, &["slice", "hall.vgrd", "--z", "1", "--of", "E:0,0,0", "--png", "s.png"], 2, &["no direction"]);
     says(at, &["slice", "hall.obj", "--z", "1", "--png", "s.png"], 3, &["hall.obj", "refusal 12"]);
@@ -613,6 +621,14 @@ fn pictures_and_numbers() {
     other.volume[16 * place + 2] = f32::from_bits(other.volume[16 * place + 2].to_bits() ^ 1);
     other.write(&at.join("other.vgrd")).unwrap();
     says(at, &["diff", "hall.vgrd", "other.vgrd"], 1, &["coefficients: 1 numbers in 1 voxels differ"]);
+    // one voxel is not black: the 4 × 4 slices of 12 × 6 voxels
+    says(at, &["diff", "hall.vgrd", "other.vgrd", "--png", "d.png"], 1, &["d.png", "coefficients: 1 numbers"]);
+    let shown = image::open(at.join("d.png")).unwrap().to_rgb8();
+    let cell = (shown.width() / 4 - 2) / 12;
+    assert_eq!((shown.width(), shown.height()), (4 * (12 * cell + 2), 4 * (6 * cell + 2)));
+    assert_eq!(shown.pixels().filter(|p| p.0 == [255; 3]).count() as u32, cell * cell);
+    says(at, &["diff", "hall.vgrd", "hall.vgrd", "--png", "d.png"], 0, &["the same, bit for bit"]);
+    assert!(image::open(at.join("d.png")).unwrap().to_rgb8().pixels().all(|p| p.0[0] == p.0[1]));
     says(at, &["verify", "other.vgrd", "hall.toml", "--sample", "100000"], 1, &["1 of"]);
     edit(&path, "colour = [6.0, 5.5, 5.0]", "colour = [6.1, 5.5, 5.0]");
     says(at, &["verify", "hall.vgrd", "hall.toml"], 1, &["come out differently"]);
