@@ -4,7 +4,7 @@
 //! into one; every share is a bake of its own mask, the unblurred numbers of a voxel are taken from the share that has it, and the mean is taken last. That
 //! this gives the same bits is tested (tests/), and not proved.
 use crate::hall::Hall;
-use crate::part::{Part, Share};
+use crate::part::{Only, Part, Share};
 use crate::volume::Volume;
 use anyhow::Result;
 use geaidnosa::*;
@@ -18,6 +18,41 @@ pub struct Prepared {
     pub active: Vec<u8>,
     pub light: Vec<f32>,
     pub marked: Marked,
+    /// Where one machine bakes a share of the active voxels: which one; `active` is then its mask.
+    pub only: Option<Only>,
+}
+
+impl Prepared {
+    /// What one machine bakes of it.
+    pub fn share(self, only: Only) -> Prepared {
+        let active = shares_of(&self.active, only.of).swap_remove(only.share - 1);
+        let marked = Marked { active: active.iter().map(|a| u64::from(*a)).sum(), ..self.marked };
+        Prepared { active, marked, only: Some(only), ..self }
+    }
+
+    fn volume(&self, hall: &Hall, volume: Vec<f32>) -> Volume {
+        let (light, occupied, active) = (self.light.clone(), self.occupied.clone(), self.active.clone());
+        Volume { axes: hall.axes, corners: hall.corners, light, volume, occupied, active }
+    }
+
+    /// The volume of unblurred numbers: their mean, unless nothing is active.
+    pub fn meant(&self, hall: &Hall, mut unblurred: Vec<f32>) -> Result<Volume> {
+        if self.marked.active > 0 {
+            coefficient_blur(hall.axes, &mut unblurred, &mut vec![0.0; 16 * hall.axes.count()])?;
+        }
+        Ok(self.volume(hall, unblurred))
+    }
+}
+
+/// The unblurred numbers of all shares over machines, given in their order: a voxel's from the share that has it, any other's from the first.
+pub fn joined_shares(prepared: &Prepared, shares: &[Part]) -> Vec<f32> {
+    let mut all = shares.first().map_or_else(Vec::new, |first| first.volume.clone());
+    for (part, mask) in shares.iter().zip(shares_of(&prepared.active, shares.len())) {
+        for voxel in (0..mask.len()).filter(|v| mask[*v] == 1) {
+            all[16 * voxel..16 * voxel + 16].copy_from_slice(&part.volume[16 * voxel..16 * voxel + 16]);
+        }
+    }
+    all
 }
 
 pub struct Scratch {
@@ -40,7 +75,7 @@ pub fn prepare(hall: &Hall) -> Result<Prepared> {
     let (mut occupied, mut active, mut light, mut scratch) = (vec![0; n], vec![0; n], vec![0.0; n], vec![0.0; n]);
     let marked = masks(hall.axes, hall.corners, &hall.points, &mut occupied, &mut active)?;
     sun(hall.axes, hall.corners, hall.scene(), hall.sun.direction, &active, &mut light, &mut scratch, Scratch::new(hall).lent())?;
-    Ok(Prepared { occupied, active, light, marked })
+    Ok(Prepared { occupied, active, light, marked, only: None })
 }
 
 /// The masks of the shares: active voxel number j goes to share j mod count.
@@ -74,7 +109,8 @@ pub struct Told {
 }
 
 pub enum Outcome {
-    Done { volume: Volume, rays: u64, seconds: f64 },
+    /// `part` has the unblurred numbers.
+    Done { volume: Volume, part: Part, rays: u64, seconds: f64 },
     Stopped { part: Part, done: u64 },
 }
 
@@ -147,6 +183,7 @@ pub fn run(hall: &Hall, prepared: &Prepared, from: Option<Part>, asked: &Asked) 
         let states: Vec<State> = kept.iter().map(|k| k.lock().unwrap().clone()).collect();
         joined(&states, &masks, n).map(|volume| Part {
             shares: states.iter().map(|s| Share { progress: s.progress, rays: s.rays }).collect(),
+            only: prepared.only,
             seconds: before + begun.elapsed().as_secs_f64(),
             volume,
         })
@@ -187,28 +224,15 @@ pub fn run(hall: &Hall, prepared: &Prepared, from: Option<Part>, asked: &Asked) 
     (asked.tell)(told());
     let finished = kept.iter().all(|k| k.lock().unwrap().progress == n);
     if !finished {
-        let part = whole().unwrap_or_else(|| Part { shares: vec![Share { progress: 0, rays: 0 }; count], seconds: before, volume: vec![0.0; 16 * n] });
+        let part = whole().unwrap_or_else(|| Part { shares: vec![Share { progress: 0, rays: 0 }; count], only: prepared.only, seconds: before, volume: vec![0.0; 16 * n] });
         return Ok(Outcome::Stopped { done: told().voxels, part });
     }
+    let part = whole().expect("every share is at its end");
     let volume = match blurred.into_inner().unwrap() {
-        Some(volume) => volume,
-        None => {
-            let mut all = whole().expect("every share is at its end").volume;
-            if prepared.marked.active > 0 {
-                coefficient_blur(hall.axes, &mut all, &mut vec![0.0; 16 * n])?;
-            }
-            all
-        }
+        Some(volume) => prepared.volume(hall, volume),
+        None => prepared.meant(hall, part.volume.clone())?,
     };
-    let volume = Volume {
-        axes: hall.axes,
-        corners: hall.corners,
-        light: prepared.light.clone(),
-        volume,
-        occupied: prepared.occupied.clone(),
-        active: prepared.active.clone(),
-    };
-    Ok(Outcome::Done { volume, rays: told().rays, seconds: before + begun.elapsed().as_secs_f64() })
+    Ok(Outcome::Done { volume, part, rays: told().rays, seconds: before + begun.elapsed().as_secs_f64() })
 }
 
 /// The unblurred volume of all shares: a voxel that its share has passed from there, every other from a share that has begun, where it is ambient. None where

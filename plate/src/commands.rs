@@ -2,7 +2,7 @@
 use crate::baking::{self, Asked, Outcome, Prepared, Scratch, Told};
 use crate::faults::Found;
 use crate::hall::{self, thousands, vec, Hall};
-use crate::part::{self, Part};
+use crate::part::{self, Only, Part};
 use crate::picture::{self, Camera, Of, Picture};
 use crate::volume::{irradiance, Volume};
 use crate::{files, light, Bake, Demo, FaceArgs, Look, Plan, Slice, ViewArgs, DIFFERS, GOOD, REFUSED, SAVED};
@@ -109,8 +109,9 @@ pub fn bake(args: &Bake) -> Result<u8> {
     }
     let mut code = GOOD;
     for hall in &halls {
-        let out = args.out.clone().unwrap_or_else(|| hall.file.with_extension("vgrd"));
-        let asked = Baking { threads, shares, allowance: args.allowance, until, save_every: args.save_every, resume: args.resume, fresh: args.fresh, json: args.json };
+        let ending = args.share.map_or("vgrd".into(), |o| format!("share{}of{}", o.share, o.of));
+        let out = args.out.clone().unwrap_or_else(|| hall.file.with_extension(ending));
+        let asked = Baking { threads, shares, share: args.share, allowance: args.allowance, until, save_every: args.save_every, resume: args.resume, fresh: args.fresh, json: args.json };
         code = bake_one(hall, &out, &asked, &STOP)?;
         if code == SAVED {
             break;
@@ -122,6 +123,7 @@ pub fn bake(args: &Bake) -> Result<u8> {
 struct Baking {
     threads: usize,
     shares: usize,
+    share: Option<Only>,
     allowance: u64,
     until: Option<Instant>,
     save_every: f64,
@@ -134,17 +136,32 @@ fn bake_one(hall: &Hall, out: &Path, asked: &Baking, stop: &AtomicBool) -> Resul
     let part_path = part::path_of(out);
     files::clear_temporaries(out);
     files::clear_temporaries(&part_path);
+    // a share that is done stays: a job that is run again costs nothing
+    if asked.share.is_some() && out.exists() && !asked.fresh {
+        let part = Part::read(out, hall, asked.share)?;
+        ensure!(part.finished(hall), "{} is the part of an unfinished bake", out.display());
+        let rays = part.rays();
+        match asked.json {
+            true => println!("{}", serde_json::json!({ "event": "done", "hall": hall.name, "volume": out.display().to_string(), "rays": rays, "seconds": part.seconds })),
+            false => println!("{}: {} is there and done, {} rays (--fresh bakes it anew)", hall.name, out.display(), thousands(rays)),
+        }
+        return Ok(GOOD);
+    }
     let from = match part_path.exists() && !asked.fresh {
-        true => Some(Part::read(&part_path, hall)?),
+        true => Some(Part::read(&part_path, hall, asked.share)?),
         false if asked.resume => bail!("{}: there is no part file to go on from", part_path.display()),
         false => None,
     };
     let prepared = baking::prepare(hall)?;
+    let prepared = match asked.share {
+        Some(only) => prepared.share(only),
+        None => prepared,
+    };
     let bar = ProgressBar::with_draw_target(Some(prepared.marked.active), if asked.json { ProgressDrawTarget::hidden() } else { ProgressDrawTarget::stderr() });
     bar.set_style(ProgressStyle::with_template("{prefix} [{bar:32}] {pos}/{len} voxels, {msg}, {eta} left")?.progress_chars("=> "));
     bar.set_prefix(hall.name.clone());
     if let Some(part) = &from {
-        let rays: u64 = part.shares.iter().map(|s| s.rays).sum();
+        let rays = part.rays();
         if !asked.json {
             eprintln!("{}: going on from {}, {} rays", hall.name, part_path.display(), thousands(rays));
         }
@@ -175,8 +192,11 @@ fn bake_one(hall: &Hall, out: &Path, asked: &Baking, stop: &AtomicBool) -> Resul
     bar.finish_and_clear();
     let said = |words: String, line: serde_json::Value| if asked.json { println!("{line}") } else { println!("{words}") };
     match outcome {
-        Outcome::Done { volume, rays, seconds } => {
-            volume.write(out)?;
+        Outcome::Done { volume, part, rays, seconds } => {
+            match asked.share {
+                Some(_) => part.write(out, hall)?,
+                None => volume.write(out)?,
+            }
             if part_path.exists() {
                 std::fs::remove_file(&part_path).with_context(|| part_path.display().to_string())?;
             }
@@ -197,6 +217,48 @@ fn bake_one(hall: &Hall, out: &Path, asked: &Baking, stop: &AtomicBool) -> Resul
             Ok(SAVED)
         }
     }
+}
+
+/// The shares in their order, each once; every fault in words.
+fn all_shares(hall: &Hall, paths: &[PathBuf]) -> Result<Vec<Part>> {
+    let mut faults = Vec::new();
+    let mut read: Vec<(Only, &PathBuf, Part)> = Vec::new();
+    for path in paths {
+        let part = std::fs::read(path).map_err(anyhow::Error::from).and_then(|bytes| Part::of_bytes(&bytes, hall));
+        match part.map(|p| (p.only, p)) {
+            Err(error) => faults.push(format!("{}: {error:#}", path.display())),
+            Ok((None, _)) => faults.push(format!("{}: it is the part of a whole bake, and no share", path.display())),
+            Ok((Some(only), part)) if !part.finished(hall) => faults.push(format!("{}: share {only} is not at its end: {} rays so far", path.display(), thousands(part.rays()))),
+            Ok((Some(only), part)) => match read.iter().find(|(other, ..)| *other == only) {
+                Some((_, other, _)) => faults.push(format!("{}: share {only} is given twice, {} is it too", path.display(), other.display())),
+                None => read.push((only, path, part)),
+            },
+        }
+    }
+    let of = read.first().map_or(0, |(only, ..)| only.of);
+    faults.extend(read.iter().filter(|(only, ..)| only.of != of).map(|(only, path, _)| format!("{}: share {only}, where {} is one of {of}", path.display(), read[0].1.display())));
+    if faults.is_empty() {
+        let missing: Vec<String> = (1..=of).filter(|s| read.iter().all(|(only, ..)| only.share != *s)).map(|share| Only { share, of }.to_string()).collect();
+        if !missing.is_empty() {
+            faults.push(format!("missing: share {}", missing.join(", ")));
+        }
+    }
+    ensure!(faults.is_empty(), "{}", faults.join("\n"));
+    read.sort_by_key(|(only, ..)| only.share);
+    Ok(read.into_iter().map(|(.., part)| part).collect())
+}
+
+pub fn join(hall: &Path, paths: &[PathBuf], out: Option<&Path>) -> Result<u8> {
+    let hall = read_hall(hall, true)?;
+    let out = out.map_or_else(|| hall.file.with_extension("vgrd"), Path::to_path_buf);
+    files::clear_temporaries(&out);
+    let shares = all_shares(&hall, paths)?;
+    let prepared = baking::prepare(&hall)?;
+    prepared.meant(&hall, baking::joined_shares(&prepared, &shares))?.write(&out)?;
+    let rays = shares.iter().fold(0u64, |sum, part| sum.saturating_add(part.rays()));
+    println!("{}: {} of {} shares, {} of {} voxels active, {} rays, {} over the shares", hall.name, out.display(), shares.len(),
+        thousands(prepared.marked.active), thousands(hall.axes.count() as u64), thousands(rays), lasting(shares.iter().map(|p| p.seconds).sum()));
+    Ok(GOOD)
 }
 
 pub fn plan(args: &Plan) -> Result<u8> {
@@ -255,21 +317,35 @@ fn same_grid(volume: &Volume, hall: &Hall) -> Result<()> {
 pub fn slice(args: &Slice) -> Result<u8> {
     let volume = Volume::read(&args.volume)?;
     let counts = [volume.axes.width, volume.axes.height, volume.axes.depth];
+    let names = ["x", "y", "z"];
     let (axis, place) = match (args.x, args.y, args.z) {
-        (Some(x), _, _) => (0, x),
-        (_, Some(y), _) => (1, y),
-        (_, _, Some(z)) => (2, z),
-        _ => bail!("one of --x, --y and --z is needed"),
+        (Some(x), _, _) => (0, Some(x)),
+        (_, Some(y), _) => (1, Some(y)),
+        (_, _, Some(z)) => (2, Some(z)),
+        _ => (names.iter().position(|n| *n == args.across).context("--across: one of x, y and z")?, None),
     };
-    let name = ["x", "y", "z"][axis];
-    ensure!(place < counts[axis], "--{name} {place}: the volume has {name} from 0 to {} (refusal 11)", counts[axis] - 1);
+    let name = names[axis];
+    ensure!(place.map_or(true, |p| p < counts[axis]), "--{name} {place}: the volume has {name} from 0 to {} (refusal 11)", counts[axis] - 1, place = place.unwrap_or(0));
     let hall = args.hall.as_deref().map(|path| read_hall(path, false)).transpose()?;
     if let Some(hall) = &hall {
         same_grid(&volume, hall)?;
     }
-    let shown = picture::slice(&volume, axis, place, args.of, hall.as_ref());
-    let exposure = exposed(&shown, args.exposure.or(args.of.is_part().then_some(1.0)), &args.png)?;
-    println!("{}: slice {name} = {place}, {} × {} pixels, white is {:.4}", args.png.display(), shown.width, shown.height, 1.0 / exposure);
+    let asked = args.exposure.or(args.of.is_part().then_some(1.0));
+    if let (Some(place), Some(png)) = (place, &args.png) {
+        let shown = picture::slice(&volume, axis, place, args.of, hall.as_ref(), asked);
+        let exposure = exposed(&shown, asked, png)?;
+        println!("{}: slice {name} = {place}, {} × {} pixels, white is {:.4}", png.display(), shown.width, shown.height, 1.0 / exposure);
+        return Ok(GOOD);
+    }
+    // all slices at one exposure, so that they can be held beside each other
+    let dir = args.all.as_ref().context("--png or --all is needed")?;
+    std::fs::create_dir_all(dir).with_context(|| dir.display().to_string())?;
+    let plain = (0..volume.axes.count()).map(|v| args.of.colour(&volume, v)).collect();
+    let exposure = asked.unwrap_or_else(|| Picture { width: volume.axes.count(), height: 1, pixels: plain }.exposure());
+    for place in 0..counts[axis] {
+        exposed(&picture::slice(&volume, axis, place, args.of, hall.as_ref(), Some(exposure)), Some(exposure), &dir.join(format!("{name}{place:02}.png")))?;
+    }
+    println!("{}: {} slices across {name}, {name}00.png to {name}{:02}.png, white is {:.4}", dir.display(), counts[axis], counts[axis] - 1, 1.0 / exposure);
     Ok(GOOD)
 }
 
@@ -460,8 +536,18 @@ fn differences(first: &Volume, second: &Volume) -> Vec<String> {
     words
 }
 
-pub fn diff(first: &Path, second: &Path) -> Result<u8> {
-    let words = differences(&Volume::read(first)?, &Volume::read(second)?);
+pub fn diff(first: &Path, second: &Path, png: Option<&Path>) -> Result<u8> {
+    let (first, second) = (Volume::read(first)?, Volume::read(second)?);
+    let words = differences(&first, &second);
+    match png {
+        Some(png) if first.axes == second.axes => {
+            let (shown, most) = picture::difference(&first, &second);
+            shown.write_png(png, 1.0)?;
+            println!("{}: the slices across z in rows, red where a bit differs, white is {most}", png.display());
+        }
+        Some(png) => println!("{}: no picture of volumes of other axes", png.display()),
+        None => (),
+    }
     if words.is_empty() {
         println!("the same, bit for bit");
         return Ok(GOOD);
@@ -480,7 +566,7 @@ pub fn verify(volume_path: &Path, hall_path: &Path, sample: usize) -> Result<u8>
         return Ok(DIFFERS);
     }
     let n = hall.axes.count();
-    let Prepared { occupied, active, light, marked } = baking::prepare(&hall)?;
+    let Prepared { occupied, active, light, marked, .. } = baking::prepare(&hall)?;
     if occupied != volume.occupied || active != volume.active {
         words.push("the masks are not the hall's".to_string());
     }
@@ -576,7 +662,7 @@ pub fn demo(args: &Demo) -> Result<u8> {
     let hall = read_hall(&dir.join("hall.toml"), true)?;
     println!("{}: a sample archery hall of {} triangles with {} lamps", dir.join("hall.toml").display(), hall.triangles(), hall.lamp_count());
     let out = dir.join("hall.vgrd");
-    let asked = Baking { threads, shares: threads, allowance: 100_000, until: None, save_every: 10.0, resume: false, fresh: false, json: false };
+    let asked = Baking { threads, shares: threads, share: None, allowance: 100_000, until: None, save_every: 10.0, resume: false, fresh: false, json: false };
     static STOP: AtomicBool = AtomicBool::new(false);
     ctrlc::set_handler(|| STOP.store(true, SeqCst)).context("Ctrl-C cannot be watched")?;
     if bake_one(&hall, &out, &asked, &STOP)? == SAVED {
@@ -598,10 +684,10 @@ pub fn demo(args: &Demo) -> Result<u8> {
         "The hall as an archer sees it: three mats with their faces under hoods, a net behind them, lamps below the ceiling, windows to the right and the sun's patches on \
          the floor. What falls straight from lamps and sun is added here; the light in the shadows is the volume's. The ceiling is turned to −y, where a volume reads too \
          dark: hence its dark spots.")?;
-    show("plan.png", picture::slice(&volume, 1, y, Of::Irradiance(Vec3::new(0.0, 1.0, 0.0)), Some(&hall)), None,
+    show("plan.png", picture::slice(&volume, 1, y, Of::Irradiance(Vec3::new(0.0, 1.0, 0.0)), Some(&hall), None), None,
         "The volume from above at a height of 1.3 m, the archers' end below: light on a surface turned up. A bright spot below each of the six lamps, which is what ceiling \
          and tube send down, not the lamp itself; bluish along the windows on the right; dark behind the mats. White lines are the surfaces cut.")?;
-    show("slice.png", picture::slice(&volume, 2, z, Of::Irradiance(Vec3::new(0.0, 0.0, 1.0)), Some(&hall)), None,
+    show("slice.png", picture::slice(&volume, 2, z, Of::Irradiance(Vec3::new(0.0, 0.0, 1.0)), Some(&hall), None), None,
         "A slice across the hall just before the mats, light on a face turned to the archers; the white lines are the hoods.")?;
     let face = hall.faces.first().map(|f| f.name.clone()).context("the sample hall has faces")?;
     let straight = face_picture(&volume, &hall, &face, true, 400)?;

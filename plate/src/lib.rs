@@ -5,6 +5,7 @@ pub mod faults;
 pub mod files;
 pub mod hall;
 pub mod light;
+pub mod man;
 pub mod obj;
 pub mod part;
 pub mod picture;
@@ -52,6 +53,15 @@ enum Command {
     Plan(Plan),
     /// Bake halls into volume files; Ctrl-C saves, and the same command goes on from there
     Bake(Bake),
+    /// Join the files of all shares of a bake (`bake --share`) into the volume
+    Join {
+        hall: PathBuf,
+        #[arg(required = true)]
+        shares: Vec<PathBuf>,
+        /// The volume file; else the hall's name with .vgrd
+        #[arg(short, long)]
+        out: Option<PathBuf>,
+    },
     /// Picture of one slice of a volume
     Slice(Slice),
     /// Picture of a target's face: how bright it looks
@@ -66,7 +76,13 @@ enum Command {
         volumes: Vec<PathBuf>,
     },
     /// Compare two volumes bit for bit (exit 1 where they differ)
-    Diff { first: PathBuf, second: PathBuf },
+    Diff {
+        first: PathBuf,
+        second: PathBuf,
+        /// Picture of where they differ: the slices across z in rows
+        #[arg(long)]
+        png: Option<PathBuf>,
+    },
     /// Judge a volume file: its masks and sun again, and some of its voxels baked again, bit for bit (exit 1 where they differ)
     Verify {
         volume: PathBuf,
@@ -79,6 +95,8 @@ enum Command {
     Explain { number: u32 },
     /// Completions for a shell, on standard output
     Completions { shell: clap_complete::Shell },
+    /// The manual page as roff, on standard output: `plate man | man -l -`
+    Man,
 }
 
 #[derive(clap::Args)]
@@ -113,10 +131,13 @@ pub struct Bake {
     /// The volume file, where one hall is baked; else each hall's name with .vgrd
     #[arg(short, long)]
     out: Option<PathBuf>,
+    /// One machine's share of the voxels, 3/8 for the third of eight: baked into a share file (else named .share3of8) for `join`
+    #[arg(long, value_name = "I/N")]
+    share: Option<part::Only>,
     /// How many threads; all cores where it is left out. One is the library's own bake; more divide the voxels into shares
     #[arg(long)]
     threads: Option<usize>,
-    /// Into how many shares a new bake is divided; as many as threads where it is left out
+    /// Into how many shares a new bake is divided on this machine; as many as threads where it is left out
     #[arg(long)]
     shares: Option<usize>,
     /// Rays a call: between calls the bake can stop
@@ -152,6 +173,12 @@ pub struct Slice {
     /// The slice across z, seen with the height upwards
     #[arg(long, group = "place")]
     z: Option<usize>,
+    /// All slices into this folder, at one exposure
+    #[arg(long, group = "place", value_name = "DIR", conflicts_with = "png")]
+    all: Option<PathBuf>,
+    /// What the slices of --all lie across
+    #[arg(long, default_value = "z", value_parser = ["x", "y", "z"])]
+    across: String,
     /// sun, sky, c0, c1, c2, c3, or E:nx,ny,nz for the irradiance at a normal
     #[arg(long, default_value = "E:0,1,0", allow_hyphen_values = true)]
     of: picture::Of,
@@ -161,8 +188,8 @@ pub struct Slice {
     /// Factor from a number to the picture's brightness; where it is left out, one that brings the brightest hundredth to white
     #[arg(long)]
     exposure: Option<f32>,
-    #[arg(long)]
-    png: PathBuf,
+    #[arg(long, required_unless_present = "all")]
+    png: Option<PathBuf>,
 }
 
 #[derive(clap::Args)]
@@ -243,16 +270,21 @@ pub fn run() -> ExitCode {
         Command::Check { halls, json } => commands::check(&halls, json),
         Command::Plan(args) => commands::plan(&args),
         Command::Bake(args) => commands::bake(&args),
+        Command::Join { hall, shares, out } => commands::join(&hall, &shares, out.as_deref()),
         Command::Slice(args) => commands::slice(&args),
         Command::Face(args) => commands::face(&args),
         Command::View(args) => commands::view(&args),
         Command::Look(args) => commands::look(&args),
         Command::Stats { volumes } => commands::stats(&volumes),
-        Command::Diff { first, second } => commands::diff(&first, &second),
+        Command::Diff { first, second, png } => commands::diff(&first, &second, png.as_deref()),
         Command::Verify { volume, hall, sample } => commands::verify(&volume, &hall, sample),
         Command::Explain { number } => commands::explain(number),
         Command::Completions { shell } => {
             clap_complete::generate(shell, &mut Cli::command(), "plate", &mut std::io::stdout());
+            Ok(GOOD)
+        }
+        Command::Man => {
+            print!("{}", man::page(Cli::command()));
             Ok(GOOD)
         }
     };

@@ -1,5 +1,5 @@
 //! The part file of an unfinished bake: one line of mark and SHA-256 of the rest, one line of JSON, then the unblurred volume as far as it is, f32 bits
-//! little-endian. It is written whole, and read only where every input is as it was.
+//! little-endian. It is written whole, and read only where every input is as it was. The file of one machine's share has the same form, and names its share.
 use crate::files;
 use crate::hall::{sha256, Hall, Input};
 use anyhow::{bail, ensure, Context, Result};
@@ -15,6 +15,29 @@ pub struct Share {
     pub rays: u64,
 }
 
+/// Share number `share`, counted from 1, of `of` over machines: active voxel number j (counted from 0) is share 1 + j mod `of`'s.
+#[derive(Clone, Copy, Debug, PartialEq, Eq, Serialize, Deserialize)]
+#[serde(deny_unknown_fields)]
+pub struct Only {
+    pub share: usize,
+    pub of: usize,
+}
+
+impl std::fmt::Display for Only {
+    fn fmt(&self, f: &mut std::fmt::Formatter) -> std::fmt::Result {
+        write!(f, "{}/{}", self.share, self.of)
+    }
+}
+
+impl std::str::FromStr for Only {
+    type Err = String;
+    fn from_str(text: &str) -> Result<Only, String> {
+        let number = |digits: &str| digits.parse().ok().filter(|n| (1..=1024).contains(n));
+        let only = text.split_once('/').and_then(|(share, of)| Some(Only { share: number(share)?, of: number(of)? }));
+        only.filter(|o| o.share <= o.of).ok_or_else(|| format!("\"{text}\" is no share: 3/8 is the third of eight, and there are at most 1,024"))
+    }
+}
+
 #[derive(Clone, Debug, PartialEq, Serialize, Deserialize)]
 #[serde(deny_unknown_fields)]
 struct Head {
@@ -25,12 +48,16 @@ struct Head {
     voxels: usize,
     seconds: f64,
     shares: Vec<Share>,
+    #[serde(default, skip_serializing_if = "Option::is_none")]
+    only: Option<Only>,
 }
 
 #[derive(Clone, Debug, PartialEq)]
 pub struct Part {
     /// Each share's progress and rays; active voxel number j (counted from 0) is share j mod count's.
     pub shares: Vec<Share>,
+    /// Where one machine bakes a share: which one. The voxels above are then those of it.
+    pub only: Option<Only>,
     /// How long the bake has run.
     pub seconds: f64,
     /// 16·N numbers, unblurred: final where a share's progress has passed a voxel of its own, else ambient.
@@ -52,6 +79,7 @@ impl Part {
             voxels: hall.axes.count(),
             seconds: self.seconds,
             shares: self.shares.clone(),
+            only: self.only,
         };
         let mut body = serde_json::to_vec(&head)?;
         body.push(b'\n');
@@ -59,10 +87,23 @@ impl Part {
         files::write_whole(path, &[format!("{MARK} {}\n", sha256(&body)).as_bytes(), &body])
     }
 
-    /// The part of this hall's bake; an error in words where the file is damaged or an input has changed.
-    pub fn read(path: &Path, hall: &Hall) -> Result<Part> {
+    /// The part of this hall's bake, or of the share asked of it; an error in words where the file is damaged, an input has changed or it is of another share.
+    pub fn read(path: &Path, hall: &Hall, only: Option<Only>) -> Result<Part> {
         let bytes = std::fs::read(path).with_context(|| path.display().to_string())?;
-        Part::of_bytes(&bytes, hall).with_context(|| format!("{} is not gone on with (--fresh begins anew)", path.display()))
+        let said = |of: Option<Only>| of.map_or("the whole bake".into(), |o| format!("share {o}"));
+        let part = Part::of_bytes(&bytes, hall).and_then(|part| {
+            ensure!(part.only == only, "it is of {}, and {} is asked", said(part.only), said(only));
+            Ok(part)
+        });
+        part.with_context(|| format!("{} is not gone on with (--fresh begins anew)", path.display()))
+    }
+
+    pub fn rays(&self) -> u64 {
+        self.shares.iter().fold(0, |sum, s| sum.saturating_add(s.rays))
+    }
+
+    pub fn finished(&self, hall: &Hall) -> bool {
+        self.shares.iter().all(|s| s.progress == hall.axes.count())
     }
 
     pub fn of_bytes(bytes: &[u8], hall: &Hall) -> Result<Part> {
@@ -90,8 +131,9 @@ impl Part {
         ensure!((1..=n.max(1)).contains(&head.shares.len()), "it has no shares");
         ensure!(head.shares.iter().all(|s| s.progress <= n), "a share's progress is past the grid");
         ensure!(head.seconds.is_finite() && head.seconds >= 0.0, "its time is no number");
+        ensure!(head.only.map_or(true, |o| (1..=o.of).contains(&o.share) && o.of <= 1024), "it names a share that there is not");
         let volume = numbers.chunks_exact(4).map(|b| f32::from_le_bytes([b[0], b[1], b[2], b[3]])).collect();
-        Ok(Part { shares: head.shares, seconds: head.seconds, volume })
+        Ok(Part { shares: head.shares, only: head.only, seconds: head.seconds, volume })
     }
 }
 

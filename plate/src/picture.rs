@@ -93,9 +93,37 @@ impl Of {
     }
 }
 
+/// Where two volumes of the same axes differ: all slices across z in rows, slice 0 first, the height upwards. Red wherever a bit differs, and the brighter the more;
+/// the greatest difference of a number is white. And that difference.
+pub fn difference(first: &Volume, second: &Volume) -> (Picture, f32) {
+    let Axes { width, height, depth } = first.axes;
+    let of_voxel = |v: usize| {
+        let pairs = first.voxel(v).iter().zip(second.voxel(v)).chain([(&first.light[v], &second.light[v])]);
+        let masks = (first.occupied[v], first.active[v]) != (second.occupied[v], second.active[v]);
+        pairs.fold((masks, 0.0f32), |(differs, most), (a, b)| (differs || a.to_bits() != b.to_bits(), most.max((a - b).abs())))
+    };
+    let all: Vec<(bool, f32)> = (0..first.axes.count()).map(of_voxel).collect();
+    let most = all.iter().fold(0.0f32, |most, (_, by)| most.max(*by));
+    let columns = (1..=depth).find(|c| c * c >= depth).unwrap_or(1);
+    let rows = (depth + columns - 1) / columns;
+    let cell = (1200 / (columns * (width + 1))).clamp(2, 40);
+    // a line of pixels between the slices
+    let (across, down) = (width * cell + 2, height * cell + 2);
+    let mut picture = Picture { width: columns * across, height: rows * down, pixels: vec![[0.05; 3]; columns * across * rows * down] };
+    for z in 0..depth {
+        for (y, x) in (0..height * cell).flat_map(|y| (0..width * cell).map(move |x| (y, x))) {
+            let (differs, by) = all[first.axes.index(x / cell, height - 1 - y / cell, z)];
+            let part = if most > 0.0 { by / most } else { 0.0 };
+            let colour = if differs { [0.2 + 0.8 * part, part, part] } else { [0.0; 3] };
+            picture.pixels[(z / columns * down + y + 1) * picture.width + z % columns * across + x + 1] = colour;
+        }
+    }
+    (picture, most)
+}
+
 /// One slice across an axis (0, 1 or 2), a voxel in pixels of its own shape. Across z and x the height goes up; across y it is a plan, z downwards. Where a hall
-/// is given, its surfaces are drawn where the slice's middle cuts them.
-pub fn slice(volume: &Volume, axis: usize, place: usize, of: Of, hall: Option<&Hall>) -> Picture {
+/// is given, its surfaces are drawn where the slice's middle cuts them, white at the exposure that is given or at the picture's own.
+pub fn slice(volume: &Volume, axis: usize, place: usize, of: Of, hall: Option<&Hall>, exposure: Option<f32>) -> Picture {
     let counts = [volume.axes.width, volume.axes.height, volume.axes.depth];
     let edges: [f32; 3] = crate::hall::edges(volume.axes, volume.corners).into();
     let (right, vertical, upward) = [(2, 1, true), (0, 2, false), (0, 1, true)][axis];
@@ -115,7 +143,7 @@ pub fn slice(volume: &Volume, axis: usize, place: usize, of: Of, hall: Option<&H
         }
     }
     if let Some(hall) = hall {
-        let white = if of.is_part() { [1.0, 0.2, 0.1] } else { [1.0 / picture.exposure(); 3] };
+        let white = if of.is_part() { [1.0, 0.2, 0.1] } else { [1.0 / exposure.unwrap_or_else(|| picture.exposure()); 3] };
         let min: [f32; 3] = volume.corners.min.into();
         let level = min[axis] + edges[axis] * (place as f32 + 0.5);
         let at = |p: [f32; 3]| {

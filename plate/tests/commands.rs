@@ -1,6 +1,6 @@
 //! Every command with good and bad input, through the program itself; and the numbers it writes held to the library's own bake.
 use geaidnosa::*;
-use plate::{baking, faults::Found, hall, part::Part, volume::Volume};
+use plate::{baking, faults::Found, hall, part::Only, part::Part, part::Share, volume::Volume};
 use std::path::{Path, PathBuf};
 use std::process::{Command, Output};
 use std::sync::atomic::AtomicBool;
@@ -91,7 +91,10 @@ fn a_volume_is_the_unbroken_bakes_bit_for_bit() {
 
 /// A bake in the test's own process: from a part, if there is one, for so many calls.
 fn baked(hall: &hall::Hall, from: Option<Part>, shares: usize, threads: usize, calls: u64) -> baking::Outcome {
-    let prepared = baking::prepare(hall).unwrap();
+    baked_of(hall, &baking::prepare(hall).unwrap(), from, shares, threads, calls)
+}
+
+fn baked_of(hall: &hall::Hall, prepared: &baking::Prepared, from: Option<Part>, shares: usize, threads: usize, calls: u64) -> baking::Outcome {
     let stop = AtomicBool::new(false);
     let told = |told: baking::Told| stop.fetch_or(told.calls >= calls, std::sync::atomic::Ordering::SeqCst);
     let asked = baking::Asked {
@@ -106,7 +109,7 @@ fn baked(hall: &hall::Hall, from: Option<Part>, shares: usize, threads: usize, c
         },
         save: &|_| Ok(()),
     };
-    baking::run(hall, &prepared, from, &asked).unwrap()
+    baking::run(hall, prepared, from, &asked).unwrap()
 }
 
 #[test]
@@ -129,7 +132,7 @@ fn shares_give_the_same_bits() {
                 baking::Outcome::Stopped { part, .. } => {
                     let file = path.with_extension("part");
                     part.write(&file, &hall).unwrap();
-                    from = Some(Part::read(&file, &hall).unwrap());
+                    from = Some(Part::read(&file, &hall, None).unwrap());
                     let read = from.as_ref().unwrap();
                     assert_eq!((&read.shares, &read.volume), (&part.shares, &part.volume));
                     stops += 1;
@@ -139,6 +142,105 @@ fn shares_give_the_same_bits() {
         assert!(stops > 0, "{shares} shares were not stopped once");
         assert_eq!(done.1, rays, "{shares} shares");
         assert_eq!(done.0.bytes().unwrap(), volume.bytes().unwrap(), "{shares} shares");
+    }
+}
+
+/// The rays that a command says.
+fn rays_said(said: &str) -> u64 {
+    let before = said.split(" rays").next().unwrap();
+    before.rsplit(' ').next().unwrap().replace(',', "").parse().unwrap()
+}
+
+#[test]
+fn shares_of_machines_join_to_the_same_bits() {
+    let (dir, path) = small();
+    let at = dir.path();
+    // some voxels are not active
+    edit(&path, "voxels = [12, 6, 16]", "voxels = [9, 8, 11]");
+    edit(&path, "max = [6.1, 3.1, 8.1]", "max = [6.1, 7.1, 8.1]");
+    let all = rays_said(&says(at, &["bake", "hall.toml", "--threads", "1", "-o", "whole.vgrd"], 0, &[]));
+    let whole = std::fs::read(at.join("whole.vgrd")).unwrap();
+    for of in [1, 2, 3, 8] {
+        let names: Vec<String> = (1..=of).map(|share| format!("x.share{share}of{of}")).collect();
+        let mut rays = 0;
+        for (k, name) in names.iter().enumerate() {
+            let share = format!("{}/{of}", k + 1);
+            rays += rays_said(&says(at, &["bake", "hall.toml", "--share", &share, "-o", name, "--threads", ["1", "2"][k % 2], "--allowance", "5000"], 0, &[name]));
+        }
+        assert_eq!(rays, all, "{of} shares");
+        // in whatever order they come
+        let mut args = vec!["join", "hall.toml", "-o", "joined.vgrd"];
+        args.extend(names.iter().rev().map(String::as_str));
+        assert_eq!(rays_said(&says(at, &args, 0, &[&format!("joined.vgrd of {of} shares")])), all);
+        assert_eq!(std::fs::read(at.join("joined.vgrd")).unwrap(), whole, "{of} shares");
+    }
+    // faults, in words
+    let _ = std::fs::remove_file(at.join("joined.vgrd"));
+    let refused = |shares: &[&str], said: &[&str]| {
+        says(at, &[&["join", "hall.toml", "-o", "joined.vgrd"], shares].concat(), 3, said);
+        assert!(!at.join("joined.vgrd").exists());
+    };
+    refused(&["x.share1of3", "x.share3of3"], &["missing: share 2/3"]);
+    refused(&["x.share4of8"], &["missing: share 1/8, 2/8, 3/8, 5/8, 6/8, 7/8, 8/8"]);
+    std::fs::copy(at.join("x.share1of3"), at.join("copy")).unwrap();
+    refused(&["x.share1of3", "x.share2of3", "x.share3of3", "copy"], &["copy: share 1/3 is given twice, x.share1of3 is it too"]);
+    refused(&["x.share1of2", "x.share2of3"], &["x.share2of3: share 2/3, where x.share1of2 is one of 2"]);
+    refused(&["x.share1of2", "whole.vgrd"], &["whole.vgrd: it is no part file of this program"]);
+    refused(&["x.share1of2", "none"], &["none: No such file"]);
+    let mut bad = std::fs::read(at.join("x.share2of2")).unwrap();
+    let middle = bad.len() / 2;
+    bad[middle] ^= 1;
+    std::fs::write(at.join("copy"), bad).unwrap();
+    refused(&["x.share1of2", "copy"], &["copy: it is damaged"]);
+    // what is done stays; another share's file is not gone on with
+    says(at, &["bake", "hall.toml", "--share", "1/2", "-o", "x.share1of2"], 0, &["is there and done"]);
+    says(at, &["bake", "hall.toml", "--share", "2/2", "-o", "x.share1of2"], 3, &["it is of share 1/2, and share 2/2 is asked", "--fresh"]);
+    std::fs::copy(at.join("x.share1of2"), at.join("y.vgrd.part")).unwrap();
+    says(at, &["bake", "hall.toml", "-o", "y.vgrd"], 3, &["it is of share 1/2, and the whole bake is asked"]);
+    for share in ["0/8", "9/8", "3", "a/b", "1/0", "1/1025"] {
+        says(at, &["bake", "hall.toml", "--share", share], 2, &["is no share"]);
+    }
+    // a share that was stopped goes on to the same file's numbers
+    let hall = read(&path);
+    let (share, n) = (Only { share: 2, of: 3 }, hall.axes.count());
+    let prepared = baking::prepare(&hall).unwrap().share(share);
+    let (mut volume, mut scratch) = (vec![0.0; 16 * n], vec![0.0; 16 * n]);
+    let begun = bake(hall.input(&prepared.active, &prepared.light), &mut volume, &mut scratch, baking::Scratch::new(&hall).lent(), 0, hall.voxel_cost() * 40).unwrap();
+    assert!(begun.progress > 0 && begun.progress < n);
+    let part = Part { shares: vec![Share { progress: begun.progress, rays: begun.rays }], only: Some(share), seconds: 0.0, volume };
+    part.write(&at.join("z.part"), &hall).unwrap();
+    refused(&["x.share1of3", "z.part", "x.share3of3"], &["z.part: share 2/3 is not at its end"]);
+    says(at, &["bake", "hall.toml", "--share", "2/3", "-o", "z", "--resume"], 0, &["going on from z.part"]);
+    assert!(!at.join("z.part").exists());
+    says(at, &["join", "hall.toml", "-o", "joined.vgrd", "x.share1of3", "z", "x.share3of3"], 0, &[]);
+    assert_eq!(std::fs::read(at.join("joined.vgrd")).unwrap(), whole);
+    std::fs::remove_file(at.join("joined.vgrd")).unwrap();
+    // a share of another light
+    edit(&path, "colour = [6.0, 5.5, 5.0]", "colour = [6.0, 5.5, 5.1]");
+    says(at, &["bake", "hall.toml", "--share", "1/2"], 0, &["hall.share1of2"]);
+    refused(&["hall.share1of2", "x.share2of2"], &["x.share2of2: since it was saved hall.toml has changed"]);
+    says(at, &["bake", "hall.toml", "--share", "2/2", "-o", "x.share2of2"], 3, &["hall.toml has changed", "--fresh"]);
+}
+
+#[test]
+fn shares_of_machines_without_a_voxel() {
+    let (dir, path) = small();
+    let at = dir.path();
+    edit(&path, "voxels = [12, 6, 16]", "voxels = [1, 2, 2]");
+    for empty in [false, true] {
+        if empty {
+            std::fs::write(at.join("hall.obj"), "# nothing\n").unwrap();
+        }
+        let all = rays_said(&says(at, &["bake", "hall.toml", "--threads", "1"], 0, &[]));
+        let mut rays = 0;
+        let mut args = vec!["join".into(), "hall.toml".into(), "-o".into(), "joined.vgrd".into()];
+        for share in 1..=5 {
+            rays += rays_said(&says(at, &["bake", "hall.toml", "--share", &format!("{share}/5"), "--fresh"], 0, &[]));
+            args.push(format!("hall.share{share}of5"));
+        }
+        assert_eq!((rays, all == 0), (all, empty));
+        says(at, &args.iter().map(String::as_str).collect::<Vec<_>>(), 0, &[]);
+        assert_eq!(std::fs::read(at.join("joined.vgrd")).unwrap(), std::fs::read(at.join("hall.vgrd")).unwrap());
     }
 }
 
@@ -195,7 +297,21 @@ fn a_hall_without_surfaces_is_all_ambient() {
 fn killed_bakes_go_on_to_the_same_bits() {
     let (dir, path) = small();
     edit(&path, "voxels = [12, 6, 16]", "voxels = [20, 10, 24]");
-    let bytes = unbroken(&read(&path)).0.bytes().unwrap();
+    let hall = read(&path);
+    let bytes = unbroken(&hall).0.bytes().unwrap();
+    let halves = [1, 2].map(|share| match baked_of(&hall, &baking::prepare(&hall).unwrap().share(Only { share, of: 2 }), None, 1, 1, u64::MAX) {
+        baking::Outcome::Done { part, .. } => part,
+        baking::Outcome::Stopped { .. } => panic!("share {share} was stopped"),
+    });
+    // the whole volume, or the file of a share
+    let as_it_should = |half: Option<&Part>, found: &[u8]| match half {
+        None => found == bytes,
+        Some(half) => {
+            let part = Part::of_bytes(found, &hall).unwrap();
+            let same = part.volume.iter().map(|x| x.to_bits()).eq(half.volume.iter().map(|x| x.to_bits()));
+            part.finished(&hall) && same && (part.only, part.rays()) == (half.only, half.rays())
+        }
+    };
     // a seed of this run's own; what fails is printed with it
     let mut seed = std::time::SystemTime::now().duration_since(std::time::UNIX_EPOCH).unwrap().as_nanos() as u64 | 1;
     let mut next = |below: u64| {
@@ -209,10 +325,13 @@ fn killed_bakes_go_on_to_the_same_bits() {
     while killed < kills {
         round += 1;
         let shares = ["1", "2", "3"][next(3) as usize];
+        let half = [None, halves.first(), halves.last()][next(3) as usize];
+        let share = half.and_then(|h| h.only).map(|o| vec!["--share".into(), o.to_string()]).unwrap_or_default();
         let _ = std::fs::remove_file(dir.path().join("hall.vgrd"));
         loop {
             let mut child = program()
-                .args(["bake", "hall.toml", "--shares", shares, "--threads", "2", "--allowance", "3000", "--save-every", "0", "--json"])
+                .args(["bake", "hall.toml", "-o", "hall.vgrd", "--shares", shares, "--threads", "2", "--allowance", "3000", "--save-every", "0", "--json"])
+                .args(&share)
                 .current_dir(dir.path())
                 .stdout(std::process::Stdio::null())
                 .stderr(std::process::Stdio::piped())
@@ -241,16 +360,16 @@ fn killed_bakes_go_on_to_the_same_bits() {
                     killed += 1;
                     // what stands under the names is whole
                     if let Ok(part) = std::fs::read(dir.path().join("hall.vgrd.part")) {
-                        Part::of_bytes(&part, &read(&path)).unwrap();
+                        Part::of_bytes(&part, &hall).unwrap();
                         saved += 1;
                     }
                     if let Ok(volume) = std::fs::read(dir.path().join("hall.vgrd")) {
-                        assert_eq!(volume, bytes);
+                        assert!(as_it_should(half, &volume));
                     }
                 }
             }
         }
-        assert_eq!(std::fs::read(dir.path().join("hall.vgrd")).unwrap(), bytes, "round {round}, {shares} shares");
+        assert!(as_it_should(half, &std::fs::read(dir.path().join("hall.vgrd")).unwrap()), "round {round}, {shares} shares, {share:?}");
         let left: Vec<_> = std::fs::read_dir(dir.path()).unwrap().map(|e| e.unwrap().file_name()).collect();
         assert!(left.iter().all(|n| !n.to_string_lossy().ends_with(".tmp") && !n.to_string_lossy().ends_with(".part")), "{left:?}");
     }
@@ -452,6 +571,14 @@ fn pictures_and_numbers() {
     (0..3).for_each(|c| assert!((f32::from(shown.get_pixel(0, 0).0[c]) / 255.0 - expected(e[c])).abs() < 0.01));
     says(at, &["slice", "hall.vgrd", "--z", "16", "--png", "s.png"], 3, &["z from 0 to 15", "refusal 11"]);
     says(at, &["slice", "hall.vgrd", "--png", "s.png"], 2, &[]);
+    says(at, &["slice", "hall.vgrd", "--z", "1"], 2, &["--png"]);
+    says(at, &["slice", "hall.vgrd", "--all", "all", "--png", "s.png"], 2, &["cannot be used with"]);
+    says(at, &["slice", "hall.vgrd", "--all", "all", "--across", "w"], 2, &[]);
+    says(at, &["slice", "hall.vgrd", "--all", "all", "--hall", "hall.toml"], 0, &["all: 16 slices across z, z00.png to z15.png"]);
+    says(at, &["slice", "hall.vgrd", "--all", "all", "--across", "y", "--exposure", "1"], 0, &["6 slices across y", "white is 1.0000"]);
+    assert_eq!(std::fs::read_dir(at.join("all")).unwrap().count(), 16 + 6);
+    // each is the slice alone at the same exposure
+    assert_eq!(std::fs::read(at.join("all/y02.png")).unwrap(), std::fs::read(at.join("s.png")).unwrap());
     says(at, &["slice", "hall.vgrd", "--z", "1", "--x", "1", "--png", "s.png"], 2, &[]);
     says(at, &["slice", "hall.vgrd", "--z", "1", "--of", "E:0,0,0", "--png", "s.png"], 2, &["no direction"]);
     says(at, &["slice", "hall.obj", "--z", "1", "--png", "s.png"], 3, &["hall.obj", "refusal 12"]);
@@ -494,6 +621,14 @@ fn pictures_and_numbers() {
     other.volume[16 * place + 2] = f32::from_bits(other.volume[16 * place + 2].to_bits() ^ 1);
     other.write(&at.join("other.vgrd")).unwrap();
     says(at, &["diff", "hall.vgrd", "other.vgrd"], 1, &["coefficients: 1 numbers in 1 voxels differ"]);
+    // one voxel is not black: the 4 × 4 slices of 12 × 6 voxels
+    says(at, &["diff", "hall.vgrd", "other.vgrd", "--png", "d.png"], 1, &["d.png", "coefficients: 1 numbers"]);
+    let shown = image::open(at.join("d.png")).unwrap().to_rgb8();
+    let cell = (shown.width() / 4 - 2) / 12;
+    assert_eq!((shown.width(), shown.height()), (4 * (12 * cell + 2), 4 * (6 * cell + 2)));
+    assert_eq!(shown.pixels().filter(|p| p.0 == [255; 3]).count() as u32, cell * cell);
+    says(at, &["diff", "hall.vgrd", "hall.vgrd", "--png", "d.png"], 0, &["the same, bit for bit"]);
+    assert!(image::open(at.join("d.png")).unwrap().to_rgb8().pixels().all(|p| p.0[0] == p.0[1]));
     says(at, &["verify", "other.vgrd", "hall.toml", "--sample", "100000"], 1, &["1 of"]);
     edit(&path, "colour = [6.0, 5.5, 5.0]", "colour = [6.1, 5.5, 5.0]");
     says(at, &["verify", "hall.vgrd", "hall.toml"], 1, &["come out differently"]);
@@ -518,6 +653,15 @@ fn words_and_shells() {
     says(dir.path(), &["completions", "tcsh"], 2, &[]);
     let ended = Command::new("sh").arg("-c").arg(format!("{} completions bash | head -n 1", env!("CARGO_BIN_EXE_plate"))).output().unwrap();
     assert!(std::env::var("PLATE_EMULATE").is_ok() || !words(&ended).contains("panicked"), "{}", words(&ended));
+    // the manual page names every command, and where groff is installed it finds nothing to warn of
+    let page = says(dir.path(), &["man"], 0, &[".TH PLATE 1", ".SH NAME", "\\-\\-share"]);
+    for command in ["demo", "new", "check", "plan", "bake", "join", "slice", "face", "view", "look", "stats", "diff", "verify", "explain", "completions", "man"] {
+        assert!(page.contains(&format!(".SS {command}\n")), "{command}: {page}");
+    }
+    std::fs::write(dir.path().join("plate.1"), &page).unwrap();
+    if let Ok(warned) = Command::new("groff").args(["-man", "-Tutf8", "-Kutf8", "-ww", "-z", "plate.1"]).current_dir(dir.path()).output() {
+        assert!(warned.status.success() && words(&warned).is_empty(), "{}", words(&warned));
+    }
     says(dir.path(), &["--version"], 0, &["plate 0.1.0"]);
     says(dir.path(), &[], 2, &["Usage"]);
     // nothing is written over another file

@@ -1,5 +1,5 @@
 //! Bytes turned at random in drawings, material files, hall files and part files: read or refused in words, and never a panic.
-use plate::{faults::Found, hall, part::Part, part::Share};
+use plate::{faults::Found, hall, part::Only, part::Part, part::Share};
 use std::path::Path;
 
 struct Random(u64);
@@ -99,7 +99,7 @@ fn part_files() {
     laid_out(dir.path());
     let hall = hall::read(&dir.path().join("hall.toml"), &mut Found::default()).unwrap();
     let n = hall.axes.count();
-    let part = Part { shares: vec![Share { progress: 7, rays: 500 }; 2], seconds: 1.5, volume: vec![0.25; 16 * n] };
+    let part = Part { shares: vec![Share { progress: 7, rays: 500 }; 2], only: Some(Only { share: 3, of: 8 }), seconds: 1.5, volume: vec![0.25; 16 * n] };
     let path = dir.path().join("x.part");
     part.write(&path, &hall).unwrap();
     let good = std::fs::read(&path).unwrap();
