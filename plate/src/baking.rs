@@ -95,7 +95,7 @@ pub struct Asked<'a> {
     /// Set from outside to stop after the calls under way.
     pub stop: &'a AtomicBool,
     pub until: Option<Instant>,
-    /// Called now and then with what is done so far.
+    /// Called after each call and now and then with what is done so far, from any thread.
     pub tell: &'a (dyn Fn(Told) + Sync),
     /// Called now and then with what there is to save.
     pub save: &'a (dyn Fn(&Part) -> Result<()> + Sync),
@@ -146,6 +146,8 @@ pub fn run(hall: &Hall, prepared: &Prepared, from: Option<Part>, asked: &Asked) 
     // the blurred volume, where one share was the whole bake
     let blurred: Mutex<Option<Vec<f32>>> = Mutex::new(None);
 
+    let told = || Told { voxels: voxels.load(SeqCst), rays: rays.load(SeqCst), calls: calls.load(SeqCst) };
+
     // One share to its end or to the stop.
     let work = |s: usize| -> Result<()> {
         let mask = &masks[s];
@@ -161,6 +163,7 @@ pub fn run(hall: &Hall, prepared: &Prepared, from: Option<Part>, asked: &Asked) 
             voxels.fetch_add(taken(mask, baked.progress) - taken(mask, was), SeqCst);
             rays.fetch_add(baked.rays, SeqCst);
             calls.fetch_add(1, SeqCst);
+            (asked.tell)(told());
             if state.progress == n {
                 // the last call blurs the volume, unless nothing is active; what is kept for a save is the unblurred one
                 let unblurred = if mask.contains(&1) { std::mem::take(&mut scratch) } else { state.volume.clone() };
@@ -178,7 +181,6 @@ pub fn run(hall: &Hall, prepared: &Prepared, from: Option<Part>, asked: &Asked) 
         Ok(())
     };
 
-    let told = || Told { voxels: voxels.load(SeqCst), rays: rays.load(SeqCst), calls: calls.load(SeqCst) };
     let whole = || -> Option<Part> {
         let states: Vec<State> = kept.iter().map(|k| k.lock().unwrap().clone()).collect();
         joined(&states, &masks, n).map(|volume| Part {
