@@ -16,7 +16,7 @@ use Rattle.spread.specs.Demand.{roundedUp}
 use Rattle.marks.specs.Marks.{isMarked}
 use Rattle.gather.specs.Gather.{costOf}
 use Rattle.gather.specs.Cost.{raysOf}
-use Rattle.intake.specs.Intake.{BakeInput, inputOf, voxelCount, bakeCost}
+use Rattle.intake.specs.Intake.{BakeInput, inputOf, voxelCount, activeEntries, bakeCost}
 use Rattle.demand.specs.Bake.{gatherInput, bakeOf}
 use Rattle.bake.specs.declared.BakeAnswer.{BakeAnswer}
 use Rattle.bake.specs.Baked.{Baked}
@@ -108,7 +108,7 @@ module _ (b : BakeInput) (s : Stage Float) (first : Result) (rest : List Result)
     -- which are for voxel i `raysOf`: 64, and the extra rays of its hits
     pub fires : (i : ℕ) → costOf (gatherInput b) i ≡ raysOf (gatherInput b) i
     -- "64 to 384 for each active voxel"
-    pub each : (i : ℕ) → i < voxelCount b → isMarked (b .active) i ≡ true
+    pub each : (i : ℕ) → i < voxelCount b → isMarked (activeEntries b) i ≡ true
         → (primaryRays ≤ costOf (gatherInput b) i) × (costOf (gatherInput b) i ≤ bakeCost b)
     -- "so A active voxels at allowances of k·384 or more, k at least 1, take at most ⌈A/k⌉ calls": after so many the end is reached
     pub enough : (k : ℕ) → 1 ≤ k → EachAtLeast (k * bakeCost b) (allowancesOf all) → roundedUp (activeBelow b (voxelCount b)) k ≤ length all

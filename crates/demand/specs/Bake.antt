@@ -1,4 +1,4 @@
--- The bake: sixteen numbers a voxel; a voxel is active by its mask entry; it costs and gets what the gather gives; 384 rays, and 64 for each lamp,
+-- The bake: sixteen numbers a voxel; a voxel is active by its entry of the mask; it costs and gets what the gather gives; 384 rays, and 64 for each lamp,
 -- are the most that it may cost; before it is baked it holds ambient and its light; the mean is the 3×3×3 mean; refusals are the bake's rows. How
 -- these make up a call, a run of calls and the unbroken bake is said once for any bake, by `call`, `run` and `unbroken` of the crate spread. Assumes nothing.
 use Prim.Native.Nat.{ℕ}
@@ -7,7 +7,7 @@ use Rattle.spread.specs.Spread.{Stage, Bake, Called, call}
 use Rattle.marks.specs.Marks.{isMarked}
 use Rattle.ends.specs.Ends.{ambientAt, meanOver}
 use Rattle.gather.specs.Gather.{GatherInput, gatherOf, gatheredOf, costOf}
-use Rattle.intake.specs.Intake.{BakeInput, voxelNumbers, voxelCount, bakeCost, bakeRefusal}
+use Rattle.intake.specs.Intake.{BakeInput, voxelNumbers, voxelCount, activeEntries, bakeCost, bakeRefusal}
 
 abbrev pub gatherInput : BakeInput → GatherInput
 gatherInput b = gatherOf (b .axes) (b .corners) (b .scene) (b .light) (b .ambient) (b .sky) (b .lamps) (b .lights)
@@ -17,7 +17,7 @@ bakeOf b =
     record {
       count = voxelCount b;
       size = voxelNumbers;
-      active = isMarked (b .active);
+      active = isMarked (activeEntries b);
       cost = costOf (gatherInput b);
       most = bakeCost b;
       ambient = ambientAt (b .ambient) (b .lights);

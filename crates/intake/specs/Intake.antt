@@ -1,4 +1,4 @@
--- What a bake is handed, and when it is refused: rows 1 to 7, 19, 9, 10 and 13 in that order. The active mask and the lights are tested always, the
+-- What a bake is handed, and when it is refused: rows 1 to 7, 19, 9, 10 and 13 in that order. The mask's unused bits and the lights are tested always, the
 -- volume's coefficients exactly when progress lies strictly between 0 and the voxel count, the contents of scratch never. Assumes nothing.
 use mathlib.Core.Bool.{Bool, _&&_, _||_}
 use mathlib.Core.List.{List, [], _∷_}
@@ -15,7 +15,8 @@ use Rattle.grid.specs.declared.Corners.{Corners}
 use Rattle.grid.specs.Grid.{voxels}
 use Rattle.limits.specs.declared.Light.{Light}
 use Rattle.limits.specs.declared.Ambient.{Ambient}
-use Rattle.limits.specs.Limits.{badAxes, badGrid, wrongLength, tooShort, wrongScene, sceneRows, badLight, badAmbient, badSky, lampCount, wrongLamps, badLamps, pastCount, belowCost, badMask, badLights, badCoefficients}
+use Rattle.limits.specs.Limits.{badAxes, badGrid, wrongLength, tooShort, wrongScene, sceneRows, badLight, badAmbient, badSky, lampCount, wrongLamps, badLamps, pastCount, belowCost, badLights, badCoefficients}
+use Rattle.words.specs.Words.{wordCount, entriesOf, unusedSet}
 
 -- what stays the same from call to call
 pub record BakeInput : Type 0 where
@@ -28,8 +29,9 @@ pub record BakeInput : Type 0 where
   pub sky : List Float
   -- six numbers a lamp: position, colour
   pub lamps : List Float
-  -- one entry a voxel, and one light
+  -- the words of the active mask
   pub active : List ℕ
+  -- one a voxel
   pub lights : List Float
   -- how long the two lists of hit scratch are
   pub distances : ℕ
@@ -58,7 +60,7 @@ voxelNumbers = 16
 -- 3: a lent list of the wrong length, by the lengths: of n voxels and t triangles
 unfoldable pub wrongLengths : ℕ → ℕ → ℕ → ℕ → ℕ → ℕ → ℕ → ℕ → ℕ → ℕ → Bool
 wrongLengths n t skyLength lampsLength activeLength lightsLength volumeLength scratchLength distancesLength placesLength =
-    (wrongLength skyLength skyNumbers || wrongLength activeLength n || wrongLength lightsLength n)
+    (wrongLength skyLength skyNumbers || wrongLength activeLength (wordCount n) || wrongLength lightsLength n)
     || (wrongLength volumeLength (n * voxelNumbers) || wrongLength scratchLength (n * voxelNumbers))
     || tooShort distancesLength t
     || tooShort placesLength t
@@ -72,16 +74,20 @@ badLighting light ambient sky = badLight light || badAmbient ambient || badSky s
 abbrev pub underWay : ℕ → ℕ → Bool
 underWay progress n = ltb 0 progress && ltb progress n
 
--- 13: mask entry not 0 or 1; light not finite or beyond ±2^64, coefficient not finite or beyond ±2^96
+-- 13: an unused bit of the mask set; light not finite or beyond ±2^64, coefficient not finite or beyond ±2^96
 unfoldable pub badVolume : List Float → ℕ → ℕ → Bool
 badVolume volume progress n = underWay progress n && badCoefficients volume
 
 unfoldable pub badContents : List ℕ → List Float → List Float → ℕ → ℕ → Bool
-badContents active lights volume progress n = badMask active || badLights lights || badVolume volume progress n
+badContents active lights volume progress n = unusedSet active n || badLights lights || badVolume volume progress n
 
 module _ (b : BakeInput) where
   abbrev pub voxelCount : ℕ
   voxelCount = voxels (b .axes)
+
+  -- what the mask says of each voxel
+  abbrev pub activeEntries : List ℕ
+  activeEntries = entriesOf (b .active) voxelCount
 
   abbrev pub triangleCount : ℕ
   triangleCount = length (b .scene .uses)

@@ -13,7 +13,8 @@ use Rattle.names.specs.Refusals.{Row, row, firstOf, FirstIs, NoneHolds, none, l
 use Rattle.names.specs.Scene.{Sound}
 use Rattle.spread.specs.Spread.{Stage}
 use Rattle.grid.specs.Grid.{AxesWithin}
-use Rattle.limits.specs.Limits.{badAxes, badGrid, wrongLength, tooMany, badPoints, badMaterials, pastCount, belowCost, lampCount, badLamps, badMask, badLights}
+use Rattle.limits.specs.Limits.{badAxes, badGrid, wrongLength, tooMany, badPoints, badMaterials, pastCount, belowCost, lampCount, badLamps, badLights}
+use Rattle.words.specs.Words.{Tidy, unusedSet}
 use Rattle.limits.specs.LimitsLaws.{either, any-of-three, axes-row, sound, lamps-row}
 use Rattle.intake.specs.Intake.{BakeInput, voxelNumbers, bakeCost, voxelCount, triangleCount, wrongLengths, wrongBakeLists, badLighting, badVolume, badContents, bakeRows, bakeRefusal}
 
@@ -37,7 +38,8 @@ pub record Fits (b : BakeInput) (s : Stage Float) (a : ℕ) : Type 0 where
   pub scene : Sound (b .scene)
   pub sky : length (b .sky) ≡ skyNumbers
   pub lamps : lampCount (b .lamps) ≤ lampLimit
-  pub active : length (b .active) ≡ voxelCount b
+  -- the words of the mask, none of their unused bits set
+  pub active : Tidy (b .active) (voxelCount b)
   pub lights : length (b .lights) ≡ voxelCount b
   pub volume : length (s .volume) ≡ voxelCount b * voxelNumbers
   pub scratch : length (s .scratch) ≡ voxelCount b * voxelNumbers

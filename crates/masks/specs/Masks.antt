@@ -1,5 +1,5 @@
--- The occupied and the active mask. A call tests 1, 2, 3, 4 and 5, in that order. Accepted, it fills both lists, every entry 0 or 1 whatever stood
--- there, and answers how many entries of each are 1. Assumes nothing.
+-- The occupied and the active mask. A call tests 1, 2, 3, 4 and 5, in that order. Accepted, it fills both lists with the words of the masks, whatever
+-- stood there, and answers how many voxels of each are marked. Assumes nothing.
 use mathlib.Core.Path.{_≡_}
 use mathlib.Core.Bool.{Bool, _||_}
 use mathlib.Core.List.{List, [], _∷_}
@@ -12,14 +12,15 @@ use Rattle.grid.specs.declared.Corners.{Corners}
 use Rattle.grid.specs.Grid.{voxels}
 use Rattle.limits.specs.Limits.{badAxes, badGrid, wrongLength, tooMany, badPoints}
 use Rattle.marks.specs.Marks.{markedCount}
+use Rattle.words.specs.Words.{wordCount, wordsOf}
 use Rattle.occupy.specs.Occupied.{occupiedOf}
 use Rattle.dilate.specs.Active.{activeOf}
 use Rattle.masks.specs.declared.Marked.{Marked}
 
--- the points are no multiple of nine, or a mask has not exactly one entry a voxel
+-- the points are no multiple of nine, or a mask has not exactly as many words as its voxels take
 unfoldable pub wrongMasks : Axes → List Float → List ℕ → List ℕ → Bool
 wrongMasks axes points occupied active =
-    wrongLength (length points % 9) 0 || wrongLength (length occupied) (voxels axes) || wrongLength (length active) (voxels axes)
+    wrongLength (length points % 9) 0 || wrongLength (length occupied) (wordCount (voxels axes)) || wrongLength (length active) (wordCount (voxels axes))
 
 -- nine numbers a triangle; a call without materials has none too many
 abbrev pub masksRows : Axes → Corners → List Float → List ℕ → List ℕ → List Row
@@ -34,7 +35,7 @@ masksRows axes corners points occupied active =
 unfoldable pub masksRefusal : Axes → Corners → List Float → List ℕ → List ℕ → ℕ
 masksRefusal axes corners points occupied active = firstOf (masksRows axes corners points occupied active)
 
--- the active mask of a scene
+-- the active mask of a scene, an entry a voxel
 abbrev pub activeMaskOf : Axes → Corners → List Float → List ℕ
 activeMaskOf axes corners points = activeOf axes (occupiedOf axes corners points)
 
@@ -49,5 +50,5 @@ markedOf r axes corners points =
 
 pub record MasksFilled (axes : Axes) (corners : Corners) (points : List Float) (occupied active : List ℕ) (r : Marked) (occupied' active' : List ℕ) : Type 0 where
   pub answer : r ≡ markedOf (masksRefusal axes corners points occupied active) axes corners points
-  pub occupied-after : occupied' ≡ unlessRefused (masksRefusal axes corners points occupied active) (occupiedOf axes corners points) occupied
-  pub active-after : active' ≡ unlessRefused (masksRefusal axes corners points occupied active) (activeMaskOf axes corners points) active
+  pub occupied-after : occupied' ≡ unlessRefused (masksRefusal axes corners points occupied active) (wordsOf (occupiedOf axes corners points)) occupied
+  pub active-after : active' ≡ unlessRefused (masksRefusal axes corners points occupied active) (wordsOf (activeMaskOf axes corners points)) active

@@ -22,9 +22,10 @@ use Rattle.vectors.specs.declared.Ray.{Ray}
 use Rattle.grid.specs.Grid.{voxels, xOf, yOf, zOf, edgesOf, centreFrom, diagonalOf, AxesWithin}
 use Rattle.grid.specs.declared.Axes.{Axes}
 use Rattle.grid.specs.declared.Corners.{Corners}
-use Rattle.limits.specs.Limits.{badAxes, badGrid, wrongScene, wrongLength, tooShort, sceneRows, badDirection, badMask}
+use Rattle.limits.specs.Limits.{badAxes, badGrid, wrongScene, wrongLength, tooShort, sceneRows, badDirection}
 use Rattle.means.specs.Box.{lightBlurOf}
 use Rattle.marks.specs.Marks.{isMarked, markedCount}
+use Rattle.words.specs.Words.{wordCount, entriesOf, unusedSet}
 use Rattle.scan.specs.Transmittance.{transmittanceOf}
 use Rattle.sun.specs.declared.Sunned.{Sunned}
 
@@ -78,19 +79,20 @@ sunScratch axes corners scene direction active scratch =
 unfoldable pub wrongSun : ℕ → Scene → ℕ → ℕ → ℕ → ℕ → ℕ → Bool
 wrongSun n scene activeLength lightLength scratchLength distancesLength placesLength =
     wrongScene (scene .points) (scene .uses) (scene .kinds) (scene .numbers)
-    || wrongLength activeLength n
+    || wrongLength activeLength (wordCount n)
     || wrongLength lightLength n
     || wrongLength scratchLength n
     || tooShort distancesLength (length (scene .uses))
     || tooShort placesLength (length (scene .uses))
 
--- of the light, its scratch and the two lists of hits only the lengths are asked: what they hold is never tested
+-- The mask is lent as words; what the pass sees of it, and what the definitions above take, is their entries.
+-- Of the light, its scratch and the two lists of hits only the lengths are asked: what they hold is never tested.
 abbrev pub sunRows : Axes → Corners → Scene → Vec3 → List ℕ → ℕ → ℕ → ℕ → ℕ → List Row
 sunRows axes corners scene direction active lightLength scratchLength distancesLength placesLength =
     row 1 (badAxes axes)
     ∷ row 2 (badGrid corners axes)
     ∷ row 3 (wrongSun (voxels axes) scene (length active) lightLength scratchLength distancesLength placesLength)
-    ∷ sceneRows scene (row 7 (badDirection direction) ∷ row 13 (badMask active) ∷ [])
+    ∷ sceneRows scene (row 7 (badDirection direction) ∷ row 13 (unusedSet active (voxels axes)) ∷ [])
 
 unfoldable pub sunRefusal : Axes → Corners → Scene → Vec3 → List ℕ → ℕ → ℕ → ℕ → ℕ → ℕ
 sunRefusal axes corners scene direction active lightLength scratchLength distancesLength placesLength =
@@ -100,7 +102,7 @@ sunRefusal axes corners scene direction active lightLength scratchLength distanc
 pub record Traceable (axes : Axes) (scene : Scene) (activeLength distancesLength placesLength : ℕ) : Type 0 where
   pub axes-fit : AxesWithin axes
   pub scene-fits : Sound scene
-  pub mask-fits : activeLength ≡ voxels axes
+  pub mask-fits : activeLength ≡ wordCount (voxels axes)
   pub distances-fit : length (scene .uses) ≤ distancesLength
   pub places-fit : length (scene .uses) ≤ placesLength
 
@@ -108,9 +110,9 @@ pub record Traceable (axes : Axes) (scene : Scene) (activeLength distancesLength
 pub record SunAnswered (axes : Axes) (corners : Corners) (scene : Scene) (direction : Vec3) (active : List ℕ) (light scratch distances : List Float)
     (places : List ℕ) (r : Sunned) (light' scratch' distances' : List Float) (places' : List ℕ) : Type 0 where
   pub answer : r .refusal ≡ sunRefusal axes corners scene direction active (length light) (length scratch) (length distances) (length places)
-  pub rays : r .rays ≡ unlessRefused (r .refusal) (markedCount active) 0
-  pub light-after : light' ≡ unlessRefused (r .refusal) (sunLight axes corners scene direction active) light
-  pub scratch-after : scratch' ≡ unlessRefused (r .refusal) (sunScratch axes corners scene direction active scratch) scratch
+  pub rays : r .rays ≡ unlessRefused (r .refusal) (markedCount (entriesOf active (voxels axes))) 0
+  pub light-after : light' ≡ unlessRefused (r .refusal) (sunLight axes corners scene direction (entriesOf active (voxels axes))) light
+  pub scratch-after : scratch' ≡ unlessRefused (r .refusal) (sunScratch axes corners scene direction (entriesOf active (voxels axes)) scratch) scratch
   pub distances-kept : r .rays ≡ 0 → distances' ≡ distances
   pub places-kept : r .rays ≡ 0 → places' ≡ places
   pub distances-long : length distances' ≡ length distances

@@ -1,6 +1,7 @@
 -- The public calls over a volume file. Each has a list of rows in its own order, an answer that is the first row's number with zeros
 -- beside it or 0 with what was asked, and each lent list afterwards. The definitions take the four lists in the order of the file's kinds: light,
--- coefficients, active, occupied; the calls take the masks as every call does, occupied first. Assumes nothing.
+-- coefficients, active, occupied; the calls take the masks as every call does, occupied first. A mask is lent as words, and the file has its entries, a
+-- byte each. Assumes nothing.
 use mathlib.Core.Path.{_≡_}
 use mathlib.Core.Bool.{Bool, cond, not, _||_}
 use mathlib.Core.List.{List, [], _∷_}
@@ -17,8 +18,9 @@ use Rattle.vectors.specs.Vectors.{vec}
 use Rattle.grid.specs.declared.Axes.{Axes}
 use Rattle.grid.specs.declared.Corners.{Corners}
 use Rattle.grid.specs.Grid.{voxels}
-use Rattle.limits.specs.Limits.{badAxes, badGrid, wrongLength, badLights, badCoefficients, badMask}
+use Rattle.limits.specs.Limits.{badAxes, badGrid, wrongLength, badLights, badCoefficients}
 use Rattle.marks.specs.Marks.{markedCount}
+use Rattle.words.specs.Words.{wordCount, entriesOf, wordsOf, unusedSet}
 use Rattle.contents.specs.Contents.{axesAt}
 use Rattle.volume_file.specs.VolumeFile.{voxelsAt, lightAt, volumeAt, activeAt, occupiedAt, cornersAt, faulty}
 use Rattle.volume_write.specs.FileBytes.{bytesFor, fileBytes}
@@ -64,10 +66,10 @@ pub record VolumeBytes (a : Axes) (r : Needed) : Type 0 where
 
 -- ---- the reader: 12, then 3, since the file's axes give the lengths
 
--- light, coefficients and the two masks of a grid of n voxels
+-- light, coefficients and the words of the two masks of a grid of n voxels
 unfoldable pub wrongVolumeLists : ℕ → ℕ → ℕ → ℕ → ℕ → Bool
 wrongVolumeLists n light volume active occupied =
-    wrongLength light n || wrongLength volume (n * 16) || wrongLength active n || wrongLength occupied n
+    wrongLength light n || wrongLength volume (n * 16) || wrongLength active (wordCount n) || wrongLength occupied (wordCount n)
 
 abbrev pub readRows : List ℕ → List Float → List Float → List ℕ → List ℕ → List Row
 readRows s l v m o = row 12 (faulty s) ∷ row 3 (wrongVolumeLists (voxelsAt s) (length l) (length v) (length m) (length o)) ∷ []
@@ -80,23 +82,23 @@ pub record VolumeRead (s : List ℕ) (l v : List Float) (m o : List ℕ) (r : He
   pub answer : r ≡ unlessRefused (readRefusal s l v m o) (headAnswer s) (noHead (readRefusal s l v m o))
   pub light : l′ ≡ unlessRefused (readRefusal s l v m o) (lightAt s) l
   pub volume : v′ ≡ unlessRefused (readRefusal s l v m o) (volumeAt s) v
-  pub active : m′ ≡ unlessRefused (readRefusal s l v m o) (activeAt s) m
-  pub occupied : o′ ≡ unlessRefused (readRefusal s l v m o) (occupiedAt s) o
+  pub active : m′ ≡ unlessRefused (readRefusal s l v m o) (wordsOf (activeAt s)) m
+  pub occupied : o′ ≡ unlessRefused (readRefusal s l v m o) (wordsOf (occupiedAt s)) o
 
 -- ---- the writer: 1, 2, 3, 13
 
 unfoldable pub wrongBytes : ℕ → ℕ → Bool
 wrongBytes n bytes = wrongLength bytes (bytesFor n)
 
-unfoldable pub badLists : List Float → List Float → List ℕ → List ℕ → Bool
-badLists l v m o = badLights l || badCoefficients v || badMask m || badMask o
+unfoldable pub badLists : ℕ → List Float → List Float → List ℕ → List ℕ → Bool
+badLists n l v m o = badLights l || badCoefficients v || unusedSet m n || unusedSet o n
 
 abbrev pub writeRows : Axes → Corners → List Float → List Float → List ℕ → List ℕ → List ℕ → List Row
 writeRows a c l v m o b =
     row 1 (badAxes a)
     ∷ row 2 (badGrid c a)
     ∷ row 3 (wrongVolumeLists (voxels a) (length l) (length v) (length m) (length o) || wrongBytes (voxels a) (length b))
-    ∷ row 13 (badLists l v m o)
+    ∷ row 13 (badLists (voxels a) l v m o)
     ∷ []
 
 unfoldable pub writeRefusal : Axes → Corners → List Float → List Float → List ℕ → List ℕ → List ℕ → ℕ
@@ -104,7 +106,7 @@ writeRefusal a c l v m o b = firstOf (writeRows a c l v m o b)
 
 pub record VolumeWritten (a : Axes) (c : Corners) (l v : List Float) (m o b : List ℕ) (r : ℕ) (b′ : List ℕ) : Type 0 where
   pub answer : r ≡ writeRefusal a c l v m o b
-  pub bytes : b′ ≡ unlessRefused (writeRefusal a c l v m o b) (fileBytes a c l v m o) b
+  pub bytes : b′ ≡ unlessRefused (writeRefusal a c l v m o b) (fileBytes a c l v (entriesOf m (voxels a)) (entriesOf o (voxels a))) b
 
 -- ---- the figures: 14, then 12
 

@@ -12,6 +12,7 @@ use Rattle.names.specs.Numbers.{skyNumbers, lampLimit}
 use Rattle.names.specs.Scene.{Sound}
 use Rattle.limits.specs.Limits.{lampCount}
 use Rattle.grid.specs.Grid.{AxesWithin}
+use Rattle.words.specs.Words.{Tidy}
 use Rattle.walk.specs.declared.Reached.{Reached}
 
 -- one voxel is gathered into its place of a volume of this length
@@ -29,7 +30,7 @@ pub record Walkable (b : BakeInput) (volume progress : ℕ) : Type 0 where
   pub scene : Sound (b .scene)
   pub sky : length (b .sky) ≡ skyNumbers
   pub lamps : lampCount (b .lamps) ≤ lampLimit
-  pub active : length (b .active) ≡ voxelCount b
+  pub active : Tidy (b .active) (voxelCount b)
   pub lights : length (b .lights) ≡ voxelCount b
   pub distances : triangleCount b ≤ b .distances
   pub places : triangleCount b ≤ b .places
