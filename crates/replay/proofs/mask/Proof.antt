@@ -19,7 +19,6 @@ loop-holds c = search needs
 mask-word-requires : tie.Need-mask-word-requires Inv-loop μ-loop
 mask-word-requires c κs = search needs
 
-
 mul-out : tie.Need-mul-out Inv-loop μ-loop
 mul-out c = search needs
 

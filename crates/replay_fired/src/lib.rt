@@ -1,15 +1,11 @@
-// Replays the oracle's recorded rays: every ray that the bake of a small scene fires, in the order that they are traced, as the port's own ray
-// functions make them: the voxel, what is asked along it, and each bit of its origin, its direction and its two bounds. Their number is the
-// recorded one and the one that the bake itself reports.
+// Holds the oracle's recorded rays: every ray that the bake of a small scene fires, in the order that they are traced, as the port's own ray
+// functions make them: the voxel, what is asked along it, and each bit of its origin, its direction and its two bounds; and their number.
 ghost use mathlib.Core.Path.{_≡_};
 ghost use Prim.Native.Nat.{_<_};
 ghost use Rattle.names.specs.Scene.{Sound, sceneOf};
 ghost use Rattle.grid.specs.Grid.{AxesWithin, voxels};
 use grid::Axes;
-use grid::Corners;
-use limits::Ambient;
 use limits::Lamp;
-use limits::Light;
 use replay::Tally;
 use scan::Nearest;
 use surface::Setting;
@@ -30,22 +26,6 @@ struct Listing {
     tally: Tally,
     at: usize,
     rays: u64,
-}
-
-fn light(s: &[u8]) -> Light {
-    Light {
-        direction: replay_values::vector(s, 13),
-        colour: replay_values::vector(s, 16),
-    }
-}
-
-fn ambient(s: &[u8]) -> Ambient {
-    Ambient {
-        c0: replay_values::vector(s, 19),
-        c1: replay_values::vector(s, 22),
-        c2: replay_values::vector(s, 25),
-        c3: replay_values::vector(s, 28),
-    }
 }
 
 // ---- one ray
@@ -295,7 +275,11 @@ fn voxel_rays(
 {
     let corners = replay_values::corners(s, 7);
     let edges = grid::inner::edges(corners, axes);
-    let setting = gather::inner::setting_of(edges, light(s), ambient(s));
+    let setting = gather::inner::setting_of(
+        edges,
+        replay_values::light(s, 13),
+        replay_values::ambient(s, 19),
+    );
     let centre = grid::inner::centre_of(corners.min, axes, edges, i);
     let set = set_at(axes, i);
     along_all(
@@ -317,9 +301,9 @@ fn voxel_rays(
 // ---- the rays of a bake
 
 // Whether voxel i is active.
-fn marked(active: &[u8], i: usize) -> bool {
-    if i < active.len() {
-        return active[i] != 0;
+fn marked(active: &[u64], i: usize) -> bool {
+    if i / 64 < active.len() {
+        return (active[i / 64] >> (i % 64)) % 2 == 1;
     }
     false
 }
@@ -334,7 +318,7 @@ fn all_rays(
     kinds: &[u8],
     numbers: &[f32],
     lamps: &[f32],
-    active: &[u8],
+    active: &[u64],
 ) -> Listing
     requires { ⌜ Sound (sceneOf (now points) (now uses) (now kinds) (now numbers)) ⌝ }
     requires { ⌜ AxesWithin axes ⌝ }
@@ -364,7 +348,7 @@ fn all_rays(
 }
 
 // Holds the port's rays to the recorded ones, and their number. A scene whose lists do not fit is no such record.
-fn listed(
+pub fn listed(
     s: &[u8],
     t: Tally,
     points: &[f32],
@@ -372,7 +356,7 @@ fn listed(
     kinds: &[u8],
     numbers: &[f32],
     lamps: &[f32],
-    active: &[u8],
+    active: &[u64],
 ) -> Tally {
     let axes = replay_values::axes(s, 1);
     if limits::inner::bad_axes(axes) {
@@ -395,305 +379,4 @@ fn listed(
     };
     let done = all_rays(s, start, axes, points, uses, kinds, numbers, lamps, active);
     replay::held(done.tally, done.rays == replay::half(s, from))
-}
-
-// Holds the number of rays that the bake reports to the recorded one.
-fn counted(
-    s: &[u8],
-    t: Tally,
-    points: &[f32],
-    uses: &[u32],
-    kinds: &[u8],
-    numbers: &[f32],
-    sky: &[f32],
-    lamps: &[f32],
-    active: &[u8],
-    lights: &[f32],
-    volume: &mut [f32],
-    scratch: &mut [f32],
-    distances: &mut [f32],
-    places: &mut [usize],
-) -> Tally {
-    let sunlight = light(s);
-    let sh = ambient(s);
-    let r = bake::bake(
-        replay_values::axes(s, 1),
-        replay_values::corners(s, 7),
-        points,
-        uses,
-        kinds,
-        numbers,
-        sunlight,
-        sh,
-        sky,
-        lamps,
-        active,
-        lights,
-        volume,
-        scratch,
-        distances,
-        places,
-        0,
-        u64::MAX,
-    );
-    let n = replay::half(s, replay::nth(s, FROM, 12));
-    replay::held(t, (r.refusal == 0) & (r.rays == n))
-}
-
-fn both(
-    s: &[u8],
-    t: Tally,
-    points: &[f32],
-    uses: &[u32],
-    kinds: &[u8],
-    numbers: &[f32],
-    sky: &[f32],
-    lamps: &[f32],
-    active: &[u8],
-    lights: &[f32],
-    volume: &mut [f32],
-    scratch: &mut [f32],
-    distances: &mut [f32],
-    places: &mut [usize],
-) -> Tally {
-    let u = listed(s, t, points, uses, kinds, numbers, lamps, active);
-    counted(
-        s,
-        u,
-        points,
-        uses,
-        kinds,
-        numbers,
-        sky,
-        lamps,
-        active,
-        lights,
-        volume,
-        scratch,
-        distances,
-        places,
-    )
-}
-
-// ---- the run
-
-fn fill(s: &[u8], sky: &mut [f32], lamps: &mut [f32], active: &mut [u8], lights: &mut [f32]) {
-    replay::floats(s, replay::nth(s, FROM, 4), sky);
-    replay::floats(s, replay::nth(s, FROM, 5), lamps);
-    replay::bytes(s, replay::nth(s, FROM, 6), active);
-    replay::floats(s, replay::nth(s, FROM, 7), lights);
-}
-
-fn filled(
-    s: &[u8],
-    t: Tally,
-    points: &[f32],
-    uses: &[u32],
-    kinds: &[u8],
-    numbers: &[f32],
-    sky: &mut [f32],
-    lamps: &mut [f32],
-    active: &mut [u8],
-    lights: &mut [f32],
-    volume: &mut [f32],
-    scratch: &mut [f32],
-    distances: &mut [f32],
-    places: &mut [usize],
-) -> Tally {
-    fill(s, sky, lamps, active, lights);
-    both(
-        s,
-        t,
-        points,
-        uses,
-        kinds,
-        numbers,
-        sky,
-        lamps,
-        active,
-        lights,
-        volume,
-        scratch,
-        distances,
-        places,
-    )
-}
-
-fn baked(
-    s: &[u8],
-    t: Tally,
-    points: &mut [f32],
-    uses: &mut [u32],
-    kinds: &mut [u8],
-    numbers: &mut [f32],
-    sky: &mut [f32],
-    lamps: &mut [f32],
-    active: &mut [u8],
-    lights: &mut [f32],
-    volume: &mut [f32],
-    scratch: &mut [f32],
-    distances: &mut [f32],
-    places: &mut [usize],
-) -> Tally {
-    replay::scene(s, FROM, points, uses, kinds, numbers);
-    filled(
-        s,
-        t,
-        points,
-        uses,
-        kinds,
-        numbers,
-        sky,
-        lamps,
-        active,
-        lights,
-        volume,
-        scratch,
-        distances,
-        places,
-    )
-}
-
-fn fits(s: &[u8]) -> bool {
-    (replay::word(s, 0) == 11)
-        & replay::fits(s, FROM, 36900)
-        & replay::fits(s, replay::nth(s, FROM, 1), 4100)
-        & replay::fits(s, replay::nth(s, FROM, 2), 260)
-        & replay::fits(s, replay::nth(s, FROM, 3), 1820)
-        & replay::fits(s, replay::nth(s, FROM, 4), 1740)
-        & replay::fits(s, replay::nth(s, FROM, 5), 80)
-        & replay::fits(s, replay::nth(s, FROM, 6), 520)
-        & replay::fits(s, replay::nth(s, FROM, 7), 520)
-        & replay::fits(s, replay::nth(s, FROM, 8), 8320)
-        & replay::fits(s, replay::nth(s, FROM, 9), 8320)
-        & replay::fits(s, replay::nth(s, FROM, 10), 4100)
-        & replay::fits(s, replay::nth(s, FROM, 11), 8200)
-}
-
-// Thirteen lamps, more than any call accepts.
-fn room_for_lamps() -> [f32; 80] {
-    [0.0f32; 80]
-}
-
-// The arrays are lent in four steps.
-fn fourth(
-    s: &[u8],
-    t: Tally,
-    points: &mut [f32],
-    uses: &mut [u32],
-    kinds: &mut [u8],
-    numbers: &mut [f32],
-    sky: &mut [f32],
-    active: &mut [u8],
-    lights: &mut [f32],
-    volume: &mut [f32],
-    scratch: &mut [f32],
-) -> Tally {
-    let mut lamps = room_for_lamps();
-    let mut distances = replay::room_for_distances();
-    let mut places = replay::room_for_places();
-    let i = replay::fit(s, replay::nth(s, FROM, 5), 80);
-    let j = replay::fit(s, replay::nth(s, FROM, 10), 4100);
-    let k = replay::pairs(s, replay::nth(s, FROM, 11), 4100);
-    baked(
-        s,
-        t,
-        points,
-        uses,
-        kinds,
-        numbers,
-        sky,
-        &mut lamps[..i],
-        active,
-        lights,
-        volume,
-        scratch,
-        &mut distances[..j],
-        &mut places[..k],
-    )
-}
-
-fn third(
-    s: &[u8],
-    t: Tally,
-    points: &mut [f32],
-    uses: &mut [u32],
-    kinds: &mut [u8],
-    numbers: &mut [f32],
-    sky: &mut [f32],
-    active: &mut [u8],
-) -> Tally {
-    let mut lights = replay::room_for_light();
-    let mut volume = replay::room_for_volume();
-    let mut scratch = replay::room_for_volume();
-    let g = replay::fit(s, replay::nth(s, FROM, 7), 520);
-    let h = replay::fit(s, replay::nth(s, FROM, 8), 8320);
-    let i = replay::fit(s, replay::nth(s, FROM, 9), 8320);
-    fourth(
-        s,
-        t,
-        points,
-        uses,
-        kinds,
-        numbers,
-        sky,
-        active,
-        &mut lights[..g],
-        &mut volume[..h],
-        &mut scratch[..i],
-    )
-}
-
-fn second(s: &[u8], t: Tally, points: &mut [f32], uses: &mut [u32], kinds: &mut [u8]) -> Tally {
-    let mut numbers = replay::room_for_numbers();
-    let mut sky = replay::room_for_sky();
-    let mut active = replay::room_for_mask();
-    let d = replay::fit(s, replay::nth(s, FROM, 3), 1820);
-    let e = replay::fit(s, replay::nth(s, FROM, 4), 1740);
-    let f = replay::fit(s, replay::nth(s, FROM, 6), 520);
-    third(
-        s,
-        t,
-        points,
-        uses,
-        kinds,
-        &mut numbers[..d],
-        &mut sky[..e],
-        &mut active[..f],
-    )
-}
-
-fn record(s: &[u8], t: Tally) -> Tally {
-    let mut points = replay::room_for_points();
-    let mut uses = replay::room_for_uses();
-    let mut kinds = replay::room_for_kinds();
-    let u = replay::held(t, fits(s));
-    let a = replay::fit(s, FROM, 36900);
-    let b = replay::fit(s, replay::nth(s, FROM, 1), 4100);
-    let c = replay::fit(s, replay::nth(s, FROM, 2), 260);
-    second(s, u, &mut points[..a], &mut uses[..b], &mut kinds[..c])
-}
-
-// Reads one record and judges it.
-fn turn(buffer: &mut [u8], t: Tally) -> Tally {
-    let n = replay::next(buffer);
-    if n == 0 {
-        return replay::ended(t);
-    }
-    record(&buffer[..n], replay::begun(t))
-}
-
-fn run(buffer: &mut [u8]) {
-    let mut t = replay::start();
-    let mut turns = u64::MAX;
-    while turns > 0 && !t.over {
-        t = turn(buffer, t);
-        turns -= 1;
-    }
-    replay::report(t);
-}
-
-fn main() {
-    let mut buffer = replay::buffer();
-    run(&mut buffer);
 }
