@@ -6,6 +6,7 @@ ghost use Rattle.names.specs.Bits.{one32};
 ghost use Rattle.names.specs.Scene.{sceneOf};
 ghost use Rattle.lists.specs.Fold.{tab};
 ghost use Rattle.grid.specs.Grid.{voxels};
+ghost use Rattle.words.specs.Words.{entriesOf};
 ghost use Rattle.sun.specs.Sun.{figureOf, sunBefore, sunRefusal, Traceable, SunAnswered};
 use grid::Axes;
 use grid::Corners;
@@ -21,7 +22,8 @@ pub struct Sunned {
 }
 
 // Fills `light` with what each voxel sees of the sun, blurred, and `scratch` with the same before the blur. Where no voxel is active the light is all
-// 1.0, and scratch stays as it was. The two lists of hits are scratch too, and what stands in them afterwards is left open. Refusals 1 to 7 and 13.
+// 1.0, and scratch stays as it was. The two lists of hits are scratch too, and what stands in them afterwards is left open. The mask is in words.
+// Refusals 1 to 7 and 13.
 pub fn sun(
     axes: Axes,
     corners: Corners,
@@ -30,7 +32,7 @@ pub fn sun(
     kinds: &[u8],
     numbers: &[f32],
     direction: Vec3,
-    active: &[u8],
+    active: &[u64],
     light: &mut [f32],
     scratch: &mut [f32],
     distances: &mut [f32],
@@ -53,7 +55,7 @@ pub fn sun(
         places.len(),
     );
     if refusal == 0 {
-        let rays = marks::inner::count(active);
+        let rays = words::inner::count(active, light.len());
         if rays == 0 {
             brighten(light);
             return Sunned {
@@ -89,7 +91,7 @@ fn judge(
     kinds: &[u8],
     numbers: &[f32],
     direction: Vec3,
-    active: &[u8],
+    active: &[u64],
     lights: usize,
     scratches: usize,
     distances: usize,
@@ -107,8 +109,9 @@ fn judge(
     let t = uses.len();
     let scene = limits::inner::wrong_scene(points, uses, kinds, numbers);
     let a = active.len();
+    let w = (n + 63) / 64;
     let wrong = scene
-        | (a != n)
+        | (a != w)
         | (lights != n)
         | (scratches != n)
         | (distances < t)
@@ -128,7 +131,7 @@ fn judge(
     if limits::inner::bad_direction(direction) {
         return 7;
     }
-    if limits::inner::bad_mask(active) {
+    if words::inner::unused_set(active, n) {
         return 13;
     }
     0
@@ -154,14 +157,14 @@ fn trace(
     kinds: &[u8],
     numbers: &[f32],
     direction: Vec3,
-    active: &[u8],
+    active: &[u64],
     before: &mut [f32],
     distances: &mut [f32],
     places: &mut [usize],
 )
     requires { ⌜ Traceable axes (sceneOf (now points) (now uses) (now kinds) (now numbers)) (length (now active)) (length (now distances)) (length (now places)) ⌝ }
     requires { ⌜ length (now before) ≡ voxels axes ⌝ }
-    ensures { λ r. ⌜ now (before .exit) ≡ sunBefore axes corners (sceneOf (now (points .entry)) (now (uses .entry)) (now (kinds .entry)) (now (numbers .entry))) direction (now (active .entry)) ⌝ }
+    ensures { λ r. ⌜ now (before .exit) ≡ sunBefore axes corners (sceneOf (now (points .entry)) (now (uses .entry)) (now (kinds .entry)) (now (numbers .entry))) direction (entriesOf (now (active .entry)) (voxels axes)) ⌝ }
 {
     let edges = grid::inner::edges(corners, axes);
     let l = vectors::normalise(direction);
@@ -200,16 +203,16 @@ fn figure(
     uses: &[u32],
     kinds: &[u8],
     numbers: &[f32],
-    active: &[u8],
+    active: &[u64],
     i: usize,
     distances: &mut [f32],
     places: &mut [usize],
 ) -> f32
     requires { ⌜ Traceable axes (sceneOf (now points) (now uses) (now kinds) (now numbers)) (length (now active)) (length (now distances)) (length (now places)) ⌝ }
     requires { ⌜ i < voxels axes ⌝ }
-    ensures { λ r. ⌜ r ≡ figureOf axes low edges l ahead (sceneOf (now (points .entry)) (now (uses .entry)) (now (kinds .entry)) (now (numbers .entry))) (now (active .entry)) i ⌝ }
+    ensures { λ r. ⌜ r ≡ figureOf axes low edges l ahead (sceneOf (now (points .entry)) (now (uses .entry)) (now (kinds .entry)) (now (numbers .entry))) (entriesOf (now (active .entry)) (voxels axes)) i ⌝ }
 {
-    if marks::inner::is_marked(active, i) {
+    if words::inner::is_marked(active, i) {
         let centre = grid::inner::centre_of(low, axes, edges, i);
         let ray = vectors::inner::ray_from(centre, l, ahead, SUN_SHORTEST);
         return scan::inner::transmittance(points, uses, kinds, numbers, ray, distances, places);

@@ -8,7 +8,9 @@ use lib.ListN.{length, take, length-set}
 use Rattle.names.specs.Scene.{sceneOf}
 use Rattle.lists.specs.Fold.{tab, tab-step, tab-end}
 use Rattle.names.specs.Numbers.{voxelLimit}
+use Rattle.grid.specs.Grid.{voxels}
 use Rattle.grid.specs.GridLaws.{voxels-most}
+use Rattle.words.specs.Words.{entriesOf}
 use Rattle.sun.specs.Sun.{figureOf, sunBefore}
 use borrow.Author.Needs.{needs}
 use Rattle.sun.proofs.trace.Statement.{statement}
@@ -17,7 +19,7 @@ use Rattle.sun.proofs.trace.Tie as tie
 abbrev Inv-loop : tie.InvT-loop
 Inv-loop axes points uses kinds numbers active before₀ distances₀ places₀ edges l ahead low i₀ before distances places i =
     (i ≤ length before) × (length before ≡ length before₀) × (length distances ≡ length distances₀) × (length places ≡ length places₀)
-    × (take i before ++ tab (figureOf axes low edges l ahead (sceneOf points uses kinds numbers) active) (length before - i) i ≡ tab (figureOf axes low edges l ahead (sceneOf points uses kinds numbers) active) (length before₀) 0)
+    × (take i before ++ tab (figureOf axes low edges l ahead (sceneOf points uses kinds numbers) (entriesOf active (voxels axes))) (length before - i) i ≡ tab (figureOf axes low edges l ahead (sceneOf points uses kinds numbers) (entriesOf active (voxels axes))) (length before₀) 0)
 
 abbrev μ-loop : tie.MeasureT-loop
 μ-loop axes points uses kinds numbers active before₀ distances₀ places₀ edges l ahead low i₀ before distances places i = length before - i
