@@ -103,7 +103,7 @@ sun-answered-once axes corners scene direction active l s d p r₁ r₂ l₁ s�
 -- ---- what an accepted call has
 
 pub record SunReady (axes : Axes) (scene : Scene) (active : List ℕ) (lightLength scratchLength distancesLength placesLength : ℕ) : Type 0 where
-  pub traceable : Traceable axes scene (length active) distancesLength placesLength
+  pub traceable : Traceable axes scene distancesLength placesLength
   pub tidy : Tidy active (voxels axes)
   pub light-fits : lightLength ≡ voxels axes
   pub scratch-fits : scratchLength ≡ voxels axes
@@ -135,16 +135,14 @@ sun-ready axes corners scene direction active lightLength scratchLength distance
     let c = either _ _ .0 (b .0) in
     let d = either _ _ .0 (c .0) in
     let f = either _ _ .0 (d .0) in
-    let long = right _ _ (f .1) in
     record {
       traceable = record {
         axes-fit = axes-row axes .0 (p .0);
         scene-fits = sound _ _ _ _ (f .0) (p .1 .1 .1 .0) (p .1 .1 .1 .1 .1 .0);
-        mask-fits = long;
         distances-fit = ltb-false _ _ (b .1);
         places-fit = ltb-false _ _ (a .1);
       };
-      tidy = record { long = long; clean = p .1 .1 .1 .1 .1 .1 .1 .0 };
+      tidy = record { long = right _ _ (f .1); clean = p .1 .1 .1 .1 .1 .1 .1 .0 };
       light-fits = right _ _ (d .1);
       scratch-fits = right _ _ (c .1);
     }

@@ -59,7 +59,7 @@ returns c =
     }
 
 trace-requires : tie.Need-trace-requires
-trace-requires c κs = let r = ready (c .before .before .before .before .before) in (r .traceable, r .scratch-fits)
+trace-requires c κs = let r = ready (c .before .before .before .before .before) in (r .traceable, (r .tidy, r .scratch-fits))
 
 square-requires : tie.Need-square-requires
 square-requires c κs =
