@@ -1,6 +1,6 @@
 -- What the sun pass means: each figure before the blur, all of them 1.0 where no voxel is active; which row refuses a call; one result; and what an accepted call has.
 use mathlib.Core.Path.{_≡_, refl, sym, ap, ap₂, _∙_}
-use mathlib.Core.Bool.{Bool, true, false}
+use mathlib.Core.Bool.{Bool, true, false, _||_, false≢true}
 use mathlib.Core.List.{List}
 use Prim.Native.Nat.{ℕ, _+_, _≤_, _<_}
 use native.Mathlib.Nat.{zero-add}
@@ -17,11 +17,12 @@ use Rattle.vectors.specs.declared.Vec3.{Vec3}
 use Rattle.grid.specs.Grid.{voxels, xOf, yOf, zOf, edgesOf, centreOf}
 use Rattle.grid.specs.declared.Axes.{Axes}
 use Rattle.grid.specs.declared.Corners.{Corners}
-use Rattle.limits.specs.Limits.{wrongLength}
+use Rattle.limits.specs.Limits.{wrongScene, wrongLength, tooShort}
 use Rattle.limits.specs.LimitsLaws.{either, axes-row, sound}
 use Rattle.names.specs.Passed.{passed}
 use Rattle.marks.specs.Marks.{isMarked, markedCount}
 use Rattle.marks.specs.MarksLaws.{active-some}
+use Rattle.words.specs.Words.{wordCount, Tidy}
 use Rattle.scan.specs.Transmittance.{transmittanceOf}
 use Rattle.sun.specs.declared.Sunned.{Sunned}
 use Rattle.sun.specs.Sun.{aheadOf, sunRay, figureOf, sunAt, sunBefore, allOnes, sunRows, wrongSun, sunRefusal, Traceable, SunAnswered}
@@ -101,17 +102,31 @@ sun-answered-once axes corners scene direction active l s d p r₁ r₂ l₁ s�
 
 -- ---- what an accepted call has
 
-pub record SunReady (axes : Axes) (scene : Scene) (activeLength lightLength scratchLength distancesLength placesLength : ℕ) : Type 0 where
-  pub traceable : Traceable axes scene activeLength distancesLength placesLength
+pub record SunReady (axes : Axes) (scene : Scene) (active : List ℕ) (lightLength scratchLength distancesLength placesLength : ℕ) : Type 0 where
+  pub traceable : Traceable axes scene distancesLength placesLength
+  pub tidy : Tidy active (voxels axes)
   pub light-fits : lightLength ≡ voxels axes
   pub scratch-fits : scratchLength ≡ voxels axes
 
 right : (len n : ℕ) → wrongLength len n ≡ false → len ≡ n
 right len n e = eqb-true _ _ (not-false _ e)
 
+-- what row 3 lets pass has the words of n voxels
+pub words-long : (n : ℕ) (scene : Scene) (activeLength lightLength scratchLength distancesLength placesLength : ℕ)
+    → wrongSun n scene activeLength lightLength scratchLength distancesLength placesLength ≡ false → activeLength ≡ wordCount n
+unfolding wrongSun
+words-long n scene activeLength lightLength scratchLength distancesLength placesLength e =
+    let t : ℕ = length (scene .uses) in
+    right _ _ (second (wrongScene (scene .points) (scene .uses) (scene .kinds) (scene .numbers)) (wrongLength activeLength (wordCount n)) (wrongLength lightLength n) (wrongLength scratchLength n) (tooShort distancesLength t) (tooShort placesLength t) e)
+  where
+    second : (a b c d f g : Bool) → a || b || c || d || f || g ≡ false → b ≡ false
+    second false false c d f g h = refl
+    second false true c d f g h = h
+    second true b c d f g h = absurd (false≢true (sym h))
+
 pub sun-ready : (axes : Axes) (corners : Corners) (scene : Scene) (direction : Vec3) (active : List ℕ) (lightLength scratchLength distancesLength placesLength : ℕ)
     → sunRefusal axes corners scene direction active lightLength scratchLength distancesLength placesLength ≡ 0
-    → SunReady axes scene (length active) lightLength scratchLength distancesLength placesLength
+    → SunReady axes scene active lightLength scratchLength distancesLength placesLength
 unfolding sunRefusal wrongSun
 sun-ready axes corners scene direction active lightLength scratchLength distancesLength placesLength e =
     let p = passed (sunRows axes corners scene direction active lightLength scratchLength distancesLength placesLength) (sun-numbered axes corners scene direction active lightLength scratchLength distancesLength placesLength) e in
@@ -124,10 +139,10 @@ sun-ready axes corners scene direction active lightLength scratchLength distance
       traceable = record {
         axes-fit = axes-row axes .0 (p .0);
         scene-fits = sound _ _ _ _ (f .0) (p .1 .1 .1 .0) (p .1 .1 .1 .1 .1 .0);
-        mask-fits = right _ _ (f .1);
         distances-fit = ltb-false _ _ (b .1);
         places-fit = ltb-false _ _ (a .1);
       };
+      tidy = record { long = right _ _ (f .1); clean = p .1 .1 .1 .1 .1 .1 .1 .0 };
       light-fits = right _ _ (d .1);
       scratch-fits = right _ _ (c .1);
     }
