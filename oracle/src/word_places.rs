@@ -381,11 +381,15 @@ pub fn bad(module: &str, seed: u64) -> Vec<Item> {
                 call
             };
             put(changed(&|mask| mask.clear()), 3, "no words");
-            put(changed(&|mask| mask.resize(whole - 64, 0)), 3, "a word less");
+            if whole > 64 {
+                put(changed(&|mask| mask.resize(whole - 64, 0)), 3, "a word less");
+            }
             put(changed(&|mask| mask.resize(whole + 1, 0)), 3, "a word more");
             put(changed(&|mask| set_bit(mask, whole)), 3, "a word more, its first bit set");
             put(changed(&|mask| set_bit(mask, whole + 63)), 3, "a word more, its last bit set");
-            put(changed(&|mask| mask.resize(whole, 0)), 0, "whole words");
+            if masks_of(&mut good.clone())[which].len() < whole {
+                put(changed(&|mask| mask.resize(whole, 0)), 0, "whole words");
+            }
         }
         if module == "masks" {
             // a mask that is filled may hold anything, and keeps it where the call is refused
