@@ -18,6 +18,9 @@ const LARGE: [u64; 3] = [30, 30, 30];
 /// 4,096 voxels: small enough that random masks can be recorded.
 const MIDDLING: [u64; 3] = [32, 32, 4];
 
+/// Rows that end at a word's end, beside it and across it.
+const ROWS: [[u64; 3]; 9] = [[32, 3, 1], [31, 3, 2], [30, 4, 2], [17, 4, 2], [5, 13, 2], [3, 11, 4], [2, 32, 2], [1, 32, 3], [1, 1, 32]];
+
 /// Voxels with edges of 1, the first corner at 0.
 fn grid(axes: [u64; 3]) -> Grid {
     Grid { axes, corners: [0.0, 0.0, 0.0, axes[0] as f32, axes[1] as f32, axes[2] as f32] }
@@ -102,6 +105,15 @@ fn good_masks(c: &mut Chance) -> Vec<Item> {
             if form < 3 {
                 over(c, axes, specks(&grid(axes), mask), form + 1);
             }
+        }
+    }
+    for axes in ROWS {
+        let n = voxels(&grid(axes));
+        let mut masks = vec![random(c, n, 40), random(c, n, 40)];
+        // what is active about the last voxel of a row and the first of the next stays in its row
+        masks.extend([62, 63, 64, 65].into_iter().filter(|i| *i < n).map(|i| only(n, i)));
+        for (form, mask) in masks.iter().enumerate() {
+            over(c, axes, specks(&grid(axes), mask), form);
         }
     }
     for form in 0..2 {
@@ -241,6 +253,20 @@ fn good_bakes(c: &mut Chance) -> Vec<Item> {
             // all that is left is inactive: no voxel is taken, and the volume is blurred
             if i + 1 < n {
                 out.push(from(axes, bake.active, i + 1, 384));
+            }
+        }
+        // the first call takes one voxel and stops at the other, far on or next to it
+        for (one, other) in [(0, n - 1), (62, 63), (63, 64)] {
+            if other < n {
+                let mut bake = room(axes, only(n, one), true);
+                bake.active[other] = 1;
+                out.push(calls(&bake, &[384, 384]));
+            }
+        }
+        // voxels of the same word that are active below progress stay as they are
+        for progress in [1, 62, 63, 64, 65, 126, 127] {
+            if progress < n {
+                out.push(from(axes, vec![1; n], progress, 384));
             }
         }
         out.push(calls(&room(axes, random(c, n, 2), true), &[384, 1000, 5000, end]));
