@@ -1,7 +1,7 @@
 -- The contract of the join leaves one result, a call is refused by row k exactly when that row holds and none before it, an accepted call has a mask and
 -- lists that fit its grid, it leaves what it should voxel by voxel and number by number, and a good call is accepted.
 use mathlib.Core.Path.{_≡_, refl, sym, ap, _∙_}
-use mathlib.Core.Bool.{Bool, true, false, cond, _&&_}
+use mathlib.Core.Bool.{Bool, true, false, cond, not, _&&_}
 use mathlib.Core.List.{List, [], _∷_, _++_}
 use Prim.Native.Nat.{ℕ, zero, suc, _+_, _-_, _*_, _≤_, _<_}
 use native.Mathlib.Omega.{arith}
@@ -10,10 +10,10 @@ use lib.Dec.{ltb}
 use lib.ListN.{length, getD, drop}
 use lib.Seq.{getD-take, getD-drop}
 use lib.Ieee.{Float, nan, ofBits, ofFields, odd, neg, le, lt, eq}
-use borrow.Author.Tests.{eqb-true, not-false, ltb-true, ltb-false, lt-ltb, le-ltb}
+use borrow.Author.Tests.{eq-eqb, eqb-true, not-false, ltb-true, ltb-false, lt-ltb, le-ltb}
 use Rattle.names.specs.Bits.{zero32, one32}
 use Rattle.names.specs.Refusals.{firstOf, RefusedBy, refused-by, kept, given}
-use Rattle.names.specs.Passed.{passed}
+use Rattle.names.specs.Passed.{passed, passes}
 use Rattle.lists.specs.Any.{any}
 use Rattle.lists.specs.Fold.{tab}
 use Rattle.lists.specs.Some.{some}
@@ -84,6 +84,17 @@ join-fitting axes share unblurred joined e =
       joined-fits = l .2;
       unblurred-good = c .1;
     }
+
+-- and what has it is accepted
+pub join-accepted : (axes : Axes) (share : List ℕ) (unblurred joined : List Float) → FittingShare axes share unblurred joined
+    → joinRefusal axes share unblurred joined ≡ 0
+unfolding joinRefusal wrongJoinLists badShare
+join-accepted axes share unblurred joined f =
+    passes (joinRows axes share unblurred joined) (
+      axes-row axes .1 (f .axes-within),
+      (any-of-three _ _ _ .1 (ap not (eq-eqb _ _ (f .share-tidy .long)), ap not (eq-eqb _ _ (f .unblurred-fits)), ap not (eq-eqb _ _ (f .joined-fits))),
+      (either _ _ .1 (f .share-tidy .clean, f .unblurred-good), tt)),
+    )
 
 -- ---- what an accepted call leaves
 
