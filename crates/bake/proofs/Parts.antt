@@ -11,9 +11,11 @@ use lib.Ieee.{Float}
 use borrow.Author.Tests.{eq-eqb, ne-eqb}
 use Rattle.names.specs.Numbers.{voxelLimit}
 use Rattle.grid.specs.GridLaws.{voxels-most}
+use Rattle.words.specs.Words.{Tidy}
+use Rattle.words.specs.WordsLaws.{entries-length}
 use Rattle.spread.specs.Spread.{Stage, stage, Called, Walked, filled, started, walk, anyActive, ended, accepted}
 use Rattle.ends.specs.Ends.{filledOf, Finished}
-use Rattle.intake.specs.Intake.{BakeInput, voxelNumbers, voxelCount, bakeRefusal}
+use Rattle.intake.specs.Intake.{BakeInput, voxelNumbers, voxelCount, activeEntries, bakeRefusal}
 use Rattle.intake.specs.IntakeLaws.{Fits, fits, none-refused}
 use Rattle.walk.specs.declared.Reached.{Reached}
 use Rattle.demand.specs.Bake.{bakeOf}
@@ -43,10 +45,10 @@ module _ {b : BakeInput} {p a : ℕ} {v x : List Float} (f : Fits b (stage p v x
       }
 
   pub endable : {m n : ℕ} → m ≡ length v → n ≡ m
-      → (0 < b .axes .width) × (0 < b .axes .height) × (voxelCount b * 16 ≡ n) × (length x ≡ n)
+      → ((0 < b .axes .width) × (0 < b .axes .height) × (voxelCount b * 16 ≡ n) × (length x ≡ n)) × (Tidy (b .active) (voxelCount b) × (length (b .lights) ≡ voxelCount b))
   endable {n = n} e g =
       let h : n ≡ voxelCount b * voxelNumbers = g ∙ e ∙ f .volume in
-      (f .axes .width, f .axes .height, sym h, f .scratch ∙ sym h)
+      ((f .axes .width, f .axes .height, sym h, f .scratch ∙ sym h), (f .active, f .lights))
 
   -- ---- what they come to
 
@@ -54,24 +56,27 @@ module _ {b : BakeInput} {p a : ℕ} {v x : List Float} (f : Fits b (stage p v x
   unfolding filled filledOf
   starts e = e ∙ rw (f .lights) refl
 
-  ends : (q : ℕ) {v₂ v₃ x₃ : List Float} → Ends (b .axes) (b .active) q v₂ x v₃ x₃
+  ends : (q : ℕ) {v₂ v₃ x₃ : List Float} → Ends (b .axes) (activeEntries b) q v₂ x v₃ x₃
       → (q ≡ ended (bakeOf b) q v₂ x .progress) × (v₃ ≡ ended (bakeOf b) q v₂ x .volume) × (x₃ ≡ ended (bakeOf b) q v₂ x .scratch)
-  ends q {v₂} {v₃} {x₃} k = go (ℕ-discrete q (length (b .active)))
+  ends q {v₂} {v₃} {x₃} k = go (ℕ-discrete q (length (activeEntries b)))
     where
-      over : (t : Bool) → anyActive (bakeOf b .active) (bakeOf b .count) ≡ t → q ≡ voxelCount b → Finished (b .axes) (b .active) v₂ x v₃ x₃
-          → (q ≡ ended (bakeOf b) q v₂ x .progress) × (v₃ ≡ ended (bakeOf b) q v₂ x .volume) × (x₃ ≡ ended (bakeOf b) q v₂ x .scratch)
-      over true e h g = rw (eq-eqb q (voxelCount b) h, e) (h, rw (f .active, e) at (g .volume), rw (f .active, e) at (g .scratch))
-      over false e h g = rw (eq-eqb q (voxelCount b) h, e) (h, rw (f .active, e) at (g .volume), rw (f .active, e) at (g .scratch))
+      all : length (activeEntries b) ≡ voxelCount b
+      all = entries-length (b .active) (voxelCount b)
 
-      go : Dec (q ≡ length (b .active))
+      over : (t : Bool) → anyActive (bakeOf b .active) (bakeOf b .count) ≡ t → q ≡ voxelCount b → Finished (b .axes) (activeEntries b) v₂ x v₃ x₃
           → (q ≡ ended (bakeOf b) q v₂ x .progress) × (v₃ ≡ ended (bakeOf b) q v₂ x .volume) × (x₃ ≡ ended (bakeOf b) q v₂ x .scratch)
-      go (yes h) = over (anyActive (bakeOf b .active) (bakeOf b .count)) refl (h ∙ f .active) (k .over h)
-      go (no n) = rw (ne-eqb q (voxelCount b) (λ z. n (z ∙ sym (f .active)))) (refl, k .short n .0, k .short n .1)
+      over true e h g = rw (eq-eqb q (voxelCount b) h, e) (h, rw (all, e) at (g .volume), rw (all, e) at (g .scratch))
+      over false e h g = rw (eq-eqb q (voxelCount b) h, e) (h, rw (all, e) at (g .volume), rw (all, e) at (g .scratch))
 
-  pub idles : {d : List Float} {q : List ℕ} → p ≡ length (b .active)
+      go : Dec (q ≡ length (activeEntries b))
+          → (q ≡ ended (bakeOf b) q v₂ x .progress) × (v₃ ≡ ended (bakeOf b) q v₂ x .volume) × (x₃ ≡ ended (bakeOf b) q v₂ x .scratch)
+      go (yes h) = over (anyActive (bakeOf b .active) (bakeOf b .count)) refl (h ∙ all) (k .over h)
+      go (no n) = rw (ne-eqb q (voxelCount b) (λ z. n (z ∙ sym all))) (refl, k .short n .0, k .short n .1)
+
+  pub idles : {d : List Float} {q : List ℕ} → p ≡ length (b .lights)
       → Accepts (accepted (bakeOf b) a (stage p v x)) (record { progress = p; rays = 0 }) v x d d q q
   idles e =
-      rw (eq-eqb p (voxelCount b) (e ∙ f .active))
+      rw (eq-eqb p (voxelCount b) (e ∙ f .lights))
       (record {
         progress = refl;
         rays = refl;
@@ -80,21 +85,20 @@ module _ {b : BakeInput} {p a : ℕ} {v x : List Float} (f : Fits b (stage p v x
         hits = record { distances = λ z. refl; places = λ z. refl };
       })
 
-  pub goes : {v₁ v₂ v₃ x₃ d d' : List Float} {q q' : List ℕ} {r : Reached} → (p ≡ length (b .active) → ⊥)
+  pub goes : {v₁ v₂ v₃ x₃ d d' : List Float} {q q' : List ℕ} {r : Reached} → (p ≡ length (b .lights) → ⊥)
       → v₁ ≡ cond (eqb p 0) (filledOf (b .ambient) (b .lights)) v
-      → Reports (walk (bakeOf b) (length (b .active) - p) p a v₁) r v₂ d d' q q'
-      → Ends (b .axes) (b .active) (r .progress) v₂ x v₃ x₃
+      → Reports (walk (bakeOf b) (voxelCount b - p) p a v₁) r v₂ d d' q q'
+      → Ends (b .axes) (activeEntries b) (r .progress) v₂ x v₃ x₃
       → Accepts (accepted (bakeOf b) a (stage p v x)) r v₃ x₃ d d' q q'
   goes {r = r} n e w k =
       let y = walk (bakeOf b) (voxelCount b - p) p a (started (bakeOf b) p v) in
-      let s : walk (bakeOf b) (length (b .active) - p) p a _ ≡ y
-      = ap₂ (λ (m : ℕ) (u : List Float). walk (bakeOf b) (m - p) p a u) (f .active) (starts e) in
+      let s : walk (bakeOf b) (voxelCount b - p) p a _ ≡ y = ap (walk (bakeOf b) (voxelCount b - p) p a) (starts e) in
       let g = ends (r .progress) k in
       let i : ended (bakeOf b) (r .progress) _ x ≡ ended (bakeOf b) (y .progress) (y .volume) x
       = ap₂ (λ (m : ℕ) (u : List Float). ended (bakeOf b) m u x)
       (w .progress ∙ ap (λ (z : Walked Float). z .progress) s)
       (w .volume ∙ ap (λ (z : Walked Float). z .volume) s) in
-      rw (ne-eqb p (voxelCount b) (λ z. n (z ∙ sym (f .active))))
+      rw (ne-eqb p (voxelCount b) (λ z. n (z ∙ sym (f .lights))))
       (record {
         progress = g .0 ∙ ap (λ (z : Stage Float). z .progress) i;
         rays = w .rays ∙ ap (λ (z : Walked Float). z .rays) s;

@@ -24,7 +24,7 @@ pub record Baked (b : BakeInput) (s : Stage Float) (allowance : ℕ) (r : BakeAn
   pub distances-long : length d' ≡ length d
   pub places-long : length p' ≡ length p
 
--- the end, where the walk reached it: elsewhere both lists are as they were
+-- the end, of a mask of these entries, where the walk reached it: elsewhere both lists are as they were
 pub record Ends (axes : Axes) (active : List ℕ) (reached : ℕ) (v x v' x' : List Float) : Type 0 where
   pub over : reached ≡ length active → Finished axes active v x v' x'
   pub short : (reached ≡ length active → ⊥) → (v' ≡ v) × (x' ≡ x)

@@ -7,7 +7,8 @@ use native.Mathlib.Omega.{arith}
 use native.Mathlib.Nat.{le-trans, le-of-eq, one-mul, mul-le-mul-right}
 use lib.ListN.{length}
 use lib.Ieee.{Float}
-use Rattle.limits.specs.Limits.{wrongScene, badMask, badLights, badLight, badAmbient, badSky}
+use Rattle.limits.specs.Limits.{wrongScene, badLights, badLight, badAmbient, badSky}
+use Rattle.words.specs.Words.{unusedSet}
 use Rattle.limits.specs.LimitsLaws.{either, any-of-three, coefficients-row}
 use Rattle.spread.specs.Spread.{Stage, unbroken, run, EachAtLeast, NoneRefused}
 use Rattle.spread.specs.Demand.{Lasts, roundedUp, allActive}
@@ -15,7 +16,7 @@ use Rattle.spread.specs.Holds.{no-call-refused}
 use Rattle.gather.specs.Gather.{gatheredOf}
 use Rattle.gather.specs.GatherLaws.{length-gathered}
 use Rattle.gather_bounds.specs.GatherBounds.{Rows, gathered-within}
-use Rattle.intake.specs.Intake.{BakeInput, bakeCost, wrongBakeLists, badLighting, badContents, bakeRefusal}
+use Rattle.intake.specs.Intake.{BakeInput, voxelCount, bakeCost, wrongBakeLists, badLighting, badContents, bakeRefusal}
 use Rattle.intake.specs.IntakeLaws.{BakePassed, fits, none-refused, still-passed}
 use Rattle.demand.specs.Bake.{gatherInput, bakeOf}
 use Rattle.demand.specs.Demanded.{bake-fair, bake-demand}
@@ -34,7 +35,7 @@ gather-rows b s a p =
       light = l .0;
       ambient = l .1;
       sky = l .2;
-      lights = any-of-three (badMask (b .active)) (badLights (b .lights)) _ .0 (p .contents) .1;
+      lights = any-of-three (unusedSet (b .active) (voxelCount b)) (badLights (b .lights)) _ .0 (p .contents) .1;
       skies = fits b s a p .sky;
       lamps = p .lamps;
     }
@@ -57,7 +58,7 @@ unfolding badContents
 never-refused b s a e l h =
     let p = none-refused b s a .0 e in
     let f = fits b s a p in
-    let c = any-of-three (badMask (b .active)) (badLights (b .lights)) _ .0 (p .contents) in
+    let c = any-of-three (unusedSet (b .active) (voxelCount b)) (badLights (b .lights)) _ .0 (p .contents) in
     no-call-refused (bakeOf b) (bake-fair b (f .axes)) (goes-on b) l s h
     (λ n k. none-refused b s n .1 (still-passed b s a s n p refl refl (f .progress) k (c .2)))
 

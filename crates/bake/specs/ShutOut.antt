@@ -12,7 +12,9 @@ use lib.ListN.{getD}
 use lib.Ieee as Ieee
 use lib.Ieee.{Float, nan, ofBits}
 use Rattle.names.specs.Bits.{one32}
+use Rattle.lists.specs.Fold.{tab}
 use Rattle.lists.specs.Laid.{voxelPart}
+use Rattle.words.specs.Words.{entriesOf}
 use Rattle.spread.specs.Spread.{call, run}
 use Rattle.ends.specs.Ends.{ambientVoxel, ambientAt}
 use Rattle.gather.specs.Gather.{gatheredOf}
@@ -38,7 +40,7 @@ pub record First (r : BakeAnswer) (v x : List Float) : Type 0 where
   pub scratch : x ≡ begun .scratch
 
 pub after-the-first : (r : BakeAnswer) (v x d d' : List Float) (p p' : List ℕ) → Baked three begun 384 r v x d d' p p' → First r v x
-unfolding run ambientVoxel ofBits Ieee.eq
+unfolding run entriesOf tab ambientVoxel ofBits Ieee.eq
 after-the-first r v x d d' p p' h =
     let q : call (bakeOf three) 384 begun .stage .progress ≡ 1 = figure-first .2 in
     let b = bake-demand three begun 384 (three-accepted .0) .before (384 ∷ []) begun refl (omega (arith, q)) (omega (arith, q)) in

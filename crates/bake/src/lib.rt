@@ -6,6 +6,8 @@ ghost use lib.Dec.{eqb};
 ghost use lib.ListN.{length};
 ghost use Rattle.names.specs.Numbers.{voxelLimit};
 ghost use Rattle.names.specs.Scene.{sceneOf};
+ghost use Rattle.grid.specs.Grid.{voxels};
+ghost use Rattle.words.specs.Words.{entriesOf, Tidy};
 ghost use Rattle.spread.specs.Spread.{stage, accepted};
 ghost use Rattle.ends.specs.Ends.{filledOf};
 ghost use Rattle.intake.specs.Intake.{inputOf};
@@ -39,7 +41,7 @@ pub fn bake(
     ambient: Ambient,
     sky: &[f32],
     lamps: &[f32],
-    active: &[u8],
+    active: &[u64],
     lights: &[f32],
     volume: &mut [f32],
     scratch: &mut [f32],
@@ -121,7 +123,7 @@ fn go_on(
     ambient: Ambient,
     sky: &[f32],
     lamps: &[f32],
-    active: &[u8],
+    active: &[u64],
     lights: &[f32],
     volume: &mut [f32],
     scratch: &mut [f32],
@@ -142,7 +144,8 @@ fn go_on(
         allowance (stage progress (now (volume .entry)) (now (scratch .entry))))
         r (now (volume .exit)) (now (scratch .exit)) (now (distances .entry)) (now (distances .exit)) (now (places .entry)) (now (places .exit)) ⌝ }
 {
-    if progress == active.len() {
+    let n = lights.len();
+    if progress == n {
         return Reached { progress, rays: 0 };
     }
     start(ambient, lights, volume, progress);
@@ -168,7 +171,7 @@ fn go_on(
         allowance,
     );
     let reached = r.progress;
-    end(axes, active, volume, scratch, reached);
+    end(axes, active, volume, scratch, n, reached);
     r
 }
 
@@ -183,13 +186,21 @@ fn start(ambient: Ambient, lights: &[f32], volume: &mut [f32], progress: usize)
     }
 }
 
-// "At the end, if any voxel is active, scratch gets the unblurred volume and the volume its 3×3×3 mean."
-fn end(axes: Axes, active: &[u8], volume: &mut [f32], scratch: &mut [f32], reached: usize)
+// "At the end, if any voxel is active, scratch gets the unblurred volume and the volume its 3×3×3 mean." Of n voxels the end is at n.
+fn end(
+    axes: Axes,
+    active: &[u64],
+    volume: &mut [f32],
+    scratch: &mut [f32],
+    n: usize,
+    reached: usize,
+)
     requires { ⌜ (0 < axes .width) × (0 < axes .height) × (axes .depth * axes .height * axes .width * 16 ≡ length (now volume))
         × (length (now scratch) ≡ length (now volume)) ⌝ }
-    ensures { λ r. ⌜ Ends axes (now (active .entry)) reached (now (volume .entry)) (now (scratch .entry)) (now (volume .exit)) (now (scratch .exit)) ⌝ }
+    requires { ⌜ Tidy (now active) (voxels axes) × (n ≡ voxels axes) ⌝ }
+    ensures { λ r. ⌜ Ends axes (entriesOf (now (active .entry)) (voxels axes)) reached (now (volume .entry)) (now (scratch .entry)) (now (volume .exit)) (now (scratch .exit)) ⌝ }
 {
-    if reached == active.len() {
+    if reached == n {
         ends::inner::finish(axes, active, volume, scratch);
         return;
     }

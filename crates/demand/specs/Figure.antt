@@ -15,7 +15,7 @@ use Rattle.lists.specs.Any.{any}
 use Rattle.spread.specs.Bare.{bare, Agree, run-same}
 use Rattle.lists.specs.Some.{some}
 use Rattle.limits.specs.Limits.{within, badCoefficients}
-use Rattle.lists.specs.Fold.{fold}
+use Rattle.lists.specs.Fold.{fold, tab}
 use Rattle.vectors.specs.Vectors.{addV, mulV, scaleV, dotV, largerV, clampOf, lerpV}
 use Rattle.floats.specs.Choice.{largerOf, smallerOf}
 use Rattle.scan.specs.Nearest.{nearestOf, nearestTo}
@@ -24,10 +24,11 @@ use Rattle.gather.specs.Gather.{settingOf, incomingBy, gatheredAlong, gathering
 use Rattle.gather.specs.CostLaws.{cost-of-nothing}
 use Rattle.names.specs.Bits.{one32}
 use Rattle.marks.specs.Marks.{isMarked}
+use Rattle.words.specs.Words.{entriesOf}
 use Rattle.ends.specs.Ends.{ambientVoxel, ambientAt}
 use Rattle.spread.specs.Demand.{Fair}
 use Rattle.spread.specs.Holds.{no-call-refused, refusals-zero}
-use Rattle.intake.specs.Intake.{badVolume, bakeCost, bakeRefusal}
+use Rattle.intake.specs.Intake.{badVolume, activeEntries, bakeCost, bakeRefusal}
 use Rattle.intake.specs.IntakeLaws.{fits, none-refused, still-passed}
 use Rattle.intake.specs.Three.{threeWith, three, oneLamp, threeLit, begun, three-accepted, lit-accepted}
 use Rattle.demand.specs.Bake.{gatherInput, bakeOf}
@@ -67,6 +68,7 @@ abbrev threeBare : ℕ → Bake Unit
 threeBare most = bare 3 most (λ i. true) (λ i. 64)
 
 agrees : (lamps : List Float) → Agree (bakeOf (threeWith lamps)) (threeBare (bakeCost (threeWith lamps)))
+unfolding entriesOf tab
 agrees lamps =
     record {
       count = refl;
@@ -75,7 +77,7 @@ agrees lamps =
       cost = λ i h. cost-of-nothing (gatherInput (threeWith lamps)) i refl;
     }
   where
-    all-active : (i : ℕ) → i < 3 → isMarked (three .active) i ≡ true
+    all-active : (i : ℕ) → i < 3 → isMarked (activeEntries three) i ≡ true
     all-active zero h = refl
     all-active (suc zero) h = refl
     all-active (suc (suc zero)) h = refl

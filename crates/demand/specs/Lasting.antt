@@ -18,7 +18,8 @@ use Rattle.lists.specs.Fold.{length-tab}
 use Rattle.bounds.specs.BoundsLaws.{at-most-up, at-most-of-test, test-of-at-most, colour-value, light-value, coefficient-value}
 use Rattle.lists.specs.Some.{some}
 use Rattle.lists.specs.Laid.{laid, replaced, length-laid, length-replaced}
-use Rattle.limits.specs.Limits.{within, outside, badColour, badAmbient, badLight, badSky, badMask, badLights, badCoefficients}
+use Rattle.limits.specs.Limits.{within, outside, badColour, badAmbient, badLight, badSky, badLights, badCoefficients}
+use Rattle.words.specs.Words.{unusedSet}
 use Rattle.limits.specs.LimitsLaws.{either, any-of-three, within-between, vector-row, lights-row}
 use Rattle.limits.specs.declared.Ambient.{Ambient}
 use Rattle.means.specs.Box.{meanOf}
@@ -170,10 +171,10 @@ module _ (b : BakeInput) (gathers : GathersWithin b) where
                   none-laid (outside coefficientLimit) (ambientAt (b .ambient) (b .lights)) (voxelCount b) 0
                   (λ j l. ambient-within (b .ambient) (getD (b .lights) j nan)
                   (any-of-three (badLight (b .light)) (badAmbient (b .ambient)) (badSky (b .sky)) .0 (p .lighting) .1)
-                  (lights-row (b .lights) .0 (any-of-three (badMask (b .active)) (badLights (b .lights)) _ .0 (p .contents) .1) j (omega (arith, f .lights))));
+                  (lights-row (b .lights) .0 (any-of-three (unusedSet (b .active) (voxelCount b)) (badLights (b .lights)) _ .0 (p .contents) .1) j (omega (arith, f .lights))));
             }
         go (suc q) e =
-            let c = any-of-three (badMask (b .active)) (badLights (b .lights)) _ .0 (p .contents) .2 in
+            let c = any-of-three (unusedSet (b .active) (voxelCount b)) (badLights (b .lights)) _ .0 (p .contents) .2 in
             rw (ne-eqb (suc q) 0 (λ z. omega arith))
             (record {
               long = f .volume;
@@ -231,7 +232,7 @@ module _ (b : BakeInput) (gathers : GathersWithin b) where
           volume = fits b s a p .volume;
           scratch = fits b s a p .scratch;
           within = fits b s a p .progress;
-          good = any-of-three (badMask (b .active)) (badLights (b .lights)) _ .0 (p .contents) .2;
+          good = any-of-three (unusedSet (b .active) (voxelCount b)) (badLights (b .lights)) _ .0 (p .contents) .2;
         }))
         (λ l.
         let w = walks (bakeOf b) (voxelCount b - s .progress) (s .progress) a (started (bakeOf b) (s .progress) (s .volume)) in

@@ -4,6 +4,8 @@ ghost use mathlib.Core.List.{[], _∷_, _++_};
 ghost use Prim.Native.Nat.{_+_, _*_, _<_, _≤_};
 ghost use lib.ListN.{length, take};
 ghost use Rattle.names.specs.Numbers.{voxelLimit};
+ghost use Rattle.grid.specs.Grid.{voxels};
+ghost use Rattle.words.specs.Words.{entriesOf, Tidy};
 ghost use Rattle.ends.specs.Ends.{ambientVoxel, filledOf, Finished};
 use grid::Axes;
 use limits::Ambient;
@@ -22,12 +24,14 @@ pub fn fill(ambient: Ambient, lights: &[f32], volume: &mut [f32])
 }
 
 // After the last voxel: where any voxel is active, scratch gets the unblurred volume and the volume its mean.
-pub fn finish(axes: Axes, active: &[u8], volume: &mut [f32], scratch: &mut [f32])
+pub fn finish(axes: Axes, active: &[u64], volume: &mut [f32], scratch: &mut [f32])
     requires { ⌜ (0 < axes .width) × (0 < axes .height) × (axes .depth * axes .height * axes .width * 16 ≡ length (now volume))
         × (length (now scratch) ≡ length (now volume)) ⌝ }
-    ensures { λ r. ⌜ Finished axes (now (active .entry)) (now (volume .entry)) (now (scratch .entry)) (now (volume .exit)) (now (scratch .exit)) ⌝ }
+    requires { ⌜ Tidy (now active) (voxels axes) ⌝ }
+    ensures { λ r. ⌜ Finished axes (entriesOf (now (active .entry)) (voxels axes)) (now (volume .entry)) (now (scratch .entry)) (now (volume .exit)) (now (scratch .exit)) ⌝ }
 {
-    if marks::inner::count(active) == 0 {
+    let n = volume.len() / 16;
+    if words::inner::count(active, n) == 0 {
         return;
     }
     means::inner::copy(volume, scratch);

@@ -13,8 +13,8 @@ use Rattle.names.specs.Refusals.{Row, row, firstOf, FirstIs, NoneHolds, none, l
 use Rattle.names.specs.Scene.{Sound}
 use Rattle.spread.specs.Spread.{Stage}
 use Rattle.grid.specs.Grid.{AxesWithin}
-use Rattle.limits.specs.Limits.{badAxes, badGrid, wrongLength, tooMany, badPoints, badMaterials, pastCount, belowCost, lampCount, badLamps, badLights}
-use Rattle.words.specs.Words.{Tidy, unusedSet}
+use Rattle.limits.specs.Limits.{badAxes, badGrid, wrongLength, wrongLamps, tooMany, badPoints, badMaterials, pastCount, belowCost, lampCount, badLamps, badLights}
+use Rattle.words.specs.Words.{wordCount, unusedSet, Tidy}
 use Rattle.limits.specs.LimitsLaws.{either, any-of-three, axes-row, sound, lamps-row}
 use Rattle.intake.specs.Intake.{BakeInput, voxelNumbers, bakeCost, voxelCount, triangleCount, wrongLengths, wrongBakeLists, badLighting, badVolume, badContents, bakeRows, bakeRefusal}
 
@@ -47,6 +47,41 @@ pub record Fits (b : BakeInput) (s : Stage Float) (a : ℕ) : Type 0 where
   pub places : triangleCount b ≤ b .places
   pub progress : s .progress ≤ voxelCount b
   pub allowance : bakeCost b ≤ a
+
+exactly : (x y : ℕ) → wrongLength x y ≡ false → x ≡ y
+exactly x y e = eqb-true x y (not-false _ e)
+
+-- the lent lists of n voxels and t triangles are as long as they have to be
+pub record Long (n t skyLength lampsLength activeLength lightsLength volumeLength scratchLength distancesLength placesLength : ℕ) : Type 0 where
+  pub sky : skyLength ≡ skyNumbers
+  pub lamps : wrongLamps lampsLength ≡ false
+  pub active : activeLength ≡ wordCount n
+  pub lights : lightsLength ≡ n
+  pub volume : volumeLength ≡ n * voxelNumbers
+  pub scratch : scratchLength ≡ n * voxelNumbers
+  pub distances : t ≤ distancesLength
+  pub places : t ≤ placesLength
+
+pub long : {n t sky lamps active lights volume scratch distances places : ℕ} → wrongLengths n t sky lamps active lights volume scratch distances places ≡ false
+    → Long n t sky lamps active lights volume scratch distances places
+unfolding wrongLengths
+long h =
+    let whole = either _ _ .0 h in
+    let places = either _ _ .0 (whole .0) in
+    let distances = either _ _ .0 (places .0) in
+    let lengths = either _ _ .0 (distances .0) in
+    let one = any-of-three _ _ _ .0 (lengths .0) in
+    let sixteen = either _ _ .0 (lengths .1) in
+    record {
+      sky = exactly _ _ (one .0);
+      lamps = whole .1;
+      active = exactly _ _ (one .1);
+      lights = exactly _ _ (one .2);
+      volume = exactly _ _ (sixteen .0);
+      scratch = exactly _ _ (sixteen .1);
+      distances = ltb-false _ _ (distances .1);
+      places = ltb-false _ _ (places .1);
+    }
 
 module _ (b : BakeInput) (s : Stage Float) (a : ℕ) where
   -- ---- a number k is answered exactly when row k holds and none before it does
@@ -102,30 +137,22 @@ module _ (b : BakeInput) (s : Stage Float) (a : ℕ) where
 
   -- ---- what stands then
 
-  exactly : (x y : ℕ) → wrongLength x y ≡ false → x ≡ y
-  exactly x y e = eqb-true x y (not-false _ e)
-
   pub fits : BakePassed b s a → Fits b s a
-  unfolding wrongBakeLists wrongLengths
+  unfolding wrongBakeLists badContents
   fits p =
-      let l = either _ _ .0 (p .lists) in
-      let whole = either _ _ .0 (l .1) in
-      let places = either _ _ .0 (whole .0) in
-      let distances = either _ _ .0 (places .0) in
-      let lengths = either _ _ .0 (distances .0) in
-      let one = any-of-three _ _ _ .0 (lengths .0) in
-      let sixteen = either _ _ .0 (lengths .1) in
+      let r = either _ _ .0 (p .lists) in
+      let l = long (r .1) in
       record {
         axes = axes-row (b .axes) .0 (p .axes);
-        scene = sound (b .scene .points) (b .scene .uses) (b .scene .kinds) (b .scene .numbers) (l .0) (p .few) (p .materials);
-        sky = exactly _ _ (one .0);
+        scene = sound (b .scene .points) (b .scene .uses) (b .scene .kinds) (b .scene .numbers) (r .0) (p .few) (p .materials);
+        sky = l .sky;
         lamps = lamps-row (b .lamps) .0 (p .lamps) .0;
-        active = exactly _ _ (one .1);
-        lights = exactly _ _ (one .2);
-        volume = exactly _ _ (sixteen .0);
-        scratch = exactly _ _ (sixteen .1);
-        distances = ltb-false _ _ (distances .1);
-        places = ltb-false _ _ (places .1);
+        active = record { long = l .active; clean = any-of-three (unusedSet (b .active) (voxelCount b)) (badLights (b .lights)) _ .0 (p .contents) .0 };
+        lights = l .lights;
+        volume = l .volume;
+        scratch = l .scratch;
+        distances = l .distances;
+        places = l .places;
         progress = ltb-false _ _ (p .progress);
         allowance = ltb-false _ _ (p .allowance);
       }
@@ -140,7 +167,7 @@ module _ (b : BakeInput) (s : Stage Float) (a : ℕ) where
       → BakePassed b t c
   unfolding wrongBakeLists badContents
   still-passed t c p v x q h g =
-      let k = any-of-three (badMask (b .active)) (badLights (b .lights)) _ .0 (p .contents) in
+      let k = any-of-three (unusedSet (b .active) (voxelCount b)) (badLights (b .lights)) _ .0 (p .contents) in
       record {
         axes = p .axes;
         grid = p .grid;
@@ -152,5 +179,5 @@ module _ (b : BakeInput) (s : Stage Float) (a : ℕ) where
         lamps = p .lamps;
         progress = le-ltb _ _ q;
         allowance = le-ltb _ _ h;
-        contents = any-of-three (badMask (b .active)) (badLights (b .lights)) _ .1 (k .0, k .1, g);
+        contents = any-of-three (unusedSet (b .active) (voxelCount b)) (badLights (b .lights)) _ .1 (k .0, k .1, g);
       }

@@ -13,7 +13,8 @@ use Rattle.spread.specs.Spread.{Stage, stage}
 use Rattle.vectors.specs.Vectors.{vec, dotV}
 use Rattle.grid.specs.Grid.{edgesOf}
 use Rattle.lists.specs.Some.{some}
-use Rattle.limits.specs.Limits.{within, upTo, outsideV, badAxes, badCorners, badEdges, wrongShare, wrongScene, tooMany, badPoints, badKinds, badFrom, badUses, badMaterials, badDirection, badLight, badAmbient, badSky, lampAt, badLamp, badLamps, badMask, badLights, badCoefficients}
+use Rattle.limits.specs.Limits.{within, upTo, outsideV, badAxes, badCorners, badEdges, wrongShare, wrongScene, tooMany, badPoints, badKinds, badFrom, badUses, badMaterials, badDirection, badLight, badAmbient, badSky, lampAt, badLamp, badLamps, badLights, badCoefficients}
+use Rattle.words.specs.Words.{unusedSet}
 use Rattle.intake.specs.Intake.{BakeInput, inputOf, wrongLengths, wrongBakeLists, badLighting, badVolume, badContents, bakeRows, bakeRefusal}
 
 abbrev pub threeWith : List Float → BakeInput
@@ -30,7 +31,7 @@ threeWith lamps =
     })
     (replicate 1728 zero32)
     lamps
-    (1 ∷ 1 ∷ 1 ∷ [])
+    (7 ∷ [])
     (one32 ∷ one32 ∷ one32 ∷ [])
     0
     0
@@ -50,10 +51,10 @@ abbrev pub begun : Stage Float
 begun = stage 0 (replicate 48 zero32) (replicate 48 zero32)
 
 pub three-accepted : (bakeRefusal three begun 384 ≡ 0) × (bakeRefusal three begun 383 ≡ 10)
-unfolding bakeRefusal bakeRows firstOf some within upTo outsideV badAxes badCorners badEdges wrongShare wrongScene tooMany badPoints badKinds badFrom badUses badMaterials badDirection badLight badAmbient badSky badMask badLights badCoefficients wrongLengths wrongBakeLists badLighting badLamp badLamps lampAt any badVolume badContents edgesOf dotV ofBits ofInt Ieee.add Ieee.sub Ieee.mul Ieee.div Ieee.neg Ieee.le Ieee.lt Ieee.eq
+unfolding bakeRefusal bakeRows firstOf some within upTo outsideV badAxes badCorners badEdges wrongShare wrongScene tooMany badPoints badKinds badFrom badUses badMaterials badDirection badLight badAmbient badSky unusedSet badLights badCoefficients wrongLengths wrongBakeLists badLighting badLamp badLamps lampAt any badVolume badContents edgesOf dotV ofBits ofInt Ieee.add Ieee.sub Ieee.mul Ieee.div Ieee.neg Ieee.le Ieee.lt Ieee.eq
 three-accepted = (refl, refl)
 
 -- with a lamp 448 are asked for; and 19 comes before 9 and 10
 pub lit-accepted : (bakeRefusal threeLit begun 448 ≡ 0) × (bakeRefusal threeLit begun 447 ≡ 10) × (bakeRefusal (threeWith (replicate 54 one32)) begun 0 ≡ 19)
-unfolding bakeRefusal bakeRows firstOf some within upTo outsideV badAxes badCorners badEdges wrongShare wrongScene tooMany badPoints badKinds badFrom badUses badMaterials badDirection badLight badAmbient badSky badMask badLights badCoefficients wrongLengths wrongBakeLists badLighting badLamp badLamps lampAt any badVolume badContents edgesOf dotV ofBits ofInt Ieee.add Ieee.sub Ieee.mul Ieee.div Ieee.neg Ieee.le Ieee.lt Ieee.eq
+unfolding bakeRefusal bakeRows firstOf some within upTo outsideV badAxes badCorners badEdges wrongShare wrongScene tooMany badPoints badKinds badFrom badUses badMaterials badDirection badLight badAmbient badSky unusedSet badLights badCoefficients wrongLengths wrongBakeLists badLighting badLamp badLamps lampAt any badVolume badContents edgesOf dotV ofBits ofInt Ieee.add Ieee.sub Ieee.mul Ieee.div Ieee.neg Ieee.le Ieee.lt Ieee.eq
 lit-accepted = (refl, refl, refl)

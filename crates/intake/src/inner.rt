@@ -5,6 +5,7 @@ ghost use lib.ListN.{length};
 ghost use Rattle.names.specs.Numbers.{voxelLimit, lampLimit, voxelCost};
 ghost use Rattle.names.specs.Scene.{sceneOf};
 ghost use Rattle.limits.specs.Limits.{lampCount};
+ghost use Rattle.words.specs.Words.{wordCount};
 ghost use Rattle.spread.specs.Spread.{stage};
 ghost use Rattle.intake.specs.Intake.{inputOf, wrongLengths, badLighting, badVolume, badContents, bakeRefusal};
 use grid::Axes;
@@ -27,7 +28,7 @@ pub fn judge(
     ambient: Ambient,
     sky: &[f32],
     lamps: &[f32],
-    active: &[u8],
+    active: &[u64],
     lights: &[f32],
     volume: &[f32],
     scratch: &[f32],
@@ -98,7 +99,7 @@ fn wrong_lengths(
     t: usize,
     sky: &[f32],
     lamps: &[f32],
-    active: &[u8],
+    active: &[u64],
     lights: &[f32],
     volume: &[f32],
     scratch: &[f32],
@@ -110,7 +111,7 @@ fn wrong_lengths(
         (length (now (volume .entry))) (length (now (scratch .entry))) distances places ⌝ }
 {
     let all = n * 16;
-    let one = (sky.len() != SKY_NUMBERS) | (active.len() != n) | (lights.len() != n);
+    let one = (sky.len() != SKY_NUMBERS) | (active.len() != (n + 63) / 64) | (lights.len() != n);
     let sixteen = (volume.len() != all) | (scratch.len() != all);
     one | sixteen | (distances < t) | (places < t) | (lamps.len() % 6 != 0)
 }
@@ -144,11 +145,12 @@ fn wide(x: usize) -> u64
 
 // ---- 13
 
-// The active mask and the lights always; the volume's coefficients where the bake is under way.
-fn bad_contents(active: &[u8], lights: &[f32], volume: &[f32], progress: usize, n: usize) -> bool
+// The mask's unused bits and the lights always; the volume's coefficients where the bake is under way.
+fn bad_contents(active: &[u64], lights: &[f32], volume: &[f32], progress: usize, n: usize) -> bool
+    requires { ⌜ length (now active) ≡ wordCount n ⌝ }
     ensures { λ r. ⌜ r ≡ badContents (now (active .entry)) (now (lights .entry)) (now (volume .entry)) progress n ⌝ }
 {
-    let a = limits::inner::bad_mask(active);
+    let a = words::inner::unused_set(active, n);
     let b = limits::inner::bad_lights(lights);
     let c = bad_volume(volume, progress, n);
     a | b | c

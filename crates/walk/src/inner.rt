@@ -3,6 +3,7 @@ ghost use mathlib.Core.Path.{_≡_};
 ghost use Prim.Native.Nat.{_-_};
 ghost use lib.ListN.{length};
 ghost use Rattle.names.specs.Scene.{sceneOf};
+ghost use Rattle.grid.specs.Grid.{voxels};
 ghost use Rattle.directions.specs.Table.{directions};
 ghost use Rattle.gather.specs.Gather.{gatherOf};
 ghost use Rattle.intake.specs.Intake.{inputOf};
@@ -15,7 +16,7 @@ use grid::Corners;
 use limits::Ambient;
 use limits::Light;
 
-// Goes through the voxels from progress on, in order, while the allowance lasts.
+// Goes from active voxel to active voxel from progress on, in order, while the allowance lasts.
 pub fn walk(
     axes: Axes,
     corners: Corners,
@@ -28,7 +29,7 @@ pub fn walk(
     sky: &[f32],
     lamps: &[f32],
     table: &[f32; 1728],
-    active: &[u8],
+    active: &[u64],
     lights: &[f32],
     volume: &mut [f32],
     distances: &mut [f32],
@@ -46,38 +47,36 @@ pub fn walk(
         (bakeOf (inputOf axes corners (sceneOf (now (points .entry)) (now (uses .entry)) (now (kinds .entry)) (now (numbers .entry)))
         light ambient (now (sky .entry)) (now (lamps .entry)) (now (active .entry)) (now (lights .entry))
         (length (now (distances .entry))) (length (now (places .entry)))))
-        (length (now (active .entry)) - progress) progress allowance (now (volume .entry)))
+        (voxels axes - progress) progress allowance (now (volume .entry)))
         r (now (volume .exit)) (now (distances .entry)) (now (distances .exit)) (now (places .entry)) (now (places .exit)) ⌝ }
 {
+    let n = lights.len();
     let cost = intake::inner::voxel_cost(lamps);
-    let mut i = progress;
+    let mut i = words::inner::next_marked(active, n, progress);
     let mut rays: u64 = 0;
-    while i < active.len() {
-        let at = i;
-        i += 1;
-        if marks::inner::is_marked(active, at) {
-            if allowance - rays < cost {
-                return Reached { progress: at, rays };
-            }
-            rays += take(
-                axes,
-                corners,
-                points,
-                uses,
-                kinds,
-                numbers,
-                light,
-                ambient,
-                sky,
-                lamps,
-                table,
-                lights,
-                volume,
-                distances,
-                places,
-                at,
-            );
+    while i < n {
+        if allowance - rays < cost {
+            return Reached { progress: i, rays };
         }
+        rays += take(
+            axes,
+            corners,
+            points,
+            uses,
+            kinds,
+            numbers,
+            light,
+            ambient,
+            sky,
+            lamps,
+            table,
+            lights,
+            volume,
+            distances,
+            places,
+            i,
+        );
+        i = words::inner::next_marked(active, n, i + 1);
     }
     Reached { progress: i, rays }
 }

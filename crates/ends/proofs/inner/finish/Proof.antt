@@ -1,12 +1,15 @@
 -- Where no voxel is active nothing is written; elsewhere scratch gets the volume, and the volume the mean of scratch.
 use borrow.Author.Needs.{needs}
-use mathlib.Core.Path.{_≡_, refl, sym, _∙_}
+use mathlib.Core.Path.{_≡_, refl, sym, ap, subst, _∙_}
 use mathlib.Core.Bool.{Bool, true, false}
 use mathlib.Core.List.{List}
-use Prim.Native.Nat.{ℕ}
+use Prim.Native.Nat.{ℕ, _/_}
+use native.Mathlib.Omega.{arith}
 use lib.ListN.{length}
 use Rattle.marks.specs.Marks.{isMarked, markedCount}
 use Rattle.marks.specs.MarksLaws.{none-active, active-none}
+use Rattle.words.specs.Words.{entriesOf, Tidy}
+use Rattle.grid.specs.Grid.{voxels}
 use Rattle.spread.specs.Spread.{anyActive}
 use Rattle.ends.proofs.inner.finish.Statement.{statement}
 use Rattle.ends.proofs.inner.finish.Tie as tie
@@ -18,13 +21,27 @@ some-active mask n = go (anyActive (isMarked mask) (length mask)) refl
     go true e = e
     go false e = absurd (n (active-none mask e))
 
+-- a sixteenth of the volume's numbers is its voxels
+number : (c : tie.Start) → length (c .args .volume .now) / 16 ≡ voxels (c .args .axes)
+number c = omega (arith, c .pre .0 .2)
+
+-- the entries that the mask's words stand for
+abbrev entries : tie.Start → List ℕ
+entries c = entriesOf (c .args .active .now) (voxels (c .args .axes))
+
+counted : (c : tie.After-count) → c .count .result ≡ markedCount (entries (c .before .before .before .before))
+counted c =
+    let s = c .before .before .before .before in
+    c .count .ensures ∙ ap (λ (n : ℕ). markedCount (entriesOf (s .args .active .now) n)) (number s)
+
 count-requires : tie.Need-count-requires
-count-requires c κs = search needs
+count-requires c κs =
+    let s = c .before .before .before in subst (Tidy (s .args .active .now)) (sym (number s)) (s .pre .1)
 
 returns : tie.Need-returns
 returns c =
-    let e : anyActive (isMarked (c .before .before .before .before .before .args .active .now)) (length (c .before .before .before .before .before .args .active .now)) ≡ false
-    = none-active (c .before .before .before .before .before .args .active .now) (sym (c .before .count .ensures) ∙ c .if1 .taken) in
+    let mask = entries (c .before .before .before .before .before) in
+    let e : anyActive (isMarked mask) (length mask) ≡ false = none-active mask (sym (counted (c .before)) ∙ c .if1 .taken) in
     record { volume = rw e refl; scratch = rw e refl }
 
 copy-requires : tie.Need-copy-requires
@@ -41,9 +58,13 @@ same-length-2 c = search needs
 
 returns-2 : tie.Need-returns-2
 returns-2 c =
-    let e : anyActive (isMarked (c .before .before .before .before .before .before .before .before .before .before .before .before .before .before .before .args .active .now)) (length (c .before .before .before .before .before .before .before .before .before .before .before .before .before .before .before .args .active .now)) ≡ true
-    = some-active (c .before .before .before .before .before .before .before .before .before .before .before .before .before .before .before .args .active .now) (λ z. c .before .before .before .before .before .before .before .before .before .before .if1 .left (c .before .before .before .before .before .before .before .before .before .before .before .count .ensures ∙ z)) in
-    record { volume = rw (e, c .before .before .mean .ensures, c .before .before .before .before .before .before .before .copy .ensures) refl; scratch = rw (e, c .before .before .before .before .before .before .before .copy .ensures) refl }
+    let b = c .before .before .before .before .before .before .before .before .before .before in
+    let mask = entries (b .before .before .before .before .before) in
+    let e : anyActive (isMarked mask) (length mask) ≡ true = some-active mask (λ z. b .if1 .left (counted (b .before) ∙ z)) in
+    record {
+      volume = rw (e, c .before .before .mean .ensures, c .before .before .before .before .before .before .before .copy .ensures) refl;
+      scratch = rw (e, c .before .before .before .before .before .before .before .copy .ensures) refl;
+    }
 
 pub finish-spec : {M : Type 1} → statement M
 finish-spec =

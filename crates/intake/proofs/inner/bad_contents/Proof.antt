@@ -5,8 +5,8 @@ use borrow.Author.Needs.{needs}
 use Rattle.intake.proofs.inner.bad_contents.Statement.{statement}
 use Rattle.intake.proofs.inner.bad_contents.Tie as tie
 
-bad-mask-requires : tie.Need-bad-mask-requires
-bad-mask-requires c κs = search needs
+unused-set-requires : tie.Need-unused-set-requires
+unused-set-requires c κs = search needs
 
 bad-lights-requires : tie.Need-bad-lights-requires
 bad-lights-requires c κs = search needs
@@ -16,8 +16,8 @@ bad-volume-requires c κs = search needs
 
 returns : tie.Need-returns
 unfolding badContents
-returns c = rw (c .before .before .bad-mask .ensures, c .before .bad-lights .ensures, c .bad-volume .ensures) refl
+returns c = rw (c .before .before .unused-set .ensures, c .before .bad-lights .ensures, c .bad-volume .ensures) refl
 
 pub bad-contents-spec : {M : Type 1} → statement M
 bad-contents-spec =
-    tie.close (tie.spec bad-mask-requires bad-lights-requires bad-volume-requires returns)
+    tie.close (tie.spec unused-set-requires bad-lights-requires bad-volume-requires returns)

@@ -4,8 +4,9 @@ use borrow.Author.Tests.{lt-ltb, le-ltb}
 use mathlib.Core.Path.{sym, _∙_}
 use Rattle.names.specs.Refusals.{row-holds, row-passed, rows-passed}
 use Rattle.grid.specs.GridLaws.{voxels-most}
-use Rattle.limits.specs.LimitsLaws.{axes-row, lamps-row}
+use Rattle.limits.specs.LimitsLaws.{either, axes-row, lamps-row}
 use Rattle.intake.specs.Intake.{bakeRefusal, bakeRows}
+use Rattle.intake.specs.IntakeLaws.{long}
 use Rattle.intake.proofs.Lists.{lists-row}
 use Rattle.intake.proofs.inner.judge.Statement.{statement}
 use Rattle.intake.proofs.inner.judge.Tie as tie
@@ -141,7 +142,9 @@ returns-10 c =
     (row-holds _ _ _ (lt-ltb _ _ (rw (c .before .voxel-cost .ensures) at (c .if10 .taken))))))))))))
 
 bad-contents-requires : tie.Need-bad-contents-requires
-bad-contents-requires c κs = search needs
+bad-contents-requires c κs =
+    let t = c .before .before .before .before .before .before .before .before .before .before .before .before .before in
+    long (sym (t .before .wrong-lengths .ensures) ∙ either (t .before .before .wrong-scene .result) _ .0 (t .if3 .left) .1) .active
 
 returns-11 : tie.Need-returns-11
 unfolding bakeRefusal bakeRows

@@ -8,9 +8,12 @@ use Rattle.intake.proofs.inner.wrong_lengths.Tie as tie
 mul-all : tie.Need-mul-all
 mul-all c = search needs
 
+add-one : tie.Need-add-one
+add-one c = search needs
+
 returns : tie.Need-returns
 unfolding wrongLengths
 returns c = refl
 
 pub wrong-lengths-spec : {M : Type 1} → statement M
-wrong-lengths-spec = tie.close (tie.spec mul-all returns)
+wrong-lengths-spec = tie.close (tie.spec mul-all add-one returns)
