@@ -92,8 +92,10 @@ unfolding joinRefusal wrongJoinLists badShare
 join-accepted axes share unblurred joined f =
     passes (joinRows axes share unblurred joined) (
       axes-row axes .1 (f .axes-within),
-      (any-of-three _ _ _ .1 (ap not (eq-eqb _ _ (f .share-tidy .long)), ap not (eq-eqb _ _ (f .unblurred-fits)), ap not (eq-eqb _ _ (f .joined-fits))),
-      (either _ _ .1 (f .share-tidy .clean, f .unblurred-good), tt)),
+      (
+        any-of-three _ _ _ .1 (ap not (eq-eqb _ _ (f .share-tidy .long)), ap not (eq-eqb _ _ (f .unblurred-fits)), ap not (eq-eqb _ _ (f .joined-fits))),
+        (either _ _ .1 (f .share-tidy .clean, f .unblurred-good), tt),
+      ),
     )
 
 -- ---- what an accepted call leaves
