@@ -7,7 +7,8 @@ use Prim.Native.Nat.{ℕ, zero, suc, _+_, _*_, _<_}
 use native.Mathlib.Omega.{arith}
 use native.Mathlib.Nat.{add-mul, one-mul, zero-mul}
 use lib.ListN.{length}
-use Rattle.lists.specs.Laid.{voxelPart, laid-same, part-of-laid}
+use Rattle.lists.specs.Any.{any-same}
+use Rattle.lists.specs.Laid.{voxelPart, laid-same, length-laid, part-of-laid}
 use Rattle.spread.specs.Spread.{stage, Bake, anyActive, blurred, unblurred, unbroken, actives, costs, sum}
 use Rattle.spread.specs.Demand.{Sized}
 use Rattle.shares.specs.LaidBelow.{part-long, part-below, length-below}
@@ -60,6 +61,10 @@ module _ {A : Type 0} (b : Bake A) where
     unfolding unblurred
     unblurred-voxel share i h = part-of-laid (b .size) (λ j. holding (share .has j) j) (λ j. length-holding (share .has j) j) i (b .count) h
 
+    pub length-unblurred : (share : Share A) → length (unblurred (bakeBy b share)) ≡ b .count * b .size
+    unfolding unblurred
+    length-unblurred share = length-laid (b .size) (λ j. holding (share .has j) j) (λ j. length-holding (share .has j) j) (b .count) 0
+
     -- the voxels of two shares
     abbrev both : Share A → Share A → Share A
     both s t = record { has = λ i. s .has i || t .has i; refusal = t .refusal }
@@ -83,6 +88,13 @@ module _ {A : Type 0} (b : Bake A) where
     same-voxels : (s : Share A) → ((i : ℕ) → i < b .count → s .has i ≡ b .active i) → unblurred (bakeBy b s) ≡ unblurred b
     unfolding unblurred
     same-voxels s e = laid-same _ _ (b .count) 0 (λ i p q. ap (λ (x : Bool). holding x i) (e i (omega arith)))
+
+    pub same-unbroken : (s : Share A) (scratch : List A) → ((i : ℕ) → i < b .count → s .has i ≡ b .active i)
+        → unbroken (bakeBy b s) scratch ≡ unbroken b scratch
+    unfolding unbroken
+    same-unbroken s scratch e =
+        ap₂ (λ (x : Bool) (v : List A). cond x (stage (b .count) (b .mean v) v) (stage (b .count) v scratch))
+        (any-same (s .has) (b .active) (b .count) 0 (λ i p q. e i (omega arith))) (same-voxels s e)
 
     -- all joined are the unblurred volume of the bake
     pub all-joined : (first : Share A) (rest : List (Share A)) → Parted b (first ∷ rest) → joinedAll b rest (unblurred (bakeBy b first)) ≡ unblurred b
