@@ -1,18 +1,21 @@
 -- "no call refused" is no empty hope. After an accepted call the next, with the same input and an allowance for one voxel, is not refused; so a run
 -- that begins with what some call accepts is refused nowhere, and ends as the unbroken bake within the calls that the customer counts.
 use mathlib.Core.Path.{_≡_, refl, sym}
+use mathlib.Core.Bool.{Bool, false, cond}
 use mathlib.Core.List.{List, [], _∷_}
 use Prim.Native.Nat.{ℕ, _*_, _≤_, _<_}
 use native.Mathlib.Omega.{arith}
 use native.Mathlib.Nat.{le-trans, le-of-eq, one-mul, mul-le-mul-right}
 use lib.ListN.{length}
 use lib.Ieee.{Float}
-use Rattle.limits.specs.Limits.{wrongScene, badLights, badLight, badAmbient, badSky}
+use Rattle.limits.specs.Limits.{wrongScene, badLights, badLight, badAmbient, badSky, badCoefficients}
 use Rattle.words.specs.Words.{unusedSet}
 use Rattle.limits.specs.LimitsLaws.{either, any-of-three, coefficients-row}
 use Rattle.spread.specs.Spread.{Stage, unbroken, run, EachAtLeast, NoneRefused}
 use Rattle.spread.specs.Demand.{Lasts, roundedUp, allActive}
 use Rattle.spread.specs.Holds.{no-call-refused}
+use Rattle.lists.specs.Laid.{laid}
+use Rattle.ends.specs.Ends.{ambientAt}
 use Rattle.gather.specs.Gather.{gatheredOf}
 use Rattle.gather.specs.GatherLaws.{length-gathered}
 use Rattle.gather_bounds.specs.GatherBounds.{Rows, gathered-within}
@@ -20,7 +23,7 @@ use Rattle.intake.specs.Intake.{BakeInput, voxelCount, bakeCost, wrongBakeLists
 use Rattle.intake.specs.IntakeLaws.{BakePassed, fits, none-refused, still-passed}
 use Rattle.demand.specs.Bake.{gatherInput, bakeOf}
 use Rattle.demand.specs.Demanded.{bake-fair, bake-demand}
-use Rattle.demand.specs.Lasting.{GathersWithin, bake-lasts}
+use Rattle.demand.specs.Lasting.{GathersWithin, unblurred-good, bake-lasts}
 
 -- what the rows of an accepted input say of what is gathered
 pub gather-rows : (b : BakeInput) (s : Stage Float) (a : ℕ) → BakePassed b s a → Rows (gatherInput b)
@@ -46,6 +49,11 @@ gathers b s a p i h =
     let g = gatherInput b in
     let f = fits b s a p in
     coefficients-row (gatheredOf g i) .1 (λ j k. gathered-within g i (gather-rows b s a p) (omega (arith, f .lights)) j (omega (arith, length-gathered g i)))
+
+-- and so do the unblurred volumes of an accepted input, whichever voxels are gathered
+pub accepted-unblurred : (b : BakeInput) (s : Stage Float) (a : ℕ) → BakePassed b s a → (has : ℕ → Bool)
+    → badCoefficients (laid (λ i. cond (has i) (gatheredOf (gatherInput b) i) (ambientAt (b .ambient) (b .lights) i)) (voxelCount b) 0) ≡ false
+accepted-unblurred b s a p has = unblurred-good b (gathers b s a p) s a p has
 
 -- the next call is not refused
 pub goes-on : (b : BakeInput) → Lasts (bakeOf b)

@@ -156,8 +156,25 @@ module _ (b : BakeInput) (gathers : GathersWithin b) where
   good-volume v p n h = rw (h, and-false _) refl
 
   module _ (s : Stage Float) (a : ℕ) (p : BakePassed b s a) where
+    ambient-good : (j : ℕ) → j < voxelCount b → badCoefficients (ambientAt (b .ambient) (b .lights) j) ≡ false
+    unfolding badContents badLighting
+    ambient-good j l =
+        ambient-within (b .ambient) (getD (b .lights) j nan)
+        (any-of-three (badLight (b .light)) (badAmbient (b .ambient)) (badSky (b .sky)) .0 (p .lighting) .1)
+        (lights-row (b .lights) .0 (any-of-three (unusedSet (b .active) (voxelCount b)) (badLights (b .lights)) _ .0 (p .contents) .1) j (omega (arith, fits b s a p .lights)))
+
+    -- whichever voxels are gathered, and the others ambient
+    pub unblurred-good : (has : ℕ → Bool)
+        → badCoefficients (laid (λ i. cond (has i) (gatheredOf (gatherInput b) i) (ambientAt (b .ambient) (b .lights) i)) (voxelCount b) 0) ≡ false
+    unfolding badCoefficients
+    unblurred-good has = none-laid (outside coefficientLimit) _ (voxelCount b) 0 (λ j l. go (has j) j (omega arith))
+      where
+        go : (x : Bool) (j : ℕ) → j < voxelCount b → badCoefficients (cond x (gatheredOf (gatherInput b) j) (ambientAt (b .ambient) (b .lights) j)) ≡ false
+        go true j l = gathers j l
+        go false j l = ambient-good j l
+
     start-good : s .progress < voxelCount b → Good b (started (bakeOf b) (s .progress) (s .volume))
-    unfolding filled badContents badVolume badLighting badCoefficients
+    unfolding filled badContents badVolume badCoefficients
     start-good h = go (s .progress) refl
       where
         f : Fits b s a
@@ -168,10 +185,7 @@ module _ (b : BakeInput) (gathers : GathersWithin b) where
             record {
               long = length-laid voxelNumbers (ambientAt (b .ambient) (b .lights)) (λ i. length-ambient (b .ambient) _) (voxelCount b) 0;
               within =
-                  none-laid (outside coefficientLimit) (ambientAt (b .ambient) (b .lights)) (voxelCount b) 0
-                  (λ j l. ambient-within (b .ambient) (getD (b .lights) j nan)
-                  (any-of-three (badLight (b .light)) (badAmbient (b .ambient)) (badSky (b .sky)) .0 (p .lighting) .1)
-                  (lights-row (b .lights) .0 (any-of-three (unusedSet (b .active) (voxelCount b)) (badLights (b .lights)) _ .0 (p .contents) .1) j (omega (arith, f .lights))));
+                  none-laid (outside coefficientLimit) (ambientAt (b .ambient) (b .lights)) (voxelCount b) 0 (λ j l. ambient-good j (omega arith));
             }
         go (suc q) e =
             let c = any-of-three (unusedSet (b .active) (voxelCount b)) (badLights (b .lights)) _ .0 (p .contents) .2 in

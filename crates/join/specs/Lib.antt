@@ -1,0 +1,3 @@
+-- The public call that joins shares of a bake.
+pub mod Join
+pub mod JoinLaws

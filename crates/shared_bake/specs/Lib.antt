@@ -1,0 +1,3 @@
+-- A bake spread over machines or threads, said of results of public calls, and shown.
+pub mod SharedBake
+pub mod SharedBakeLaws

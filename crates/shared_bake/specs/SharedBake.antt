@@ -1,0 +1,129 @@
+-- A bake spread over machines or threads, said of results of public calls: for masks of which each active voxel stands in exactly one, baked each by itself
+-- to the end, the voxels' numbers taken from the share that has them, then the mean: bit for bit the unbroken bake, rays adding up. Each share has a mask
+-- and lists of its own, and all else of the same input; `join` brings the unblurred volumes of the others onto the first one's; the blur of coefficients
+-- takes the mean. Definitions only; `demand-of-shares` of SharedBakeLaws shows it of whatever satisfies the calls' contracts.
+use mathlib.Core.Path.{_≡_}
+use mathlib.Core.Bool.{Bool, true, false, cond}
+use mathlib.Core.List.{List, [], _∷_, map}
+use Prim.Native.Nat.{ℕ, _*_}
+use lib.ListN.{length}
+use lib.Ieee.{Float}
+use Rattle.marks.specs.Marks.{isMarked}
+use Rattle.words.specs.Words.{entriesOf}
+use Rattle.spread.specs.Spread.{Stage, stage, anyActive, unblurred, unbroken, sum, NoneRefused}
+use Rattle.shares.specs.Shares.{Share, Parted}
+use Rattle.join.specs.Join.{Joined}
+use Rattle.blurs.specs.Blurs.{CoefficientsBlurred}
+use Rattle.intake.specs.Intake.{BakeInput, inputOf, voxelNumbers, voxelCount, bakeRefusal}
+use Rattle.demand.specs.Bake.{bakeOf}
+use Rattle.bake.specs.Results.{Result, lending, Successive, leftBy, refusalsOf, reportedBy, raysBelow}
+
+-- ---- the shares' bakes
+
+-- the input b with another mask, by its words
+abbrev pub sharing : BakeInput → List ℕ → BakeInput
+sharing b mask =
+    inputOf (b .axes) (b .corners) (b .scene) (b .light) (b .ambient) (b .sky) (b .lamps) mask (b .lights) (b .distances) (b .places)
+
+-- a share's mask, the stage and the hit lists that its first call is handed, and the results of its calls, of which there is at least one
+pub record ShareBake : Type 0 where
+  pub mask : List ℕ
+  pub begun : Stage Float
+  pub distances : List Float
+  pub places : List ℕ
+  pub first : Result
+  pub rest : List Result
+
+abbrev pub callsOf : ShareBake → List Result
+callsOf s = s .first ∷ s .rest
+
+-- what the last call left
+abbrev pub endOf : ShareBake → Stage Float
+endOf s = leftBy (s .begun) (callsOf s)
+
+-- the results are those of public calls, begun at progress zero, no call refused, all else handed on unchanged, to the end
+pub record BakedToEnd (b : BakeInput) (s : ShareBake) : Type 0 where
+  pub calls : Successive (sharing b (s .mask)) (s .begun) (s .distances) (s .places) (callsOf s)
+  pub from-zero : s .begun .progress ≡ 0
+  pub unrefused : NoneRefused (refusalsOf (callsOf s))
+  pub to-end : endOf s .progress ≡ voxelCount b
+
+abbrev pub EachBaked : BakeInput → List ShareBake → Type 0
+EachBaked b [] = Unit
+EachBaked b (s ∷ rest) = BakedToEnd b s × EachBaked b rest
+
+module _ (b : BakeInput) where
+  -- whether a share has voxel i
+  abbrev pub shareHas : ShareBake → ℕ → Bool
+  shareHas s = isMarked (entriesOf (s .mask) (voxelCount b))
+
+  abbrev pub shareOf : ShareBake → Share Float
+  shareOf s = record { has = shareHas s; refusal = bakeRefusal (lending (sharing b (s .mask)) (s .distances) (s .places)) }
+
+  -- its unblurred volume: scratch has it, and where the share has no voxel the volume, which no mean was taken of
+  abbrev pub unblurredOf : ShareBake → List Float
+  unblurredOf s = cond (anyActive (shareHas s) (voxelCount b)) (endOf s .scratch) (endOf s .volume)
+
+-- ---- joined
+
+-- a share that is joined onto those before it, the join's answer and what it left
+pub record JoinedShare : Type 0 where
+  pub share : ShareBake
+  pub answer : ℕ
+  pub joined : List Float
+
+-- results of joins one after another onto `joined`: each satisfies the public contract, and what it left is handed on to the next
+abbrev pub JoinedOnto : BakeInput → List Float → List JoinedShare → Type 0
+JoinedOnto b joined [] = Unit
+JoinedOnto b joined (j ∷ rest) =
+    Joined (b .axes) (j .share .mask) (unblurredOf b (j .share)) joined (j .answer) (j .joined) × JoinedOnto b (j .joined) rest
+
+-- what the last of them left
+abbrev pub lastJoined : List Float → List JoinedShare → List Float
+lastJoined joined [] = joined
+lastJoined joined (j ∷ rest) = lastJoined (j .joined) rest
+
+-- ---- all of it
+
+abbrev pub sharesOf : ShareBake → List JoinedShare → List ShareBake
+sharesOf first rest = first ∷ map (λ (j : JoinedShare). j .share) rest
+
+module _ (b : BakeInput) (first : ShareBake) (rest : List JoinedShare) where
+  -- shares of the active voxels of b, baked, and joined onto the first one's unblurred volume
+  pub record Shared : Type 0 where
+    pub parted : Parted (bakeOf b) (map (shareOf b) (sharesOf first rest))
+    pub baked : EachBaked b (sharesOf first rest)
+    pub joins : JoinedOnto b (unblurredOf b first) rest
+
+  abbrev pub allJoined : List Float
+  allJoined = lastJoined (unblurredOf b first) rest
+
+  abbrev pub someActive : Bool
+  someActive = anyActive (isMarked (entriesOf (b .active) (voxelCount b))) (voxelCount b)
+
+  -- what all calls of all shares reported, added
+  abbrev pub allReported : ℕ
+  allReported = sum (map (λ (s : ShareBake). sum (reportedBy (callsOf s))) (sharesOf first rest))
+
+  -- what is demanded of them
+  pub record DemandOfShares : Type 0 where
+    -- no join is refused
+    pub none : NoneRefused (map (λ (j : JoinedShare). j .answer) rest)
+    -- what they leave is the unblurred volume of the unbroken bake
+    pub joined : allJoined ≡ unblurred (bakeOf b)
+    -- where any voxel is active: the blur of that, lent a scratch of its length, is not refused, and volume and scratch are bit for bit the unbroken bake's
+    pub blurred : someActive ≡ true → (scratch : List Float) → length scratch ≡ voxelCount b * voxelNumbers → (r : ℕ) (volume' scratch' : List Float)
+        → CoefficientsBlurred (b .axes) allJoined scratch r volume' scratch'
+        → (r ≡ 0) × (stage (voxelCount b) volume' scratch' ≡ unbroken (bakeOf b) scratch)
+    -- where none is: what is joined is the unbroken bake's volume, of which no mean is taken, and scratch stays
+    pub unblurred-end : someActive ≡ false → (scratch : List Float) → stage (voxelCount b) allJoined scratch ≡ unbroken (bakeOf b) scratch
+    -- what all calls of all shares reported adds up to the rays that the definition fires
+    pub rays : allReported ≡ raysBelow b (voxelCount b)
+
+  -- and so it is bit for bit what results of calls with the whole mask leave, which report as many rays
+  pub record AsOne (whole : ShareBake) : Type 0 where
+    pub blurred : someActive ≡ true → (scratch : List Float) → length scratch ≡ voxelCount b * voxelNumbers → (r : ℕ) (volume' scratch' : List Float)
+        → CoefficientsBlurred (b .axes) allJoined scratch r volume' scratch'
+        → (volume' ≡ endOf whole .volume) × (scratch' ≡ endOf whole .scratch)
+    pub unblurred-end : someActive ≡ false → allJoined ≡ endOf whole .volume
+    pub rays : allReported ≡ sum (reportedBy (callsOf whole))

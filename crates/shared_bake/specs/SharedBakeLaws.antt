@@ -1,0 +1,173 @@
+-- Results of public calls over shares do what is demanded. Each share's calls end as the unbroken bake over its voxels, of which the joins take the unblurred
+-- volumes; these joined are the whole bake's (crate shares). No join and no blur is refused, since what an accepted bake writes lies within ±2^96.
+use mathlib.Core.Path.{_≡_, refl, sym, ap, ap₂, _∙_}
+use mathlib.Core.Bool.{Bool, true, false, cond, not}
+use mathlib.Core.List.{List, [], _∷_, map}
+use Prim.Native.Nat.{ℕ, _+_, _*_, _≤_, _<_}
+use native.Mathlib.Omega.{arith}
+use native.Mathlib.Nat.{add-zero}
+use lib.ListN.{length}
+use lib.Ieee.{Float}
+use borrow.Author.Tests.{eq-eqb}
+use Rattle.names.specs.Refusals.{given}
+use Rattle.names.specs.Passed.{passes}
+use Rattle.grid.specs.Grid.{AxesWithin}
+use Rattle.limits.specs.Limits.{badCoefficients}
+use Rattle.limits.specs.LimitsLaws.{axes-row, either}
+use Rattle.marks.specs.Marks.{isMarked}
+use Rattle.words.specs.Words.{entriesOf}
+use Rattle.spread.specs.Spread.{Stage, stage, Bake, anyActive, blurred, unblurred, unbroken, costs, sum, EachAtLeast, NoneRefused}
+use Rattle.spread.specs.Demand.{Sized}
+use Rattle.shares.specs.Shares.{Share, bakeBy, holders, Parted, joinedBy, unblurredIn, joinedAll, addedOver}
+use Rattle.shares.specs.SharesLaws.{unblurred-in, length-unblurred, length-joined, same-unbroken, all-joined, rays-add-up}
+use Rattle.join.specs.Join.{joinRefusal, Joined}
+use Rattle.join.specs.JoinLaws.{FittingShare, join-accepted}
+use Rattle.ends.specs.Ends.{meanOver}
+use Rattle.blurs.specs.Blurs.{wrongBlurLists, coefficientBlurRows, coefficientBlurRefusal, CoefficientsBlurred}
+use Rattle.intake.specs.Intake.{BakeInput, voxelNumbers, voxelCount, bakeCost}
+use Rattle.intake.specs.IntakeLaws.{BakePassed, Fits, fits, none-refused}
+use Rattle.demand.specs.Bake.{bakeOf}
+use Rattle.demand.specs.Calls.{answers-refusal}
+use Rattle.demand.specs.Demanded.{bake-fair}
+use Rattle.bake.specs.Baked.{Baked}
+use Rattle.bake.specs.GoesOn.{accepted-unblurred}
+use Rattle.bake.specs.Results.{Result, handedOn, lending, Successive, allowancesOf, refusalsOf, reportedBy, raysBelow, DemandOfResults}
+use Rattle.bake.specs.ResultsLaws.{demand-of-results}
+use Rattle.shared_bake.specs.SharedBake.{sharing, ShareBake, callsOf, endOf, BakedToEnd, EachBaked, shareHas, shareOf, unblurredOf, JoinedShare, JoinedOnto, lastJoined, sharesOf, Shared, allJoined, someActive, allReported, DemandOfShares, AsOne}
+
+-- ---- calls that are not refused
+
+accepted-call : {i : BakeInput} {s : Stage Float} {c : Result} {d : List Float} {p : List ℕ}
+    → Baked i s (c .allowance) (c .answer) (c .volume) (c .scratch) d (c .distances) p (c .places) → c .answer .refusal ≡ 0 → BakePassed i s (c .allowance)
+accepted-call {i} {s} {c} f z = none-refused i s (c .allowance) .0 (sym (answers-refusal i s (c .allowance)) ∙ sym (f .refusal) ∙ z)
+
+-- their allowances hold a voxel's cost
+allowances-hold : (b : BakeInput) (s : Stage Float) (d : List Float) (p : List ℕ) (results : List Result) → Successive b s d p results
+    → NoneRefused (refusalsOf results) → EachAtLeast (bakeCost b) (allowancesOf results)
+allowances-hold b s d p [] h n = tt
+allowances-hold b s d p (c ∷ rest) h n =
+    let i = lending b d p in
+    (fits i s (c .allowance) (accepted-call {c = c} (h .0) (n .0)) .allowance, allowances-hold b (handedOn c) (c .distances) (c .places) rest (h .1) (n .1))
+
+-- ---- one share
+
+module _ (b : BakeInput) where
+  abbrev overShare : ShareBake → Bake Float
+  overShare s = bakeBy (bakeOf b) (shareOf b s)
+
+  abbrev inputBy : ShareBake → BakeInput
+  inputBy s = lending (sharing b (s .mask)) (s .distances) (s .places)
+
+  module _ (s : ShareBake) (h : BakedToEnd b s) where
+    begins : BakePassed (inputBy s) (s .begun) (s .first .allowance)
+    begins = accepted-call {c = s .first} (h .calls .0) (h .unrefused .0)
+
+    demanded : DemandOfResults (inputBy s) (s .begun) (s .first) (s .rest)
+    demanded =
+        demand-of-results (sharing b (s .mask)) (s .begun) (s .distances) (s .places) (s .first) (s .rest) (h .calls) (h .from-zero)
+        (allowances-hold (sharing b (s .mask)) (s .begun) (s .distances) (s .places) (callsOf s) (h .calls) (h .unrefused))
+        (h .unrefused .0)
+
+    -- it ends as the unbroken bake over its voxels
+    ended : endOf s ≡ unbroken (overShare s) (s .begun .scratch)
+    ended = demanded .end (h .to-end)
+
+    unblurred-left : unblurredOf b s ≡ unblurred (overShare s)
+    unblurred-left = ap (unblurredIn (overShare s)) ended ∙ unblurred-in (overShare s) (s .begun .scratch)
+
+    reported : sum (reportedBy (callsOf s)) ≡ costs (overShare s) (voxelCount b) 0
+    reported = demanded .sums (h .to-end)
+
+    axes-within : AxesWithin (b .axes)
+    axes-within = fits (inputBy s) (s .begun) (s .first .allowance) begins .axes
+
+    sized : Sized (bakeOf b)
+    sized = bake-fair b axes-within .sized
+
+    -- whichever voxels are gathered, all numbers lie within ±2^96
+    good : (t : Share Float) → badCoefficients (unblurred (bakeBy (bakeOf b) t)) ≡ false
+    unfolding unblurred
+    good t = accepted-unblurred (inputBy s) (s .begun) (s .first .allowance) begins (t .has)
+
+    -- a join of it is not refused
+    joins : (joined : List Float) → length joined ≡ voxelCount b * voxelNumbers → joinRefusal (b .axes) (s .mask) (unblurredOf b s) joined ≡ 0
+    joins joined e =
+        join-accepted (b .axes) (s .mask) (unblurredOf b s) joined
+        (record {
+          axes-within = axes-within;
+          share-tidy = fits (inputBy s) (s .begun) (s .first .allowance) begins .active;
+          unblurred-fits = ap length unblurred-left ∙ length-unblurred (bakeOf b) sized (shareOf b s);
+          joined-fits = e;
+          unblurred-good = ap badCoefficients unblurred-left ∙ good (shareOf b s);
+        })
+
+  -- ---- all shares
+
+  -- the joins are those of the definition, and none is refused
+  joins-all : (joined x : List Float) → joined ≡ x → length x ≡ voxelCount b * voxelNumbers → (rest : List JoinedShare)
+      → EachBaked b (map (λ (j : JoinedShare). j .share) rest)
+      → JoinedOnto b joined rest
+      → NoneRefused (map (λ (j : JoinedShare). j .answer) rest)
+      × (lastJoined joined rest ≡ joinedAll (bakeOf b) (map (shareOf b) (map (λ (j : JoinedShare). j .share) rest)) x)
+  unfolding joinedAll
+  joins-all joined x e l [] h k = (tt, e)
+  joins-all joined x e l (j ∷ rest) h k =
+      let s = j .share in
+      let z : j .answer ≡ 0 = k .0 .answer ∙ joins s (h .0) joined (ap length e ∙ l) in
+      let has = shareHas b s in
+      let left : j .joined ≡ joinedBy voxelNumbers (voxelCount b) has (unblurred (overShare s)) x
+      = k .0 .joined-after ∙ sym (given (j .answer) _ joined z) ∙ ap₂ (joinedBy voxelNumbers (voxelCount b) has) (unblurred-left s (h .0)) e in
+      let long = length-joined voxelNumbers (voxelCount b) has (unblurred (overShare s)) x (length-unblurred (bakeOf b) (sized s (h .0)) (shareOf b s)) l in
+      let r = joins-all (j .joined) _ left long rest (h .1) (k .1) in
+      ((z, r .0), r .1)
+
+  reported-all : (shares : List ShareBake) → EachBaked b shares
+      → sum (map (λ (s : ShareBake). sum (reportedBy (callsOf s))) shares) ≡ addedOver (λ t. costs (bakeBy (bakeOf b) t) (voxelCount b) 0) (map (shareOf b) shares)
+  unfolding sum
+  reported-all [] h = refl
+  reported-all (s ∷ rest) h = ap₂ (λ (x y : ℕ). x + y) (reported s (h .0)) (reported-all rest (h .1))
+
+-- ---- all of it
+
+-- a blur of lists that fit is not refused
+blur-accepted : (b : BakeInput) (volume scratch : List Float) → AxesWithin (b .axes) → length volume ≡ voxelCount b * voxelNumbers
+    → length scratch ≡ voxelCount b * voxelNumbers → badCoefficients volume ≡ false → coefficientBlurRefusal (b .axes) volume scratch ≡ 0
+unfolding coefficientBlurRefusal wrongBlurLists
+blur-accepted b volume scratch a l m g =
+    passes (coefficientBlurRows (b .axes) volume scratch)
+    (axes-row (b .axes) .1 a, (either _ _ .1 (ap not (eq-eqb _ _ l), ap not (eq-eqb _ _ m)), (g, tt)))
+
+module _ (b : BakeInput) (first : ShareBake) (rest : List JoinedShare) (h : Shared b first rest) where
+  abbrev one : BakedToEnd b first
+  one = h .baked .0
+
+  joined-all : NoneRefused (map (λ (j : JoinedShare). j .answer) rest) × (allJoined b first rest ≡ unblurred (bakeOf b))
+  joined-all =
+      let z = sized b first one in
+      let r = joins-all b (unblurredOf b first) (unblurred (overShare b first)) (unblurred-left b first one) (length-unblurred (bakeOf b) z (shareOf b first)) rest (h .baked .1) (h .joins) in
+      (r .0, r .1 ∙ all-joined (bakeOf b) z (shareOf b first) (map (shareOf b) (map (λ (j : JoinedShare). j .share) rest)) (h .parted))
+
+  -- the bake over all active voxels, as a share
+  abbrev everyVoxel : Share Float
+  everyVoxel = record { has = bakeOf b .active; refusal = bakeOf b .refusal }
+
+  pub demand-of-shares : DemandOfShares b first rest
+  unfolding unbroken
+  demand-of-shares =
+      let e = joined-all .1 in
+      let z = sized b first one in
+      record {
+        none = joined-all .0;
+        joined = e;
+        blurred = λ t scratch l r volume' scratch' p.
+            let long : length (allJoined b first rest) ≡ voxelCount b * voxelNumbers = ap length e ∙ length-unblurred (bakeOf b) z everyVoxel in
+            let fine : badCoefficients (allJoined b first rest) ≡ false = ap badCoefficients e ∙ good b first one everyVoxel in
+            let n : r ≡ 0 = p .answer ∙ blur-accepted b (allJoined b first rest) scratch (axes-within b first one) long l fine in
+            let v : volume' ≡ meanOver (b .axes) (unblurred (bakeOf b)) = p .volume-after ∙ sym (given r _ _ n) ∙ ap (meanOver (b .axes)) e in
+            let s : scratch' ≡ unblurred (bakeOf b) = p .scratch-after ∙ sym (given r _ _ n) ∙ e in
+            (n, ap₂ (stage (voxelCount b)) v s ∙ sym (ap (λ (x : Bool). cond x (stage (voxelCount b) (meanOver (b .axes) (unblurred (bakeOf b))) (unblurred (bakeOf b))) (stage (voxelCount b) (unblurred (bakeOf b)) scratch)) t));
+        unblurred-end = λ t scratch.
+            ap (λ (v : List Float). stage (voxelCount b) v scratch) e
+            ∙ sym (ap (λ (x : Bool). cond x (stage (voxelCount b) (meanOver (b .axes) (unblurred (bakeOf b))) (unblurred (bakeOf b))) (stage (voxelCount b) (unblurred (bakeOf b)) scratch)) t);
+        rays = reported-all b (sharesOf first rest) (h .baked) ∙ rays-add-up (bakeOf b) (map (shareOf b) (sharesOf first rest)) (h .parted);
+      }
