@@ -327,8 +327,8 @@ module _ (view : Axes) (before after : List ℕ) (m : ℕ) (whole : m ≡ view .
             let a = any-out _ (view .height) 0 e in
             let k : ℕ = a .0 in
             let hk : k < view .height = omega (arith, a .2) in
-            let p = near-out k c (a .3) in
             let inside : k * view .width + r < m = omega (arith, whole, place {a = k} {m = view .height} {b = r} {n = view .width} hk hr) in
+            let p = near-out k c (a .3) in
             let one : bitAt before (o * m + (k * view .width + r)) ≡ 1 = sym (entry k hk) ∙ eqb-true (getD entries (indexOf view r k o) 0) 1 (p .0) in
             eq-eqb (bitAt after (indexOf view r c o)) 1 (sym (ap (bitAt after) (in-block r c o)) ∙ new .spread o ho .near-marked r c hr here (k, inside, p .1, p .2, one))
 

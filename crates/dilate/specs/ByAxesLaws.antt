@@ -1,11 +1,10 @@
 -- Dilating along x, then y, then z gives the active mask: the box round a voxel is the product of what lies within 2 on each axis.
 use mathlib.Core.Path.{_≡_, refl, sym, ap, _∙_}
 use mathlib.Core.Bool.{Bool, true, false, cond, _&&_}
-use mathlib.Core.Logic.{_≢_, ⊎-elim}
 use mathlib.Core.List.{List}
-use Prim.Native.Nat.{ℕ, zero, suc, _+_, _*_, _/_, _%_, _≤_, _<_}
+use Prim.Native.Nat.{ℕ, _+_, _*_, _<_}
 use native.Mathlib.Omega.{arith}
-use native.Mathlib.Nat.{mul-assoc, add-mul, mul-pos, mul-one, zero-add, zero-mul}
+use native.Mathlib.Nat.{mul-assoc, add-mul, mul-one, zero-add, zero-mul}
 use lib.Dec.{eqb}
 use lib.ListN.{length, getD}
 use lib.Seq.{ext-getD}

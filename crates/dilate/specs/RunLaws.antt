@@ -6,11 +6,11 @@ use Prim.Native.Nat.{ℕ, zero, suc, _+_, _-_, _*_, _/_, _%_, _^_, _≤_, _<_, m
 use native.Mathlib.Omega.{arith}
 use native.Mathlib.Nat.{zero-max, max-zero, mod-lt, mul-assoc}
 use lib.Bits.{bitOr, or-step}
-use lib.Pow.{pow-pos, pow-add, shr-shr, shl-shr, field, mod-mod-pow, shr-lt}
+use lib.Pow.{pow-pos, pow-add, shl-shr, field, mod-mod-pow}
 use lib.ListN.{length, getD, set, length-set}
 use lib.Seq.{getD-set-same, getD-set-other}
 use Rattle.words.specs.Words.{bitOf, bitAt, AreWords}
-use Rattle.words.specs.BitLaws.{below-or-from, same-or-not, bit-suc, bit-zero, bit-lt, zero-bits, bit-shifted, bit-beyond}
+use Rattle.words.specs.BitLaws.{below-or-from, same-or-not, bit-suc, bit-zero, zero-bits, bit-shifted, bit-beyond}
 use Rattle.dilate.specs.ByBlocks.{Run, Ored, Merged}
 
 -- ---- one of two bits

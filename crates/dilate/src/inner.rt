@@ -1,6 +1,6 @@
 // The active mask: the occupied mask is copied into it and dilated there, along x, then along y, then along z. Each time runs of 64 bits are taken together.
 ghost use mathlib.Core.Path.{_≡_};
-ghost use Prim.Native.Nat.{ℕ, _+_, _*_, _%_, _^_, _<_, _≤_, min};
+ghost use Prim.Native.Nat.{ℕ, _+_, _*_, _%_, _^_, _<_, _≤_};
 ghost use lib.ListN.{length};
 ghost use Rattle.grid.specs.Grid.{voxels};
 ghost use Rattle.words.specs.Words.{bitOf, entriesOf, Tidy, Holds};

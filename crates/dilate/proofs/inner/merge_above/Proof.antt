@@ -1,6 +1,6 @@
 -- `dilate::inner::merge_above`: the first i bits are set, and from there on all is as it was, what is read too. Assumes nothing.
 use mathlib.Core.Path.{_≡_, refl, subst, _∙_}
-use Prim.Native.Nat.{ℕ, _+_, _-_, _≤_}
+use Prim.Native.Nat.{ℕ, _-_, _≤_}
 use native.Mathlib.Omega.{arith}
 use lib.ListN.{length}
 use Rattle.dilate.specs.ByBlocks.{Merged}
