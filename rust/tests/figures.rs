@@ -62,8 +62,10 @@ fn grids() {
     assert_eq!((occupied, active), ([0b1], [0b111]));
     assert_eq!(masks(Axes { width: 33, ..axes }, unit_box(6.0), &points, &mut occupied, &mut active), Err(Refusal::Axis));
     assert_eq!(masks(axes, unit_box(f32::NAN), &points, &mut occupied, &mut active), Err(Refusal::Corner));
-    assert_eq!(masks(axes, unit_box(6.0), &points, &mut [], &mut active), Err(Refusal::Length));
-    assert_eq!(masks(axes, unit_box(6.0), &points, &mut occupied, &mut [0; 2]), Err(Refusal::Length));
+    for words in [0, 2] {
+        assert_eq!(masks(axes, unit_box(6.0), &points, &mut vec![0; words], &mut active), Err(Refusal::Length));
+        assert_eq!(masks(axes, unit_box(6.0), &points, &mut occupied, &mut vec![0; words]), Err(Refusal::Length));
+    }
     assert_eq!((occupied, active), ([0b1], [0b111]));
     let (mut light, mut scratch) = ([1.0, 0.0], [0.0; 2]);
     light_blur(Axes { width: 2, ..ONE }, &mut light, &mut scratch).unwrap();
@@ -170,7 +172,7 @@ fn lookups_and_files() {
     let (mut light, mut volume, mut occupied, mut active) = ([0.0], [1.0; 16], [0], [0]);
     read_volume(&bytes, &mut light, &mut volume, &mut occupied, &mut active).unwrap();
     assert_eq!((light, volume, occupied, active), ([0.25], [0.0; 16], [1], [1]));
-    for (occupied, active) in [(&[][..], &[1][..]), (&[1], &[1, 0])] {
+    for (occupied, active) in [(&[][..], &[1][..]), (&[1, 0], &[1]), (&[1], &[]), (&[1], &[1, 0])] {
         assert_eq!(write_volume(ONE, unit_box(1.0), &[0.25], &[0.0; 16], occupied, active, &mut bytes.clone()), Err(Refusal::Length));
         assert_eq!(read_volume(&bytes, &mut light, &mut volume, &mut occupied.to_vec(), &mut active.to_vec()), Err(Refusal::Length));
     }

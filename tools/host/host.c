@@ -43,7 +43,7 @@ static float numbers[7 * M] = {
 static const float lamps[54] = {2, 2, 3, 6, 5, 4}; /* a lamp in the hall, and eight black ones at a corner; as many numbers are lent as a check asks for */
 static size_t lamp_numbers = 0;
 static uint64_t occupied[WORDS], active[WORDS];
-static size_t active_words = WORDS; /* as many words are lent as a check asks for */
+static size_t occupied_words = WORDS, active_words = WORDS; /* as many words are lent as a check asks for */
 static float lights[N], lights_scratch[N], volume[16 * N], scratch[16 * N], distances[T];
 static size_t places[T];
 static uint8_t file[BYTES];
@@ -159,7 +159,7 @@ static uint32_t sun_refusal(void) { return sun(light.direction, active).refusal;
 
 static uint32_t bake_refusal(void) { return bake(volume, scratch, 0, UINT64_MAX).refusal; }
 
-static uint32_t write_refusal(void) { return geaidnosa_write_volume(axes, corners, lights, N, volume, 16 * N, occupied, WORDS, active, active_words, file, BYTES); }
+static uint32_t write_refusal(void) { return geaidnosa_write_volume(axes, corners, lights, N, volume, 16 * N, occupied, occupied_words, active, active_words, file, BYTES); }
 
 /* of every list that those three write */
 static uint64_t written_sum(void) {
@@ -181,14 +181,14 @@ static int refuses_unused(uint64_t *mask, uint32_t (*call)(void)) {
     return good;
 }
 
-/* with a word of the active mask too few and one too many the call refuses 3 and writes nothing */
-static int refuses_word_counts(uint32_t (*call)(void)) {
+/* with a word of the mask too few and one too many the call refuses 3 and writes nothing */
+static int refuses_word_counts(size_t *words, uint32_t (*call)(void)) {
     uint64_t before = written_sum();
-    active_words = WORDS - 1;
+    *words = WORDS - 1;
     int good = call() == 3;
-    active_words = WORDS + 1;
+    *words = WORDS + 1;
     good = good && call() == 3;
-    active_words = WORDS;
+    *words = WORDS;
     return good && written_sum() == before;
 }
 
@@ -268,7 +268,7 @@ static void check_sun(uint64_t actives) {
     for (int i = 0; i < N; i++) ones = ones && lights[i] == 1;
     check("sun: no voxel active, all 1.0, scratch as it was", ones);
     check("sun: an unused bit of the mask set, each in turn, refuses 13 and writes nothing", refuses_unused(active, sun_refusal));
-    check("sun: a word too few and one too many, refuses 3 and writes nothing", refuses_word_counts(sun_refusal));
+    check("sun: a word too few and one too many, refuses 3 and writes nothing", refuses_word_counts(&active_words, sun_refusal));
     s = sun(light.direction, active);
     check("sun: a ray for each active voxel", s.refusal == 0 && s.rays == actives);
     check("sun: the light is the squared mean of scratch", same_mean(lights, lights_scratch, 1, 1));
@@ -306,7 +306,7 @@ static void check_bake(void) {
     b = bake(volume, scratch, N / 2, 384);
     check("bake: under way with a volume of NaN, refuses 13", b.refusal == 13 && b.progress == N / 2);
     check("bake: an unused bit of the mask set, each in turn, refuses 13 and writes nothing", refuses_unused(active, bake_refusal));
-    check("bake: a word too few and one too many, refuses 3 and writes nothing", refuses_word_counts(bake_refusal));
+    check("bake: a word too few and one too many, refuses 3 and writes nothing", refuses_word_counts(&active_words, bake_refusal));
     b = bake(volume, scratch, 0, UINT64_MAX);
     uint64_t rays = b.rays;
     check("bake: unbroken, to the end", b.refusal == 0 && b.progress == N && rays >= 64);
@@ -399,7 +399,8 @@ static void check_file(uint64_t occupieds, uint64_t actives) {
     check("volume_bytes: 96 + 70·N", needed.refusal == 0 && needed.bytes == BYTES);
     check("write_volume: one byte too many, refuses 3", geaidnosa_write_volume(axes, corners, lights, N, volume, 16 * N, occupied, WORDS, active, WORDS, large, BYTES + 1) == 3);
     check("write_volume: an unused bit of either mask set, each in turn, refuses 13 and writes nothing", refuses_unused(occupied, write_refusal) && refuses_unused(active, write_refusal));
-    check("write_volume: a word too few and one too many, refuses 3 and writes nothing", refuses_word_counts(write_refusal));
+    check("write_volume: a word of either mask too few and one too many, refuses 3 and writes nothing",
+          refuses_word_counts(&occupied_words, write_refusal) && refuses_word_counts(&active_words, write_refusal));
     check("write_volume: written", write_refusal() == 0 && !memcmp(file, "VGRD\5\0\4\0\14\0\5\0", 12));
     GeaidnosaHead h = geaidnosa_file_axes(file, BYTES);
     check("file_axes: axes and corners as written",
