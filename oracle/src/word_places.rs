@@ -363,7 +363,7 @@ fn with_bit(call: &Call, bit: usize) -> Call {
 /// voxel is active in the sun pass and few in the masks, so that the answer stays short.
 fn base(module: &str, axes: [u64; 3]) -> Call {
     let n = voxels(&grid(axes));
-    let large = n > 128 + 64;
+    let large = n > 192;
     let turns = |n: usize| (0..n).map(|i| (i % 2) as u8).collect::<Vec<u8>>();
     match module {
         "masks" => masks_call(axes, speck(&grid(axes), if large { 0 } else { n / 2 }).to_vec(), turns(64 * needed(n)), turns(n)),
