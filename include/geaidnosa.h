@@ -1,4 +1,4 @@
-/* Geaidnosa 0.1.0: the public calls of the light bake, for C and C++ on x86-64. Link libgeaidnosa.a.
+/* Geaidnosa 0.2.0: the public calls of the light bake, for C and C++ on x86-64. Link libgeaidnosa.a.
  *
  * A bake, call by call. geaidnosa_masks marks the voxels at and near surfaces; geaidnosa_sun finds how much of the sun each of them sees;
  * geaidnosa_directions gives the directions along which the caller fills the sky; geaidnosa_bake, called until its progress is the voxel count, fills the
@@ -48,14 +48,15 @@
  *   10  an allowance below 384 + 64·lamps
  *   11  a position not finite or beyond 4,096, or a voxel index past the grid
  *   12  any fault in a volume file
- *   13  a mask's entry not 0 or 1; a light not finite or beyond 2^64 in magnitude; a coefficient not finite or beyond 2^96
+ *   13  an unused bit of a mask set; a light not finite or beyond 2^64 in magnitude; a coefficient not finite or beyond 2^96
  *   14  more than 65,536 bytes
  *   19  more than eight lamps, a lamp's position not finite or beyond 4,096 in magnitude, or its colour not finite or beyond 65,536
  *
  * Lengths. N is the voxel count, width·height·depth; voxel (x,y,z) has the index x + width·(y + height·z). T is the triangle count.
  *   points      9·T: p0 x y z, p1 x y z, p2 x y z of each triangle       uses     T: the material of each triangle (this list gives T)
  *   kinds       one a material, 0 opaque or 1 translucent                 numbers  7 a material: base RGB, emissive RGB, transmission
- *   occupied, active   N: 0 or 1; every call that takes both takes occupied first
+ *   occupied, active   (N+63)/64 words: voxel i is bit i%64 of word i/64, the lowest bit first; bits past the last voxel are 0. Voxel i is marked where
+ *               (mask[i / 64] >> (i % 64)) & 1 is 1. Every call that takes both takes occupied first. In a volume file a mask has a byte a voxel.
  *   light (sun, blur, lookups, file), lights (bake), and a light's scratch   N
  *   volume, and its scratch   16·N: the four coefficients of each voxel, x y z w of each in turn
  *   sky, and the list of directions   1,728: three numbers of direction i of set s from 3·(64·s + i) on
@@ -77,10 +78,10 @@ extern "C" {
 /* ---- the version: below 1.0 a new second number may change a call */
 
 #define GEAIDNOSA_VERSION_MAJOR 0
-#define GEAIDNOSA_VERSION_MINOR 1
+#define GEAIDNOSA_VERSION_MINOR 2
 #define GEAIDNOSA_VERSION_PATCH 0
-#define GEAIDNOSA_VERSION "0.1.0"
-#define GEAIDNOSA_VERSION_NUMBER 1000 /* major·1,000,000 + minor·1,000 + patch */
+#define GEAIDNOSA_VERSION "0.2.0"
+#define GEAIDNOSA_VERSION_NUMBER 2000 /* major·1,000,000 + minor·1,000 + patch */
 
 /* ---- what calls take */
 
@@ -251,8 +252,8 @@ GeaidnosaMarked geaidnosa_masks(
     GeaidnosaAxes axes,
     GeaidnosaCorners corners,
     const float *points, size_t points_length,
-    uint8_t *occupied, size_t occupied_length,
-    uint8_t *active, size_t active_length);
+    uint64_t *occupied, size_t occupied_length,
+    uint64_t *active, size_t active_length);
 
 /* Scratch gets the light as it was, and the light the square of its 3×3×3 mean. Refuses 1, 3, 13. */
 uint32_t geaidnosa_light_blur(
@@ -277,7 +278,7 @@ GeaidnosaSunned geaidnosa_sun(
     const uint8_t *kinds, size_t kinds_length,
     const float *numbers, size_t numbers_length,
     GeaidnosaVec3 direction,
-    const uint8_t *active, size_t active_length,
+    const uint64_t *active, size_t active_length,
     float *light, size_t light_length,
     float *scratch, size_t scratch_length,
     float *distances, size_t distances_length,
@@ -301,7 +302,7 @@ GeaidnosaBakeAnswer geaidnosa_bake(
     GeaidnosaAmbient ambient,
     const float *sky, size_t sky_length,
     const float *lamps, size_t lamps_length,
-    const uint8_t *active, size_t active_length,
+    const uint64_t *active, size_t active_length,
     const float *lights, size_t lights_length,
     float *volume, size_t volume_length,
     float *scratch, size_t scratch_length,
@@ -374,8 +375,8 @@ GeaidnosaHead geaidnosa_read_volume(
     const uint8_t *bytes, size_t bytes_length,
     float *light, size_t light_length,
     float *volume, size_t volume_length,
-    uint8_t *occupied, size_t occupied_length,
-    uint8_t *active, size_t active_length);
+    uint64_t *occupied, size_t occupied_length,
+    uint64_t *active, size_t active_length);
 
 /* Writes a file over bytes, which has exactly as many as geaidnosa_volume_bytes answers. Refuses 1, 2, 3, 13. */
 uint32_t geaidnosa_write_volume(
@@ -383,8 +384,8 @@ uint32_t geaidnosa_write_volume(
     GeaidnosaCorners corners,
     const float *light, size_t light_length,
     const float *volume, size_t volume_length,
-    const uint8_t *occupied, size_t occupied_length,
-    const uint8_t *active, size_t active_length,
+    const uint64_t *occupied, size_t occupied_length,
+    const uint64_t *active, size_t active_length,
     uint8_t *bytes, size_t bytes_length);
 
 /* What volstat prints of a file: axes, occupied and active counts, and how many lights are zero. Refuses 14, then 12. */

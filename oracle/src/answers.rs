@@ -1,11 +1,12 @@
 //! The Rust's answer to each call: the refusal by the table, else what the copies give.
-use crate::calls::{bits, bytes, halves, word, Answer, Bake, Call, Grid, Lists, Ray, Scratch};
+use crate::calls::{bits, halves, word, Answer, Bake, Call, Grid, Lists, Ray, Scratch};
 use crate::math::Vec3x4;
 use crate::raytracer::{ray_triangle_intersect, RayTracer};
 use crate::scene::Scene;
 use crate::voxelgrid::VoxelGrid;
 use crate::watch::{self, Fired};
-use crate::{gi, table};
+use crate::worlds::voxels;
+use crate::{gi, table, words};
 use glam::{Vec3A, Vec4};
 
 pub fn vector(v: &[f32]) -> Vec3A {
@@ -22,8 +23,10 @@ pub fn voxel_grid(grid: &Grid) -> VoxelGrid {
     VoxelGrid::new(a[0] as usize, a[1] as usize, a[2] as usize, vector(&grid.corners), vector(&grid.corners[3..]))
 }
 
-pub fn flags(mask: &[u8]) -> Vec<bool> {
-    mask.iter().map(|m| *m == 1).collect()
+/// The voxels of a grid that are in a lent mask, as the copies take them.
+pub fn flags(mask: &[u8], grid: &Grid) -> Vec<bool> {
+    let words = words::lent(mask);
+    (0..voxels(grid)).map(|i| words::voxel(&words, i)).collect()
 }
 
 pub fn packed(volume: &[f32]) -> Vec<[Vec4; 4]> {
@@ -66,7 +69,7 @@ pub fn sunned(grid: &Grid, lists: &Lists, direction: [f32; 3], active: Option<&[
     let tracer = RayTracer::new(&scene);
     let mut voxels = voxel_grid(grid);
     if let Some(mask) = active {
-        voxels.set_active_mask(flags(mask));
+        voxels.set_active_mask(flags(mask, grid));
     }
     watch::take_rays();
     watch::take_light();
@@ -93,7 +96,7 @@ pub fn baked(bake: &Bake, active: Option<&[u8]>) -> Baked {
     let tracer = RayTracer::new(&scene);
     let mut voxels = voxel_grid(&bake.grid);
     if let Some(mask) = active {
-        voxels.set_active_mask(flags(mask));
+        voxels.set_active_mask(flags(mask, &bake.grid));
     }
     voxels.set_light_intensity_data(bake.light.clone());
     gi::initialize_voxel_gi_from_scene(&scene, &mut voxels, 1.0, 1.0);
@@ -122,7 +125,8 @@ pub fn blurred_volume(grid: &Grid, volume: &[f32]) -> Vec<f32> {
 
 /// One call of the bake, by module 7's rule over the Rust's own figures of each voxel. Answers progress and rays.
 pub fn bake_call(bake: &mut Bake, figures: &Baked) -> (u64, u64) {
-    let n = bake.active.len();
+    let active = flags(&bake.active, &bake.grid);
+    let n = active.len();
     let start = bake.progress as usize;
     if start == n {
         return (n as u64, 0);
@@ -134,7 +138,7 @@ pub fn bake_call(bake: &mut Bake, figures: &Baked) -> (u64, u64) {
     let mut rays = 0;
     let mut at = start;
     while at < n {
-        if bake.active[at] == 1 {
+        if active[at] {
             if bake.allowance - rays < cost {
                 return (at as u64, rays);
             }
@@ -144,7 +148,7 @@ pub fn bake_call(bake: &mut Bake, figures: &Baked) -> (u64, u64) {
         }
         at += 1;
     }
-    if bake.active.contains(&1) {
+    if active.contains(&true) {
         bake.scratch.copy_from_slice(&bake.volume);
         bake.volume = blurred_volume(&bake.grid, &bake.scratch);
     }
@@ -203,7 +207,7 @@ pub fn answer(call: &Call) -> Answer {
         }
         Call::Masks { grid, points, occupied, active } => {
             if !good {
-                return Answer { words: vec![refusal, 0, 0], lists: vec![bytes(occupied), bytes(active)] };
+                return Answer { words: vec![refusal, 0, 0], lists: [occupied, active].map(|mask| words::read_back(&words::lent(mask), mask.len())).to_vec() };
             }
             let lists = Lists {
                 points: points.clone(),
@@ -214,9 +218,12 @@ pub fn answer(call: &Call) -> Answer {
             let scene = bare(&lists);
             let mut voxels = voxel_grid(grid);
             gi::build_active_voxel_mask(&RayTracer::new(&scene), &scene, &mut voxels);
-            let mask = |m: Option<&[bool]>| m.expect("set").iter().map(|b| *b as u32).collect::<Vec<u32>>();
-            let (occupied, active) = (mask(voxels.occupied_mask()), mask(voxels.active_mask()));
-            Answer { words: vec![0, occupied.iter().sum(), active.iter().sum()], lists: vec![occupied, active] }
+            let answered = [(voxels.occupied_mask(), occupied), (voxels.active_mask(), active)].map(|(mask, lent)| {
+                assert!(lent.len() >= voxels.voxel_count(), "each voxel can be read back");
+                let words = words::of(mask.expect("set"));
+                (words::counted(&words), words::read_back(&words, lent.len()))
+            });
+            Answer { words: vec![0, answered[0].0, answered[1].0], lists: answered.map(|mask| mask.1).to_vec() }
         }
         Call::LightBlur { axes, light, scratch } => {
             if !good {
@@ -241,7 +248,7 @@ pub fn answer(call: &Call) -> Answer {
                 return Answer { words: vec![refusal, 0, 0], lists: after };
             }
             let s = sunned(grid, lists, *direction, Some(active));
-            let count = active.iter().filter(|a| **a == 1).count() as u64;
+            let count = flags(active, grid).iter().filter(|a| **a).count() as u64;
             assert!(s.rays.len() as u64 == count, "the sun pass fires a ray for each active voxel");
             let held = if count == 0 { bits(scratch) } else { bits(&s.before) };
             let mut after = vec![bits(&s.after), held];

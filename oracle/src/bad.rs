@@ -1,8 +1,10 @@
 //! Calls that break each accepted number in turn, by the least step and in both directions, several at once, lengths one off either
-//! way, 4,097 triangles, 257 materials, nine lamps, NaN and infinities; and beside each the accepted number next to it.
+//! way, of masks in words, 4,097 triangles, 257 materials, nine lamps, unused bits, NaN and infinities; and beside each the accepted number
+//! next to it.
 use crate::calls::{Bake, Call, Grid, Lists, Ray, Scratch};
 use crate::chance::Chance;
 use crate::table;
+use crate::words;
 use crate::worlds::{self, step, voxels, World};
 use std::rc::Rc;
 
@@ -153,7 +155,18 @@ fn mask_of(call: &mut Call) -> Option<&mut Vec<u8>> {
     }
 }
 
-/// The lists whose length must be exact, each made `by` longer (shorter where negative).
+/// Sets the bit of a mask that would be voxel `bit`'s, in a list as long as it takes.
+pub fn set_bit(mask: &mut Vec<u8>, bit: usize) {
+    mask.resize(mask.len().max(bit + 1), 0);
+    mask[bit] = 1;
+}
+
+/// The bits of a mask's words that stand for none of its voxels.
+pub fn unused(voxels: usize) -> std::ops::Range<usize> {
+    voxels..64 * words::needed(voxels)
+}
+
+/// The lists whose length must be exact, each made `by` longer (shorter where negative), a mask by so many words.
 fn resized(call: &mut Call, which: usize, by: i64) -> Option<&'static str> {
     fn fit<T: Clone + Default>(l: &mut Vec<T>, by: i64) {
         let n = (l.len() as i64 + by).max(0) as usize;
@@ -166,15 +179,26 @@ fn resized(call: &mut Call, which: usize, by: i64) -> Option<&'static str> {
         k == usize::MAX
     };
     macro_rules! lists { ($($l:expr => $name:literal),*) => { { $( if here() { fit($l, by); return Some($name); } )* } }; }
+    macro_rules! masks { ($($l:expr => $name:literal),*) => { { $( if here() { fit($l, 64 * by); return Some(concat!($name, " by words")); } )* } }; }
     if let Some(l) = lists_of(call) {
         lists!(&mut l.points => "points", &mut l.uses => "uses", &mut l.kinds => "kinds", &mut l.numbers => "material numbers");
     }
     match call {
-        Call::Masks { points, occupied, active, .. } => lists!(points => "points", occupied => "occupied", active => "active"),
+        Call::Masks { points, occupied, active, .. } => {
+            lists!(points => "points");
+            masks!(occupied => "occupied", active => "active");
+        }
         Call::LightBlur { light, scratch, .. } => lists!(light => "light", scratch => "light scratch"),
         Call::CoefficientBlur { volume, scratch, .. } => lists!(volume => "volume", scratch => "scratch"),
-        Call::Sun { active, light, scratch, .. } => lists!(active => "active", light => "light", scratch => "light scratch"),
-        Call::Bake(b) => lists!(&mut b.sky => "sky", &mut b.lamps => "lamps", &mut b.active => "active", &mut b.light => "light", &mut b.volume => "volume", &mut b.scratch => "scratch"),
+        Call::Sun { active, light, scratch, .. } => {
+            masks!(active => "active");
+            lists!(light => "light", scratch => "light scratch");
+        }
+        Call::Bake(b) => {
+            lists!(&mut b.sky => "sky", &mut b.lamps => "lamps");
+            masks!(&mut b.active => "active");
+            lists!(&mut b.light => "light", &mut b.volume => "volume", &mut b.scratch => "scratch");
+        }
         Call::LightLookup { light, .. } => lists!(light => "light"),
         Call::CoefficientLookup { volume, .. } => lists!(volume => "volume"),
         Call::Part { volume, scratch, .. } => lists!(volume => "volume", scratch => "scratch"),
@@ -403,16 +427,19 @@ pub fn changes(call: &Call, few: bool) -> Vec<Change> {
         }
     }
     // masks
-    if mask_of(&mut call.clone()).map(|m| !m.is_empty()).unwrap_or(false) {
-        for place in 0..3 {
-            for value in [2u8, 255, 128] {
-                out.push(change(format!("mask entry := {value}"), Some(13), move |call| {
-                    let m = mask_of(call).expect("mask");
-                    let k = [0, m.len() / 2, m.len().saturating_sub(1)][place];
-                    if let Some(entry) = m.get_mut(k) {
-                        *entry = value;
-                    }
-                }));
+    if let Some(mask) = mask_of(&mut call.clone()) {
+        let bits = unused(mask.len());
+        if !bits.is_empty() {
+            for bit in [bits.start, (bits.start + bits.end) / 2, bits.end - 1] {
+                for (voxels, name) in [(None, ""), (Some(0), " and no voxel's"), (Some(1), " and every voxel's")] {
+                    out.push(change(format!("unused bit {bit} set{name}"), Some(13), move |call| {
+                        let mask = mask_of(call).expect("mask");
+                        if let Some(entry) = voxels {
+                            mask.fill(entry);
+                        }
+                        set_bit(mask, bit);
+                    }));
+                }
             }
         }
     }
@@ -448,7 +475,7 @@ pub fn changes(call: &Call, few: bool) -> Vec<Change> {
         }
         out.push(change("allowance one short at the end", Some(10), move |call| {
             if let Call::Bake(b) = call {
-                b.progress = b.active.len() as u64;
+                b.progress = n;
                 b.allowance = cost - 1;
             }
         }));
@@ -555,11 +582,11 @@ fn lamp_changes(out: &mut Vec<Change>) {
     lamps("a bad one and a bad mask", Some(19), |b| {
         allowed(b, 2, 0);
         b.lamps[2] = step(-4096.0, -1);
-        b.active[0] = 2;
+        b.active.push(1);
     });
     lamps("a ray too few and a bad mask", Some(10), |b| {
         allowed(b, 5, 1);
-        b.active[0] = 2;
+        b.active.push(1);
     });
     lamps("a bad one at the end", Some(19), |b| {
         allowed(b, 2, 0);
@@ -590,7 +617,7 @@ pub fn bases(c: &mut Chance, world: &World) -> Vec<Call> {
         Call::Triangle { points: p, ray },
         Call::Nearest { lists: world.lists.clone(), ray },
         Call::Transmittance { lists: world.lists.clone(), ray, hits: worlds::hits(c, &world.lists) },
-        Call::Masks { grid: world.grid, points: world.lists.points.clone(), occupied: vec![7; n], active: vec![9; n] },
+        Call::Masks { grid: world.grid, points: world.lists.points.clone(), occupied: (0..n).map(|i| (i % 2) as u8).collect(), active: (0..n).map(|i| (i % 3 == 0) as u8).collect() },
         Call::LightBlur { axes, light: unit(c, n), scratch: vec![f32::NAN; n] },
         Call::CoefficientBlur { axes, volume: unit(c, 16 * n), scratch: vec![f32::INFINITY; 16 * n] },
         Call::Sun {
@@ -617,11 +644,23 @@ pub struct Bad {
     pub call: Call,
 }
 
+/// Lists that a mask call fills can be too short for their voxels and still be of the right words; they are made as long as the grid.
+fn readable(call: &mut Call) {
+    if table::refusal(call) == 0 {
+        if let Call::Masks { grid, occupied, active, .. } = call {
+            for mask in [occupied, active] {
+                mask.resize(mask.len().max(voxels(grid)), 0);
+            }
+        }
+    }
+}
+
 fn applied(base: &Call, changes: &[&Change]) -> Bad {
     let mut call = base.clone();
     for change in changes {
         (change.make)(&mut call);
     }
+    readable(&mut call);
     let what = changes.iter().map(|c| c.name.clone()).collect::<Vec<_>>().join("; ");
     let number = table::refusal(&call);
     if let [one] = changes {
@@ -639,7 +678,7 @@ pub fn of(c: &mut Chance, base: &Call, few: bool, several: usize) -> Vec<Bad> {
     let mut all = changes(base, few);
     if few && matches!(base, Call::Bake(b) if !b.lamps.is_empty()) {
         // beside what concerns the lamps, a fault of each row that they stand among
-        let beside = ["lamp", "allowance", "progress", "sky", "coefficient", "mask entry", "NaN in the volume", "hit scratch", "kind :="];
+        let beside = ["lamp", "allowance", "progress", "sky", "coefficient", "unused bit", "NaN in the volume", "hit scratch", "kind :="];
         all.retain(|change| beside.iter().any(|name| change.name.starts_with(name)));
     }
     let mut out: Vec<Bad> = all.iter().map(|change| applied(base, &[change])).collect();

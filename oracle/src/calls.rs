@@ -1,4 +1,5 @@
-//! The port's public calls as data: one variant a call, every argument as it would be lent.
+//! The port's public calls as data: one variant a call, every argument as it would be lent, a mask as the entries that its words stand for
+//! (`words.rs`).
 
 #[derive(Clone, Debug, Default)]
 pub struct Lists {

@@ -4,6 +4,7 @@ use crate::items::{self, Item, MODULES};
 use crate::records::Record;
 use crate::scene::recorded_bits;
 use crate::watch;
+use crate::word_places;
 use crate::worlds::{world, FAMILIES};
 use std::fs;
 use std::io::{self, Write};
@@ -116,7 +117,7 @@ fn run(words: &[String]) -> Result<bool, String> {
         ["stream", name, first, count] => {
             let name = module(name)?;
             for seed in seeds(first, count)? {
-                for item in items::good(name, seed) {
+                for item in items::seeded(name, seed) {
                     put(&item.bytes())?;
                 }
             }
@@ -125,20 +126,20 @@ fn run(words: &[String]) -> Result<bool, String> {
         ["bad", name, first, count] => {
             let name = module(name)?;
             for seed in seeds(first, count)? {
-                for item in items::bad(name, seed, true, 60) {
+                for item in items::bad_and_words(name, seed, true, 60) {
                     put(&item.bytes())?;
                 }
             }
             Ok(true)
         }
         ["every", name, seed] => {
-            for item in items::bad(module(name)?, number(seed, "SEED")?, false, 0) {
+            for item in items::bad_and_words(module(name)?, number(seed, "SEED")?, false, 0) {
                 put(&item.bytes())?;
             }
             Ok(true)
         }
         ["every", name, seed, place] => {
-            let (all, at) = (items::bad(module(name)?, number(seed, "SEED")?, false, 0), number(place, "PLACE")?);
+            let (all, at) = (items::bad_and_words(module(name)?, number(seed, "SEED")?, false, 0), number(place, "PLACE")?);
             let item = all.get(at as usize).ok_or_else(|| format!("there are {} records, none at {at}", all.len()))?;
             say(&format!("{item:?}\n"))?;
             Ok(true)
@@ -173,7 +174,7 @@ fn coverage(seeds: Range<u64>) -> Result<bool, String> {
     let mut good = true;
     for seed in seeds {
         for name in MODULES {
-            for (place, item) in items::good(name, seed).iter().enumerate() {
+            for (place, item) in items::seeded(name, seed).iter().enumerate() {
                 good &= accepted(&item.record(), &format!("{name}: record {place} of seed {seed}"))?;
             }
         }
@@ -233,7 +234,9 @@ fn recorded(name: &str) -> (Vec<Item>, Vec<Item>) {
     for &seed in faint {
         out.extend(items::good(name, seed));
     }
-    let bad = (0..bases).flat_map(|seed| items::bad(name, seed, true, 10)).collect();
+    out.extend(word_places::made(name));
+    let mut bad: Vec<Item> = (0..bases).flat_map(|seed| items::bad(name, seed, true, 10)).collect();
+    bad.extend(word_places::bad(name, 0));
     (out, bad)
 }
 

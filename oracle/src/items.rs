@@ -6,6 +6,7 @@ use crate::chance::Chance;
 use crate::lamp_places;
 use crate::records::{self, Record};
 use crate::table;
+use crate::word_places;
 use crate::worlds::{self, voxels, World};
 
 #[derive(Clone, Debug)]
@@ -71,6 +72,20 @@ pub fn bad(module: &str, seed: u64, few: bool, several: usize) -> Vec<Item> {
             }
         }
     }
+    out
+}
+
+/// What of a seed is streamed: its scene's records, then those of a grid of whole words or nearly so.
+pub fn seeded(module: &str, seed: u64) -> Vec<Item> {
+    let mut out = good(module, seed);
+    out.extend(word_places::seeded(module, seed));
+    out
+}
+
+/// The bad inputs of a seed, then those of masks in words.
+pub fn bad_and_words(module: &str, seed: u64, few: bool, several: usize) -> Vec<Item> {
+    let mut out = bad(module, seed, few, several);
+    out.extend(word_places::bad(module, seed));
     out
 }
 

@@ -15,6 +15,8 @@ mod shrink;
 mod table;
 mod text;
 mod watch;
+mod word_places;
+mod words;
 mod worlds;
 
 // The copies report their progress to standard output, where only the oracle's own answers belong.

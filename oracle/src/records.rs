@@ -2,7 +2,8 @@
 //!
 //! A list is: its length, the length k of a pattern, the pattern's k words (entry i is word i mod k), the count of exceptions, and for
 //! each its place and its word. A list of u64 has two words an entry, low first, and its length counts words. The first word of a
-//! record is its kind; then stand the numbers passed by value, the lists in the order of the call's arguments, and the answer.
+//! record is its kind; then stand the numbers passed by value, the lists in the order of the call's arguments, and the answer. A mask is a
+//! list of entries, and `words.rs` says which words it stands for.
 //!
 //! Beside its bytes a record says how many comparisons its program makes of it, counted here from what was recorded: one that the lists fit
 //! (not for a triangle, which has none), one for each word or group of words held to the answer, one for each list, and one where hit scratch

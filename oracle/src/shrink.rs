@@ -6,8 +6,8 @@ use std::process::{Command, Stdio};
 
 /// Record `place` of a seed: its good records first, then its bad ones.
 fn found(module: &str, seed: u64, place: usize) -> Result<Item, String> {
-    let mut all = items::good(module, seed);
-    all.extend(items::bad(module, seed, true, 60));
+    let mut all = items::seeded(module, seed);
+    all.extend(items::bad_and_words(module, seed, true, 60));
     let count = all.len();
     all.into_iter().nth(place).ok_or_else(|| format!("seed {seed} has {count} records for {module}, none at {place}"))
 }

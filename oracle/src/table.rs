@@ -1,6 +1,7 @@
-//! Document 01's table of refusals with what document 02's C-12 adds, and the order in which each call tests them, written from these
-//! and the open points alone: which numbers are accepted, and for each call the first number whose condition holds, 0 if none.
+//! Document 01's table of refusals with what document 02's C-12 and C-18 make of it, and the order in which each call tests them, written
+//! from these and the open points alone: which numbers are accepted, and for each call the first number whose condition holds, 0 if none.
 use crate::calls::{Bake, Call, Grid, Lists, Ray, Scratch};
+use crate::words;
 
 const AXIS: u64 = 32;
 const POINT: f32 = 4096.0;
@@ -45,7 +46,7 @@ pub fn refusal(call: &Call) -> u32 {
         Call::Masks { grid, points, occupied, active } => first(&[
             (1, &|| bad_axes(grid.axes)),
             (2, &|| bad_corners(grid)),
-            (3, &|| points.len() % 9 != 0 || occupied.len() != count(grid.axes) || active.len() != count(grid.axes)),
+            (3, &|| points.len() % 9 != 0 || misfit_mask(occupied, grid) || misfit_mask(active, grid)),
             (4, &|| points.len() / 9 > TRIANGLES),
             (5, &|| bad_points(points)),
         ]),
@@ -64,13 +65,13 @@ pub fn refusal(call: &Call) -> u32 {
             (2, &|| bad_corners(grid)),
             (3, &|| {
                 let n = count(grid.axes);
-                misfit(lists) || active.len() != n || light.len() != n || scratch.len() != n || too_short(hits, lists)
+                misfit(lists) || misfit_mask(active, grid) || light.len() != n || scratch.len() != n || too_short(hits, lists)
             }),
             (4, &|| too_many(lists)),
             (5, &|| bad_points(&lists.points)),
             (6, &|| bad_materials(lists)),
             (7, &|| bad_direction(*direction)),
-            (13, &|| bad_mask(active)),
+            (13, &|| bad_mask(active, grid)),
         ]),
         Call::Bake(bake) => bake_refusal(bake),
         Call::LightLookup { grid, light, position } => first(&[
@@ -107,7 +108,7 @@ fn bake_refusal(bake: &Bake) -> u32 {
             misfit(lists)
                 || bake.sky.len() != SKY
                 || bake.lamps.len() % 6 != 0
-                || bake.active.len() != n
+                || misfit_mask(&bake.active, grid)
                 || bake.light.len() != n
                 || bake.volume.len() != 16 * n
                 || bake.scratch.len() != 16 * n
@@ -126,7 +127,7 @@ fn bake_refusal(bake: &Bake) -> u32 {
         (9, &|| bake.progress > count(grid.axes) as u64),
         (10, &|| bake.allowance < cost(&bake.lamps)),
         (13, &|| {
-            bad_mask(&bake.active)
+            bad_mask(&bake.active, grid)
                 || beyond(&bake.light, LIGHT)
                 || 0 < bake.progress && bake.progress < count(grid.axes) as u64 && beyond(&bake.volume, COEFFICIENT)
         }),
@@ -202,8 +203,14 @@ fn bad_position(position: [f32; 3]) -> bool {
     beyond(&position, POINT)
 }
 
-fn bad_mask(mask: &[u8]) -> bool {
-    mask.iter().any(|m| *m > 1)
+/// "not exactly" the words that the voxels need.
+fn misfit_mask(mask: &[u8], grid: &Grid) -> bool {
+    words::lent(mask).len() != words::needed(count(grid.axes))
+}
+
+/// "13 for a set unused bit".
+fn bad_mask(mask: &[u8], grid: &Grid) -> bool {
+    words::unused_set(&words::lent(mask), count(grid.axes))
 }
 
 fn bad_lamps(lamps: &[f32]) -> bool {

@@ -14,8 +14,8 @@ use std::time::{Duration, Instant};
 
 /// What comes before a bake: masks and the sun.
 pub struct Prepared {
-    pub occupied: Vec<u8>,
-    pub active: Vec<u8>,
+    pub occupied: Vec<u64>,
+    pub active: Vec<u64>,
     pub light: Vec<f32>,
     pub marked: Marked,
     /// Where one machine bakes a share of the active voxels: which one; `active` is then its mask.
@@ -26,7 +26,7 @@ impl Prepared {
     /// What one machine bakes of it.
     pub fn share(self, only: Only) -> Prepared {
         let active = shares_of(&self.active, only.of).swap_remove(only.share - 1);
-        let marked = Marked { active: active.iter().map(|a| u64::from(*a)).sum(), ..self.marked };
+        let marked = Marked { active: marked_count(&active), ..self.marked };
         Prepared { active, marked, only: Some(only), ..self }
     }
 
@@ -48,7 +48,7 @@ impl Prepared {
 pub fn joined_shares(prepared: &Prepared, shares: &[Part]) -> Vec<f32> {
     let mut all = shares.first().map_or_else(Vec::new, |first| first.volume.clone());
     for (part, mask) in shares.iter().zip(shares_of(&prepared.active, shares.len())) {
-        for voxel in (0..mask.len()).filter(|v| mask[*v] == 1) {
+        for voxel in marked_voxels(&mask) {
             all[16 * voxel..16 * voxel + 16].copy_from_slice(&part.volume[16 * voxel..16 * voxel + 16]);
         }
     }
@@ -72,18 +72,23 @@ impl Scratch {
 
 pub fn prepare(hall: &Hall) -> Result<Prepared> {
     let n = hall.axes.count();
-    let (mut occupied, mut active, mut light, mut scratch) = (vec![0; n], vec![0; n], vec![0.0; n], vec![0.0; n]);
+    let (mut occupied, mut active) = (vec![0; hall.axes.words()], vec![0; hall.axes.words()]);
+    let (mut light, mut scratch) = (vec![0.0; n], vec![0.0; n]);
     let marked = masks(hall.axes, hall.corners, &hall.points, &mut occupied, &mut active)?;
     sun(hall.axes, hall.corners, hall.scene(), hall.sun.direction, &active, &mut light, &mut scratch, Scratch::new(hall).lent())?;
     Ok(Prepared { occupied, active, light, marked, only: None })
 }
 
 /// The masks of the shares: active voxel number j goes to share j mod count.
-pub fn shares_of(active: &[u8], count: usize) -> Vec<Vec<u8>> {
+pub fn shares_of(active: &[u64], count: usize) -> Vec<Vec<u64>> {
     let mut masks = vec![vec![0; active.len()]; count];
-    let voxels = active.iter().enumerate().filter(|(_, a)| **a == 1);
-    voxels.enumerate().for_each(|(j, (voxel, _))| masks[j % count][voxel] = 1);
+    marked_voxels(active).enumerate().for_each(|(j, voxel)| mark(&mut masks[j % count], voxel));
     masks
+}
+
+/// The voxels of a mask that a bake of it has passed.
+fn passed(mask: &[u64], progress: usize) -> impl Iterator<Item = usize> + '_ {
+    marked_voxels(mask).take_while(move |voxel| *voxel < progress)
 }
 
 /// What is asked of a bake.
@@ -129,7 +134,7 @@ pub fn run(hall: &Hall, prepared: &Prepared, from: Option<Part>, asked: &Asked) 
     let masks = shares_of(&prepared.active, count);
     let before = from.as_ref().map_or(0.0, |p| p.seconds);
     // how many active voxels each mask has below an index
-    let taken = |mask: &[u8], progress: usize| mask[..progress].iter().map(|m| u64::from(*m)).sum::<u64>();
+    let taken = |mask: &[u64], progress: usize| passed(mask, progress).count() as u64;
     let kept: Vec<Mutex<State>> = (0..count)
         .map(|s| match &from {
             Some(part) => State { progress: part.shares[s].progress, rays: part.shares[s].rays, volume: part.volume.clone() },
@@ -166,7 +171,7 @@ pub fn run(hall: &Hall, prepared: &Prepared, from: Option<Part>, asked: &Asked) 
             (asked.tell)(told());
             if state.progress == n {
                 // the last call blurs the volume, unless nothing is active; what is kept for a save is the unblurred one
-                let unblurred = if mask.contains(&1) { std::mem::take(&mut scratch) } else { state.volume.clone() };
+                let unblurred = if marked_count(mask) > 0 { std::mem::take(&mut scratch) } else { state.volume.clone() };
                 let last = std::mem::replace(&mut state.volume, unblurred);
                 if count == 1 {
                     *blurred.lock().unwrap() = Some(last);
@@ -183,7 +188,7 @@ pub fn run(hall: &Hall, prepared: &Prepared, from: Option<Part>, asked: &Asked) 
 
     let whole = || -> Option<Part> {
         let states: Vec<State> = kept.iter().map(|k| k.lock().unwrap().clone()).collect();
-        joined(&states, &masks, n).map(|volume| Part {
+        joined(&states, &masks).map(|volume| Part {
             shares: states.iter().map(|s| Share { progress: s.progress, rays: s.rays }).collect(),
             only: prepared.only,
             seconds: before + begun.elapsed().as_secs_f64(),
@@ -239,10 +244,10 @@ pub fn run(hall: &Hall, prepared: &Prepared, from: Option<Part>, asked: &Asked) 
 
 /// The unblurred volume of all shares: a voxel that its share has passed from there, every other from a share that has begun, where it is ambient. None where
 /// no share has begun.
-fn joined(states: &[State], masks: &[Vec<u8>], n: usize) -> Option<Vec<f32>> {
+fn joined(states: &[State], masks: &[Vec<u64>]) -> Option<Vec<f32>> {
     let mut all = states.iter().find(|s| s.progress > 0)?.volume.clone();
     for (state, mask) in states.iter().zip(masks) {
-        for voxel in (0..n.min(state.progress)).filter(|v| mask[*v] == 1) {
+        for voxel in passed(mask, state.progress) {
             all[16 * voxel..16 * voxel + 16].copy_from_slice(&state.volume[16 * voxel..16 * voxel + 16]);
         }
     }

@@ -7,7 +7,7 @@ use crate::picture::{self, Camera, Of, Picture};
 use crate::volume::{irradiance, Volume};
 use crate::{files, light, Bake, Demo, FaceArgs, Look, Plan, Slice, ViewArgs, DIFFERS, GOOD, REFUSED, SAVED};
 use anyhow::{bail, ensure, Context, Result};
-use geaidnosa::{Refusal, Vec3};
+use geaidnosa::{is_marked, mark, marked_count, marked_voxels, Refusal, Vec3};
 use indicatif::{ProgressBar, ProgressDrawTarget, ProgressStyle};
 use std::path::{Path, PathBuf};
 use std::sync::atomic::{AtomicBool, Ordering::SeqCst};
@@ -277,11 +277,11 @@ pub fn plan(args: &Plan) -> Result<u8> {
             continue;
         }
         println!("  sure: from {} to {} rays (64 to {cost} a voxel)", thousands(64 * marked.active), thousands(cost * marked.active));
-        let mut mask = vec![0; n];
+        let mut mask = vec![0; hall.axes.words()];
         let mut taken = 0;
-        for (j, voxel) in (0..n).filter(|v| active[*v] == 1).enumerate() {
+        for (j, voxel) in marked_voxels(&active).enumerate() {
             if j % args.sample == args.sample / 2 || (taken == 0 && j as u64 + 1 == marked.active) {
-                mask[voxel] = 1;
+                mark(&mut mask, voxel);
                 taken += 1;
             }
         }
@@ -474,13 +474,13 @@ pub fn stats(paths: &[PathBuf]) -> Result<u8> {
     for path in paths {
         let volume = Volume::read(path)?;
         let n = volume.axes.count();
-        let count = |mask: &[u8]| thousands(mask.iter().map(|m| u64::from(*m)).sum());
+        let count = |mask: &[u64]| thousands(marked_count(mask));
         let (min, max, edge) = (volume.corners.min, volume.corners.max, hall::edges(volume.axes, volume.corners));
         println!("{}: {} × {} × {} voxels of {:.3} × {:.3} × {:.3} m", path.display(), volume.axes.width, volume.axes.height, volume.axes.depth, edge.x, edge.y, edge.z);
         println!("  from ({}, {}, {}) to ({}, {}, {})", min.x, min.y, min.z, max.x, max.y, max.z);
         println!("  {} voxels, {} occupied, {} active, {} with sun 0", thousands(n as u64), count(&volume.occupied), count(&volume.active),
             thousands(volume.light.iter().filter(|x| **x == 0.0).count() as u64));
-        let active: Vec<usize> = (0..n).filter(|v| volume.active[*v] == 1).collect();
+        let active: Vec<usize> = marked_voxels(&volume.active).collect();
         if active.is_empty() {
             continue;
         }
@@ -528,7 +528,8 @@ fn differences(first: &Volume, second: &Volume) -> Vec<String> {
     words.extend(compared("sun", &first.light, &second.light, 1, first.axes));
     words.extend(compared("coefficients", &first.volume, &second.volume, 16, first.axes));
     for (what, a, b) in [("occupied", &first.occupied, &second.occupied), ("active", &first.active, &second.active)] {
-        let count = a.iter().zip(b).filter(|(x, y)| x != y).count();
+        let apart: Vec<u64> = a.iter().zip(b).map(|(x, y)| x ^ y).collect();
+        let count = marked_count(&apart);
         if count > 0 {
             words.push(format!("{what}: {count} voxels differ"));
         }
@@ -572,17 +573,19 @@ pub fn verify(volume_path: &Path, hall_path: &Path, sample: usize) -> Result<u8>
     }
     words.extend(compared("sun (file, then again)", &volume.light, &light, 1, hall.axes));
     // A finished voxel is the mean of its 3×3×3 unblurred ones: bake those that are active, and the mean at the voxel is the whole bake's.
-    let voxels: Vec<usize> = (0..n).filter(|v| active[*v] == 1).collect();
+    let voxels: Vec<usize> = marked_voxels(&active).collect();
     let step = voxels.len().div_ceil(sample).max(1);
     let chosen: Vec<usize> = voxels.iter().copied().skip(step / 2).step_by(step).collect();
-    let mut mask = vec![0; n];
+    let mut mask = vec![0; hall.axes.words()];
     let (w, h, d) = (hall.axes.width, hall.axes.height, hall.axes.depth);
     let near = |at: usize, most: usize| at.saturating_sub(1)..(at + 2).min(most);
     for v in &chosen {
         let (x, y, z) = (v % w, v / w % h, v / w / h);
         for (z, y, x) in near(z, d).flat_map(|z| near(y, h).flat_map(move |y| near(x, w).map(move |x| (z, y, x)))) {
             let at = hall.axes.index(x, y, z);
-            mask[at] = active[at];
+            if is_marked(&active, at) {
+                mark(&mut mask, at);
+            }
         }
     }
     let (mut again, mut scratch) = (vec![0.0; 16 * n], vec![0.0; 16 * n]);

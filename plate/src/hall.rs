@@ -152,7 +152,7 @@ impl Hall {
         Scene { points: &self.points, uses: &self.uses, kinds: &self.kinds, numbers: &self.numbers }
     }
 
-    pub fn input<'a>(&'a self, active: &'a [u8], lights: &'a [f32]) -> BakeInput<'a> {
+    pub fn input<'a>(&'a self, active: &'a [u64], lights: &'a [f32]) -> BakeInput<'a> {
         BakeInput {
             axes: self.axes,
             corners: self.corners,
@@ -329,7 +329,7 @@ fn file_name(path: &Path) -> String {
 
 fn judged_by_library(hall: &Hall) -> Result<(), Refusal> {
     let n = hall.axes.count();
-    let (active, lights) = (vec![0; n], vec![0.0; n]);
+    let (active, lights) = (vec![0; hall.axes.words()], vec![0.0; n]);
     let (mut volume, mut scratch) = (vec![0.0; 16 * n], vec![0.0; 16 * n]);
     let (mut distances, mut places) = (vec![0.0; hall.triangles()], vec![0; hall.triangles()]);
     let hits = HitScratch { distances: &mut distances, places: &mut places };

@@ -99,7 +99,8 @@ pub fn difference(first: &Volume, second: &Volume) -> (Picture, f32) {
     let Axes { width, height, depth } = first.axes;
     let of_voxel = |v: usize| {
         let pairs = first.voxel(v).iter().zip(second.voxel(v)).chain([(&first.light[v], &second.light[v])]);
-        let masks = (first.occupied[v], first.active[v]) != (second.occupied[v], second.active[v]);
+        let marks = |volume: &Volume| (is_marked(&volume.occupied, v), is_marked(&volume.active, v));
+        let masks = marks(first) != marks(second);
         pairs.fold((masks, 0.0f32), |(differs, most), (a, b)| (differs || a.to_bits() != b.to_bits(), most.max((a - b).abs())))
     };
     let all: Vec<(bool, f32)> = (0..first.axes.count()).map(of_voxel).collect();

@@ -10,8 +10,8 @@ pub struct Volume {
     pub corners: Corners,
     pub light: Vec<f32>,
     pub volume: Vec<f32>,
-    pub occupied: Vec<u8>,
-    pub active: Vec<u8>,
+    pub occupied: Vec<u64>,
+    pub active: Vec<u64>,
 }
 
 impl Volume {
@@ -19,8 +19,8 @@ impl Volume {
         let said = || path.display().to_string();
         let bytes = std::fs::read(path).with_context(said)?;
         let Head { axes, corners } = file_axes(&bytes).with_context(said)?;
-        let n = axes.count();
-        let mut read = Volume { axes, corners, light: vec![0.0; n], volume: vec![0.0; 16 * n], occupied: vec![0; n], active: vec![0; n] };
+        let (n, words) = (axes.count(), axes.words());
+        let mut read = Volume { axes, corners, light: vec![0.0; n], volume: vec![0.0; 16 * n], occupied: vec![0; words], active: vec![0; words] };
         read_volume(&bytes, &mut read.light, &mut read.volume, &mut read.occupied, &mut read.active).with_context(said)?;
         Ok(read)
     }

@@ -62,7 +62,8 @@ fn read(path: &Path) -> hall::Hall {
 /// The bake as a program of one's own would do it: one call, no share, no part.
 fn unbroken(hall: &hall::Hall) -> (Volume, u64) {
     let (n, t) = (hall.axes.count(), hall.triangles());
-    let (mut occupied, mut active, mut light, mut kept) = (vec![0; n], vec![0; n], vec![0.0; n], vec![0.0; n]);
+    let (mut occupied, mut active) = (vec![0; hall.axes.words()], vec![0; hall.axes.words()]);
+    let (mut light, mut kept) = (vec![0.0; n], vec![0.0; n]);
     let (mut volume, mut scratch, mut distances, mut places) = (vec![0.0; 16 * n], vec![0.0; 16 * n], vec![0.0; t], vec![0; t]);
     masks(hall.axes, hall.corners, &hall.points, &mut occupied, &mut active).unwrap();
     let hits = HitScratch { distances: &mut distances, places: &mut places };
@@ -121,7 +122,7 @@ fn shares_give_the_same_bits() {
     edit(&path, "colour = [0.0, 0.0, 0.0]", "colour = [2.0, 1.5, 1.0]");
     let hall = read(&path);
     let (volume, rays) = unbroken(&hall);
-    assert!(volume.active.contains(&0) && volume.active.contains(&1));
+    assert!((1..hall.axes.count() as u64).contains(&marked_count(&volume.active)));
     for shares in [1, 2, 3, 8, 500] {
         // stopped after one call, gone on with through a part file, stopped again ..
         let mut from = None;
@@ -409,6 +410,13 @@ fn stops_are_saved_and_changed_inputs_are_refused() {
     says(at, &["bake", "hall.toml"], 3, &["damaged"]);
     std::fs::write(&part, "").unwrap();
     says(at, &["bake", "hall.toml"], 3, &["no first line"]);
+    // sound, but of the library before masks were words
+    let (now, before) = (format!("{{\"library\":{VERSION_NUMBER},"), "{\"library\":1000,");
+    let body = &good[good.iter().position(|b| *b == b'\n').unwrap() + 1..];
+    assert!(body.starts_with(now.as_bytes()));
+    let old = [before.as_bytes(), &body[now.len()..]].concat();
+    std::fs::write(&part, [format!("plate-part-1 {}\n", hall::sha256(&old)).as_bytes(), &old].concat()).unwrap();
+    says(at, &["bake", "hall.toml"], 3, &["another version of the library", "--fresh"]);
     std::fs::remove_file(&part).unwrap();
     says(at, &["bake", "hall.toml", "--resume"], 3, &["no part file"]);
     says(at, &["bake", "hall.toml", "--resume", "--fresh"], 2, &["cannot be used with"]);
@@ -617,7 +625,7 @@ fn pictures_and_numbers() {
     says(at, &["verify", "hall.vgrd", "hall.toml"], 0, &["good: masks and sun again, and 16 of"]);
     says(at, &["verify", "hall.vgrd", "hall.toml", "--sample", "100000"], 0, &["good"]);
     let mut other = volume.clone();
-    let place = (0..volume.axes.count()).find(|v| volume.active[*v] == 1).unwrap();
+    let place = marked_voxels(&volume.active).next().unwrap();
     other.volume[16 * place + 2] = f32::from_bits(other.volume[16 * place + 2].to_bits() ^ 1);
     other.write(&at.join("other.vgrd")).unwrap();
     says(at, &["diff", "hall.vgrd", "other.vgrd"], 1, &["coefficients: 1 numbers in 1 voxels differ"]);
@@ -630,6 +638,14 @@ fn pictures_and_numbers() {
     says(at, &["diff", "hall.vgrd", "hall.vgrd", "--png", "d.png"], 0, &["the same, bit for bit"]);
     assert!(image::open(at.join("d.png")).unwrap().to_rgb8().pixels().all(|p| p.0[0] == p.0[1]));
     says(at, &["verify", "other.vgrd", "hall.toml", "--sample", "100000"], 1, &["1 of"]);
+    let mut other = volume.clone();
+    (other.occupied[0], other.active[17], other.active[2]) = (other.occupied[0] ^ 1, other.active[17] ^ 1 << 63, other.active[2] ^ 6);
+    other.write(&at.join("other.vgrd")).unwrap();
+    says(at, &["diff", "hall.vgrd", "other.vgrd"], 1, &["occupied: 1 voxels differ", "active: 3 voxels differ"]);
+    says(at, &["diff", "hall.vgrd", "other.vgrd", "--png", "d.png"], 1, &["d.png"]);
+    let shown = image::open(at.join("d.png")).unwrap().to_rgb8();
+    assert_eq!(shown.pixels().filter(|p| p.0[0] != p.0[1]).count() as u32, 4 * cell * cell);
+    says(at, &["verify", "other.vgrd", "hall.toml"], 1, &["the masks are not the hall's"]);
     edit(&path, "colour = [6.0, 5.5, 5.0]", "colour = [6.1, 5.5, 5.0]");
     says(at, &["verify", "hall.vgrd", "hall.toml"], 1, &["come out differently"]);
     edit(&path, "max = [6.1, 3.1, 8.1]", "max = [6.1, 3.1, 8.2]");

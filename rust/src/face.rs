@@ -110,8 +110,8 @@ extern "C" {
         axes: Axes,
         corners: Corners,
         points: *const f32, points_length: usize,
-        occupied: *mut u8, occupied_length: usize,
-        active: *mut u8, active_length: usize,
+        occupied: *mut u64, occupied_length: usize,
+        active: *mut u64, active_length: usize,
     ) -> Marked;
     pub fn geaidnosa_light_blur(
         axes: Axes,
@@ -131,7 +131,7 @@ extern "C" {
         kinds: *const u8, kinds_length: usize,
         numbers: *const f32, numbers_length: usize,
         direction: Vec3,
-        active: *const u8, active_length: usize,
+        active: *const u64, active_length: usize,
         light: *mut f32, light_length: usize,
         scratch: *mut f32, scratch_length: usize,
         distances: *mut f32, distances_length: usize,
@@ -148,7 +148,7 @@ extern "C" {
         ambient: Ambient,
         sky: *const f32, sky_length: usize,
         lamps: *const f32, lamps_length: usize,
-        active: *const u8, active_length: usize,
+        active: *const u64, active_length: usize,
         lights: *const f32, lights_length: usize,
         volume: *mut f32, volume_length: usize,
         scratch: *mut f32, scratch_length: usize,
@@ -193,16 +193,16 @@ extern "C" {
         bytes: *const u8, bytes_length: usize,
         light: *mut f32, light_length: usize,
         volume: *mut f32, volume_length: usize,
-        occupied: *mut u8, occupied_length: usize,
-        active: *mut u8, active_length: usize,
+        occupied: *mut u64, occupied_length: usize,
+        active: *mut u64, active_length: usize,
     ) -> Head;
     pub fn geaidnosa_write_volume(
         axes: Axes,
         corners: Corners,
         light: *const f32, light_length: usize,
         volume: *const f32, volume_length: usize,
-        occupied: *const u8, occupied_length: usize,
-        active: *const u8, active_length: usize,
+        occupied: *const u64, occupied_length: usize,
+        active: *const u64, active_length: usize,
         bytes: *mut u8, bytes_length: usize,
     ) -> u32;
     pub fn geaidnosa_file_figures(bytes: *const u8, bytes_length: usize) -> Figures;

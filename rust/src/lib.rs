@@ -4,13 +4,15 @@
 //! shuts out. Each call tests its input itself; where it refuses, it answers the [`Refusal`] and has written nothing. Calls have no state of their own, so
 //! they may run side by side. What the numbers of a volume mean stands in docs/USE.md.
 //!
-//! N is the voxel count, width·height·depth; voxel (x,y,z) has the index x + width·(y + height·z). T is the triangle count.
+//! N is the voxel count, width·height·depth; voxel (x,y,z) has the index x + width·(y + height·z). T is the triangle count. A mask is a list of (N+63)/64
+//! words, [`Axes::words`]: voxel i is bit i%64 of word i/64, the lowest bit first, and bits past the last voxel are 0. [`is_marked`],
+//! [`marked_voxels`] and [`marked_count`] read one, [`mark`] changes it.
 use std::fmt;
 
 mod face;
 
 /// The version of the C face that this crate was written to.
-pub const VERSION_NUMBER: u32 = 1_000;
+pub const VERSION_NUMBER: u32 = 2_000;
 /// How many numbers a sky and the list of directions have: nine sets of 64 triples.
 pub const SKY_LENGTH: usize = 1_728;
 /// How many numbers a voxel has: four coefficients of red, green, blue and a fourth number.
@@ -58,6 +60,11 @@ impl Axes {
     /// How many voxels there are, N; for axes that [`Refusal::Axis`] would refuse, the largest number where the product is too large.
     pub fn count(self) -> usize {
         self.width.saturating_mul(self.height).saturating_mul(self.depth)
+    }
+
+    /// How many words a mask has, (N+63)/64.
+    pub fn words(self) -> usize {
+        self.count().div_ceil(64)
     }
 
     /// The index of a voxel.
@@ -195,7 +202,7 @@ impl Refusal {
             Refusal::Allowance => "an allowance below 384 + 64·lamps",
             Refusal::Position => "a position not finite or beyond 4,096, or a voxel index past the grid",
             Refusal::File => "any fault in a volume file",
-            Refusal::Contents => "a mask's entry not 0 or 1; a light not finite or beyond 2^64 in magnitude; a coefficient not finite or beyond 2^96",
+            Refusal::Contents => "an unused bit of a mask set; a light not finite or beyond 2^64 in magnitude; a coefficient not finite or beyond 2^96",
             Refusal::TooLong => "more than 65,536 bytes",
             Refusal::Lamp => "more than eight lamps, a lamp's position not finite or beyond 4,096 in magnitude, or its colour not finite or beyond 65,536",
         }
@@ -276,6 +283,26 @@ pub struct Figures {
     pub zeros: u64,
 }
 
+/// Whether a mask marks a voxel. Panics where the mask has no word for it.
+pub fn is_marked(mask: &[u64], voxel: usize) -> bool {
+    (mask[voxel / 64] >> (voxel % 64)) & 1 == 1
+}
+
+/// Marks a voxel. Panics where the mask has no word for it; a bit past the last voxel is one that [`sun`], [`bake`] and [`write_volume`] refuse.
+pub fn mark(mask: &mut [u64], voxel: usize) {
+    mask[voxel / 64] |= 1 << (voxel % 64);
+}
+
+/// The voxels that a mask marks, the lowest first.
+pub fn marked_voxels(mask: &[u64]) -> impl Iterator<Item = usize> + '_ {
+    (0..64 * mask.len()).filter(|voxel| is_marked(mask, *voxel))
+}
+
+/// How many voxels a mask marks.
+pub fn marked_count(mask: &[u64]) -> u64 {
+    mask.iter().map(|word| u64::from(word.count_ones())).sum()
+}
+
 fn hit_of(answer: face::RayHit) -> Result<Option<Hit>, Refusal> {
     Refusal::good(answer.refusal)?;
     Ok((answer.hit == 1).then(|| Hit {
@@ -331,9 +358,9 @@ pub fn transmittance(scene: Scene, ray: Ray, hits: HitScratch) -> Result<f32, Re
     Ok(answer.transmittance)
 }
 
-/// Fills both masks, N each, whatever stood there: occupied where a triangle's sample lies in the voxel, active within two voxels of that on every axis.
-/// Refuses 1, 2, 3 (points in no multiple of nine too), 4, 5.
-pub fn masks(axes: Axes, corners: Corners, points: &[f32], occupied: &mut [u8], active: &mut [u8]) -> Result<Marked, Refusal> {
+/// Fills both masks, [`Axes::words`] each, whatever stood there: occupied where a triangle's sample lies in the voxel, active within two voxels of that on
+/// every axis. Refuses 1, 2, 3 (points in no multiple of nine too), 4, 5.
+pub fn masks(axes: Axes, corners: Corners, points: &[f32], occupied: &mut [u64], active: &mut [u64]) -> Result<Marked, Refusal> {
     let answer = unsafe {
         face::geaidnosa_masks(
             axes, corners, points.as_ptr(), points.len(), occupied.as_mut_ptr(), occupied.len(), active.as_mut_ptr(), active.len(),
@@ -354,9 +381,9 @@ pub fn coefficient_blur(axes: Axes, volume: &mut [f32], scratch: &mut [f32]) -> 
 }
 
 /// Fills the light, N numbers, with what each voxel sees of the sun, blurred, and scratch with the same before the blur; where no voxel is active the light is
-/// all 1.0 and scratch stays as it was. Answers the rays fired, one for each active voxel. Refuses 1, 2, 3, 4, 5, 6, 7, 13.
+/// all 1.0 and scratch stays as it was. The mask has [`Axes::words`]. Answers the rays fired, one for each active voxel. Refuses 1, 2, 3, 4, 5, 6, 7, 13.
 pub fn sun(
-    axes: Axes, corners: Corners, scene: Scene, direction: Vec3, active: &[u8], light: &mut [f32], scratch: &mut [f32], hits: HitScratch,
+    axes: Axes, corners: Corners, scene: Scene, direction: Vec3, active: &[u64], light: &mut [f32], scratch: &mut [f32], hits: HitScratch,
 ) -> Result<u64, Refusal> {
     let Scene { points, uses, kinds, numbers } = scene;
     let answer = unsafe {
@@ -383,8 +410,8 @@ pub struct BakeInput<'a> {
     pub sky: &'a [f32],
     /// 6 a lamp, none to eight: position x y z, colour RGB.
     pub lamps: &'a [f32],
-    /// The mask of the voxels to bake, N.
-    pub active: &'a [u8],
+    /// The mask of the voxels to bake, [`Axes::words`].
+    pub active: &'a [u64],
     /// What [`sun`] wrote, N.
     pub lights: &'a [f32],
 }
@@ -477,8 +504,9 @@ pub fn volume_bytes(axes: Axes) -> Result<usize, Refusal> {
     Ok(answer.bytes)
 }
 
-/// Reads a file into the four lists and answers its axes and corners; foreign bodies are skipped. Refuses 12, then 3.
-pub fn read_volume(bytes: &[u8], light: &mut [f32], volume: &mut [f32], occupied: &mut [u8], active: &mut [u8]) -> Result<Head, Refusal> {
+/// Reads a file into the four lists, N and 16·N numbers and [`Axes::words`] of each mask, and answers its axes and corners; foreign bodies are skipped.
+/// Refuses 12, then 3.
+pub fn read_volume(bytes: &[u8], light: &mut [f32], volume: &mut [f32], occupied: &mut [u64], active: &mut [u64]) -> Result<Head, Refusal> {
     let answer = unsafe {
         face::geaidnosa_read_volume(
             bytes.as_ptr(), bytes.len(), light.as_mut_ptr(), light.len(), volume.as_mut_ptr(), volume.len(),
@@ -491,7 +519,7 @@ pub fn read_volume(bytes: &[u8], light: &mut [f32], volume: &mut [f32], occupied
 
 /// Writes a file over bytes, which has exactly as many as [`volume_bytes`] answers. Refuses 1, 2, 3, 13.
 pub fn write_volume(
-    axes: Axes, corners: Corners, light: &[f32], volume: &[f32], occupied: &[u8], active: &[u8], bytes: &mut [u8],
+    axes: Axes, corners: Corners, light: &[f32], volume: &[f32], occupied: &[u64], active: &[u64], bytes: &mut [u8],
 ) -> Result<(), Refusal> {
     Refusal::good(unsafe {
         face::geaidnosa_write_volume(

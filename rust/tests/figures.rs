@@ -55,13 +55,16 @@ fn rays() {
 
 #[test]
 fn grids() {
-    let (mut occupied, mut active) = ([9; 6], [9; 6]);
+    let (mut occupied, mut active) = ([9], [!9]);
     let axes = Axes { width: 6, height: 1, depth: 1 };
     let points: Vec<f32> = Q_POINTS.iter().map(|x| x * 0.5).collect();
     assert_eq!(masks(axes, unit_box(6.0), &points, &mut occupied, &mut active), Ok(Marked { occupied: 1, active: 3 }));
-    assert_eq!((occupied, active), ([1, 0, 0, 0, 0, 0], [1, 1, 1, 0, 0, 0]));
+    assert_eq!((occupied, active), ([0b1], [0b111]));
     assert_eq!(masks(Axes { width: 33, ..axes }, unit_box(6.0), &points, &mut occupied, &mut active), Err(Refusal::Axis));
     assert_eq!(masks(axes, unit_box(f32::NAN), &points, &mut occupied, &mut active), Err(Refusal::Corner));
+    assert_eq!(masks(axes, unit_box(6.0), &points, &mut [], &mut active), Err(Refusal::Length));
+    assert_eq!(masks(axes, unit_box(6.0), &points, &mut occupied, &mut [0; 2]), Err(Refusal::Length));
+    assert_eq!((occupied, active), ([0b1], [0b111]));
     let (mut light, mut scratch) = ([1.0, 0.0], [0.0; 2]);
     light_blur(Axes { width: 2, ..ONE }, &mut light, &mut scratch).unwrap();
     assert_eq!((light, scratch), ([0.25, 0.25], [1.0, 0.0]));
@@ -78,11 +81,32 @@ fn grids() {
 }
 
 #[test]
+fn masks_in_words() {
+    // voxel (0,3,0) is number 93, bit 29 of word 1; three of three rows lie within two of it
+    let axes = Axes { width: 31, height: 4, depth: 1 };
+    assert_eq!((axes.count(), axes.words(), ONE.words(), Axes { width: 64, ..ONE }.words(), Axes::default().words()), (124, 2, 1, 1, 0));
+    let corners = Corners { min: Vec3::new(0.0, 0.0, 0.0), max: Vec3::new(31.0, 4.0, 1.0) };
+    let points: Vec<f32> = Q_POINTS.chunks(3).flat_map(|p| [0.25 + p[0] / 4.0, 3.25 + p[1] / 4.0, 0.5]).collect();
+    let (mut occupied, mut active) = ([!0; 2], [!0; 2]);
+    let near: Vec<usize> = (1..4).flat_map(|y| (0..3).map(move |x| axes.index(x, y, 0))).collect();
+    assert_eq!(masks(axes, corners, &points, &mut occupied, &mut active), Ok(Marked { occupied: 1, active: 9 }));
+    assert_eq!(occupied, [0, 1 << 29]);
+    assert_eq!(marked_voxels(&occupied).collect::<Vec<_>>(), [93]);
+    assert_eq!(marked_voxels(&active).collect::<Vec<_>>(), near);
+    assert_eq!((marked_count(&occupied), marked_count(&active), marked_count(&[!0; 2])), (1, 9, 128));
+    let mut again = [0; 2];
+    near.iter().for_each(|voxel| mark(&mut again, *voxel));
+    near.iter().for_each(|voxel| mark(&mut again, *voxel));
+    assert_eq!(again, active);
+    assert!((0..axes.count()).all(|voxel| is_marked(&active, voxel) == near.contains(&voxel)));
+}
+
+#[test]
 fn bakes() {
     let axes = Axes { width: 3, height: 1, depth: 1 };
     let empty = Scene { points: &[], uses: &[], kinds: &[], numbers: &[] };
     let mut lights = [0.0; 3];
-    let rays = sun(axes, unit_box(3.0), empty, Vec3::new(0.0, 1.0, 0.0), &[1; 3], &mut lights, &mut [0.0; 3], HitScratch { distances: &mut [], places: &mut [] });
+    let rays = sun(axes, unit_box(3.0), empty, Vec3::new(0.0, 1.0, 0.0), &[0b111], &mut lights, &mut [0.0; 3], HitScratch { distances: &mut [], places: &mut [] });
     assert_eq!((rays, lights), (Ok(3), [1.0; 3]));
     let input = BakeInput {
         axes,
@@ -92,7 +116,7 @@ fn bakes() {
         ambient: Ambient::default(),
         sky: &[1.0; SKY_LENGTH],
         lamps: &[],
-        active: &[1; 3],
+        active: &[0b111],
         lights: &lights,
     };
     let run = |input: BakeInput, progress: usize, allowance: u64| {
@@ -105,6 +129,20 @@ fn bakes() {
     assert_eq!(run(input, 4, 383), Err(Refusal::Progress));
     assert_eq!(run(BakeInput { lamps: &[0.0; 54], ..input }, 0, 999_999), Err(Refusal::Lamp));
     assert_eq!(run(BakeInput { sky: &[f32::NAN; SKY_LENGTH], ..input }, 0, 999_999), Err(Refusal::Light));
+    for words in [&[][..], &[0b111, 0]] {
+        assert_eq!(run(BakeInput { active: words, ..input }, 0, 384), Err(Refusal::Length));
+        let answer = sun(axes, unit_box(3.0), empty, Vec3::new(0.0, 1.0, 0.0), words, &mut [0.0; 3], &mut [0.0; 3], HitScratch { distances: &mut [], places: &mut [] });
+        assert_eq!(answer, Err(Refusal::Length));
+    }
+    // each bit past the three voxels, and every list as it was
+    for bit in 3..64 {
+        let (mut light, mut scratch, mut volume, mut kept) = ([5.0; 3], [6.0; 3], [7.0; 48], [8.0; 48]);
+        let mask = [0b101 | 1 << bit];
+        let hits = || HitScratch { distances: &mut [], places: &mut [] };
+        assert_eq!(sun(axes, unit_box(3.0), empty, Vec3::new(0.0, 1.0, 0.0), &mask, &mut light, &mut scratch, hits()), Err(Refusal::Contents));
+        assert_eq!(bake(BakeInput { active: &mask, ..input }, &mut volume, &mut kept, hits(), 0, u64::MAX), Err(Refusal::Contents));
+        assert_eq!((light, scratch, volume, kept), ([5.0; 3], [6.0; 3], [7.0; 48], [8.0; 48]));
+    }
     let part = voxel_part(ONE, &[1.0; 16], &[2.0; 16], 0, true).unwrap();
     assert_eq!(part, [2.0; 16]);
     assert_eq!(voxel_refusal(ONE, &[1.0; 16], &[2.0; 16], 1, true), Err(Refusal::Position));
@@ -132,6 +170,17 @@ fn lookups_and_files() {
     let (mut light, mut volume, mut occupied, mut active) = ([0.0], [1.0; 16], [0], [0]);
     read_volume(&bytes, &mut light, &mut volume, &mut occupied, &mut active).unwrap();
     assert_eq!((light, volume, occupied, active), ([0.25], [0.0; 16], [1], [1]));
+    for (occupied, active) in [(&[][..], &[1][..]), (&[1], &[1, 0])] {
+        assert_eq!(write_volume(ONE, unit_box(1.0), &[0.25], &[0.0; 16], occupied, active, &mut bytes.clone()), Err(Refusal::Length));
+        assert_eq!(read_volume(&bytes, &mut light, &mut volume, &mut occupied.to_vec(), &mut active.to_vec()), Err(Refusal::Length));
+    }
+    for bit in 1..64 {
+        for (occupied, active) in [(1 << bit, 1), (1, 1 << bit)] {
+            let mut kept = bytes.clone();
+            assert_eq!(write_volume(ONE, unit_box(1.0), &[0.5], &[0.0; 16], &[occupied], &[active], &mut kept), Err(Refusal::Contents));
+            assert_eq!(kept, bytes);
+        }
+    }
     assert_eq!(file_axes(&[]), Err(Refusal::File));
     assert_eq!(file_figures(&[0; 65_537]), Err(Refusal::TooLong));
     assert_eq!(root_bits(4f32.to_bits()), 2f32.to_bits());

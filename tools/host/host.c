@@ -7,7 +7,7 @@
 
 #include "geaidnosa.h"
 
-enum { W = 5, H = 4, D = 12, N = W * H * D, T = 14, M = 4, SKY = 1728, BYTES = 96 + 70 * N };
+enum { W = 5, H = 4, D = 12, N = W * H * D, WORDS = (N + 63) / 64, T = 14, M = 4, SKY = 1728, BYTES = 96 + 70 * N };
 
 static int failures = 0;
 
@@ -16,13 +16,14 @@ static void check(const char *what, int good) {
     failures += !good;
 }
 
-/* FNV-1a: a change of any bit of a list changes what is printed. */
-static uint64_t sum_of(const void *list, size_t bytes) {
+/* FNV-1a, begun or gone on with: a change of any bit of a list changes what is printed. */
+static uint64_t sum_on(uint64_t h, const void *list, size_t bytes) {
     const unsigned char *p = list;
-    uint64_t h = 0xcbf29ce484222325u;
     for (size_t i = 0; i < bytes; i++) h = (h ^ p[i]) * 0x100000001b3u;
     return h;
 }
+
+static uint64_t sum_of(const void *list, size_t bytes) { return sum_on(0xcbf29ce484222325u, list, bytes); }
 
 /* ---- the hall */
 
@@ -41,9 +42,11 @@ static float numbers[7 * M] = {
 };
 static const float lamps[54] = {2, 2, 3, 6, 5, 4}; /* a lamp in the hall, and eight black ones at a corner; as many numbers are lent as a check asks for */
 static size_t lamp_numbers = 0;
-static uint8_t occupied[N], active[N];
+static uint64_t occupied[WORDS], active[WORDS];
+static size_t active_words = WORDS; /* as many words are lent as a check asks for */
 static float lights[N], lights_scratch[N], volume[16 * N], scratch[16 * N], distances[T];
 static size_t places[T];
+static uint8_t file[BYTES];
 
 static size_t triangles = 0;
 
@@ -72,11 +75,13 @@ static void build(void) {
 
 /* ---- what this program works out for itself */
 
+static int marked(const uint64_t *mask, int i) { return (int)((mask[i / 64] >> (i % 64)) & 1); }
+
 static int near_occupied(int x, int y, int z) {
     for (int k = 0; k < D; k++)
         for (int j = 0; j < H; j++)
             for (int i = 0; i < W; i++)
-                if (abs(i - x) <= 2 && abs(j - y) <= 2 && abs(k - z) <= 2 && occupied[i + W * (j + H * k)]) return 1;
+                if (abs(i - x) <= 2 && abs(j - y) <= 2 && abs(k - z) <= 2 && marked(occupied, i + W * (j + H * k))) return 1;
     return 0;
 }
 
@@ -129,12 +134,12 @@ static float between(const float *list, int stride, int k, GeaidnosaVec3 p) {
 
 /* ---- calls with the hall's arguments */
 
-static GeaidnosaSunned sun(GeaidnosaVec3 direction, uint8_t *mask) {
-    return geaidnosa_sun(axes, corners, points, 9 * T, uses, T, kinds, M, numbers, 7 * M, direction, mask, N, lights, N, lights_scratch, N, distances, T, places, T);
+static GeaidnosaSunned sun(GeaidnosaVec3 direction, const uint64_t *mask) {
+    return geaidnosa_sun(axes, corners, points, 9 * T, uses, T, kinds, M, numbers, 7 * M, direction, mask, active_words, lights, N, lights_scratch, N, distances, T, places, T);
 }
 
 static GeaidnosaBakeAnswer bake(float *v, float *s, size_t progress, uint64_t allowance) {
-    return geaidnosa_bake(axes, corners, points, 9 * T, uses, T, kinds, M, numbers, 7 * M, light, ambient, sky, SKY, lamps, lamp_numbers, active, N, lights, N, v, 16 * N, s, 16 * N,
+    return geaidnosa_bake(axes, corners, points, 9 * T, uses, T, kinds, M, numbers, 7 * M, light, ambient, sky, SKY, lamps, lamp_numbers, active, active_words, lights, N, v, 16 * N, s, 16 * N,
                           distances, T, places, T, progress, allowance);
 }
 
@@ -148,6 +153,43 @@ static int is_hit(GeaidnosaRayHit h, size_t place, float t, float u, float v) {
 
 static int no_hit(GeaidnosaRayHit h, uint32_t refusal) {
     return h.refusal == refusal && h.hit == 0 && h.place == 0 && h.t == 0 && h.u == 0 && h.v == 0;
+}
+
+static uint32_t sun_refusal(void) { return sun(light.direction, active).refusal; }
+
+static uint32_t bake_refusal(void) { return bake(volume, scratch, 0, UINT64_MAX).refusal; }
+
+static uint32_t write_refusal(void) { return geaidnosa_write_volume(axes, corners, lights, N, volume, 16 * N, occupied, WORDS, active, active_words, file, BYTES); }
+
+/* of every list that those three write */
+static uint64_t written_sum(void) {
+    uint64_t h = sum_of(lights, sizeof lights);
+    h = sum_on(sum_on(h, lights_scratch, sizeof lights_scratch), volume, sizeof volume);
+    h = sum_on(sum_on(h, scratch, sizeof scratch), file, sizeof file);
+    return sum_on(sum_on(h, distances, sizeof distances), places, sizeof places);
+}
+
+/* with each bit past the last voxel set in turn the call refuses 13 and writes nothing */
+static int refuses_unused(uint64_t *mask, uint32_t (*call)(void)) {
+    uint64_t before = written_sum();
+    int good = 1;
+    for (int i = N; i < 64 * WORDS; i++) {
+        mask[i / 64] ^= (uint64_t)1 << (i % 64);
+        good = good && call() == 13 && written_sum() == before;
+        mask[i / 64] ^= (uint64_t)1 << (i % 64);
+    }
+    return good;
+}
+
+/* with a word of the active mask too few and one too many the call refuses 3 and writes nothing */
+static int refuses_word_counts(uint32_t (*call)(void)) {
+    uint64_t before = written_sum();
+    active_words = WORDS - 1;
+    int good = call() == 3;
+    active_words = WORDS + 1;
+    good = good && call() == 3;
+    active_words = WORDS;
+    return good && written_sum() == before;
 }
 
 /* ---- the checks */
@@ -179,27 +221,36 @@ static void check_rays(void) {
 }
 
 static void check_masks(void) {
-    memset(occupied, 7, N);
-    memset(active, 9, N);
+    memset(occupied, 0xf7, sizeof occupied);
+    memset(active, 0xf9, sizeof active);
+    uint64_t o_before = sum_of(occupied, sizeof occupied), a_before = sum_of(active, sizeof active);
     GeaidnosaAxes flat = {W, 0, D};
-    GeaidnosaMarked m = geaidnosa_masks(flat, corners, points, 9 * T, occupied, N, active, N);
+    GeaidnosaMarked m = geaidnosa_masks(flat, corners, points, 9 * T, occupied, WORDS, active, WORDS);
     int kept = m.refusal == 1 && m.occupied == 0 && m.active == 0;
-    for (int i = 0; i < N; i++) kept = kept && occupied[i] == 7 && active[i] == 9;
-    check("masks: an axis of 0, refuses 1 and writes nothing", kept);
-    m = geaidnosa_masks(axes, corners, points, 9 * T - 1, occupied, N, active, N);
+    check("masks: an axis of 0, refuses 1 and writes nothing", kept && sum_of(occupied, sizeof occupied) == o_before && sum_of(active, sizeof active) == a_before);
+    m = geaidnosa_masks(axes, corners, points, 9 * T - 1, occupied, WORDS, active, WORDS);
     check("masks: 9·T−1 numbers, refuses 3", m.refusal == 3);
-    m = geaidnosa_masks(axes, corners, points, 9 * T, occupied, N, active, N);
+    kept = 1;
+    for (int by = -1; by <= 1; by += 2) {
+        kept = kept && geaidnosa_masks(axes, corners, points, 9 * T, occupied, WORDS + by, active, WORDS).refusal == 3;
+        kept = kept && geaidnosa_masks(axes, corners, points, 9 * T, occupied, WORDS, active, WORDS + by).refusal == 3;
+    }
+    check("masks: a word too few and one too many, refuses 3 and writes nothing",
+          kept && sum_of(occupied, sizeof occupied) == o_before && sum_of(active, sizeof active) == a_before);
+    m = geaidnosa_masks(axes, corners, points, 9 * T, occupied, WORDS, active, WORDS);
     uint64_t o = 0, a = 0;
     int good = m.refusal == 0, near = 1;
+    uint8_t entries[N];
     for (int i = 0; i < N; i++) {
-        good = good && occupied[i] < 2 && active[i] < 2;
-        o += occupied[i];
-        a += active[i];
-        near = near && active[i] == near_occupied(i % W, i / W % H, i / (W * H));
+        entries[i] = (uint8_t)marked(occupied, i);
+        o += entries[i];
+        a += marked(active, i);
+        near = near && marked(active, i) == near_occupied(i % W, i / W % H, i / (W * H));
     }
-    check("masks: entries 0 or 1, both counts", good && m.occupied == o && m.active == a && 0 < o && o < a && a < N);
+    for (int i = N; i < 64 * WORDS; i++) good = good && !marked(occupied, i) && !marked(active, i);
+    check("masks: unused bits 0, both counts", good && m.occupied == o && m.active == a && 0 < o && o < a && a < N);
     check("masks: active within 2 of an occupied voxel on every axis", near);
-    printf("   occupied %llu of %d, active %llu, sum %016llx\n", (unsigned long long)o, N, (unsigned long long)a, (unsigned long long)sum_of(occupied, N));
+    printf("   occupied %llu of %d, active %llu, sum %016llx\n", (unsigned long long)o, N, (unsigned long long)a, (unsigned long long)sum_of(entries, N));
 }
 
 static void check_sun(uint64_t actives) {
@@ -211,13 +262,13 @@ static void check_sun(uint64_t actives) {
     memset(nans, 0xff, sizeof nans);
     check("sun: no direction, refuses 7 and writes nothing",
           s.refusal == 7 && s.rays == 0 && !memcmp(lights, nans, sizeof nans) && !memcmp(lights_scratch, nans, sizeof nans));
-    uint8_t none[N] = {0};
+    const uint64_t none[WORDS] = {0};
     s = sun(light.direction, none);
     int ones = s.refusal == 0 && s.rays == 0 && !memcmp(lights_scratch, nans, sizeof nans);
     for (int i = 0; i < N; i++) ones = ones && lights[i] == 1;
     check("sun: no voxel active, all 1.0, scratch as it was", ones);
-    none[N - 1] = 2;
-    check("sun: a mask's entry 2, refuses 13", sun(light.direction, none).refusal == 13);
+    check("sun: an unused bit of the mask set, each in turn, refuses 13 and writes nothing", refuses_unused(active, sun_refusal));
+    check("sun: a word too few and one too many, refuses 3 and writes nothing", refuses_word_counts(sun_refusal));
     s = sun(light.direction, active);
     check("sun: a ray for each active voxel", s.refusal == 0 && s.rays == actives);
     check("sun: the light is the squared mean of scratch", same_mean(lights, lights_scratch, 1, 1));
@@ -225,8 +276,8 @@ static void check_sun(uint64_t actives) {
     for (int i = 0; i < N; i++) {
         dark += lights_scratch[i] == 0;
         glass += lights_scratch[i] == 0.5f;
-        open += active[i] && lights_scratch[i] == 1;
-        rest = rest && (active[i] || lights_scratch[i] == 1);
+        open += marked(active, i) && lights_scratch[i] == 1;
+        rest = rest && (marked(active, i) || lights_scratch[i] == 1);
     }
     check("sun: before the blur some voxels see none, some half through the glass, some all, and inactive ones 1.0", dark && glass && open && rest);
     memcpy(before, lights_scratch, sizeof before);
@@ -254,6 +305,8 @@ static void check_bake(void) {
     check("bake: progress above the count, refuses 9 and gives it back", b.refusal == 9 && b.progress == N + 1 && b.rays == 0);
     b = bake(volume, scratch, N / 2, 384);
     check("bake: under way with a volume of NaN, refuses 13", b.refusal == 13 && b.progress == N / 2);
+    check("bake: an unused bit of the mask set, each in turn, refuses 13 and writes nothing", refuses_unused(active, bake_refusal));
+    check("bake: a word too few and one too many, refuses 3 and writes nothing", refuses_word_counts(bake_refusal));
     b = bake(volume, scratch, 0, UINT64_MAX);
     uint64_t rays = b.rays;
     check("bake: unbroken, to the end", b.refusal == 0 && b.progress == N && rays >= 64);
@@ -339,35 +392,47 @@ static void check_lookups(void) {
 }
 
 static void check_file(uint64_t occupieds, uint64_t actives) {
-    static uint8_t bytes[BYTES], again[BYTES], large[65537], a[N], o[N];
+    static uint8_t again[BYTES], large[65537];
+    static uint64_t a[WORDS + 1], o[WORDS + 1];
     static float l[N], v[16 * N];
     GeaidnosaNeeded needed = geaidnosa_volume_bytes(axes);
     check("volume_bytes: 96 + 70·N", needed.refusal == 0 && needed.bytes == BYTES);
-    check("write_volume: one byte too many, refuses 3", geaidnosa_write_volume(axes, corners, lights, N, volume, 16 * N, occupied, N, active, N, large, BYTES + 1) == 3);
-    check("write_volume: written", geaidnosa_write_volume(axes, corners, lights, N, volume, 16 * N, occupied, N, active, N, bytes, BYTES) == 0 && !memcmp(bytes, "VGRD\5\0\4\0\14\0\5\0", 12));
-    GeaidnosaHead h = geaidnosa_file_axes(bytes, BYTES);
+    check("write_volume: one byte too many, refuses 3", geaidnosa_write_volume(axes, corners, lights, N, volume, 16 * N, occupied, WORDS, active, WORDS, large, BYTES + 1) == 3);
+    check("write_volume: an unused bit of either mask set, each in turn, refuses 13 and writes nothing", refuses_unused(occupied, write_refusal) && refuses_unused(active, write_refusal));
+    check("write_volume: a word too few and one too many, refuses 3 and writes nothing", refuses_word_counts(write_refusal));
+    check("write_volume: written", write_refusal() == 0 && !memcmp(file, "VGRD\5\0\4\0\14\0\5\0", 12));
+    GeaidnosaHead h = geaidnosa_file_axes(file, BYTES);
     check("file_axes: axes and corners as written",
           h.refusal == 0 && h.axes.width == W && h.axes.height == H && h.axes.depth == D && !memcmp(&h.corners, &corners, sizeof corners));
     memset(l, 0xff, sizeof l);
-    h = geaidnosa_read_volume(bytes, BYTES, l, N, v, 16 * N - 1, o, N, a, N);
+    memset(a, 0xff, sizeof a);
+    memset(o, 0xff, sizeof o);
+    h = geaidnosa_read_volume(file, BYTES, l, N, v, 16 * N - 1, o, WORDS, a, WORDS);
     int kept = h.refusal == 3 && h.axes.width == 0;
     for (int i = 0; i < N; i++) kept = kept && l[i] != l[i];
     check("read_volume: a volume of 16·N−1, refuses 3 and writes nothing", kept);
-    h = geaidnosa_read_volume(bytes, BYTES, l, N, v, 16 * N, o, N, a, N);
-    check("read_volume: every bit returns",
-          h.refusal == 0 && h.axes.depth == D && !memcmp(l, lights, sizeof l) && !memcmp(v, volume, sizeof v) && !memcmp(a, active, N) && !memcmp(o, occupied, N));
-    check("write_volume: what was read gives the same bytes", geaidnosa_write_volume(h.axes, h.corners, l, N, v, 16 * N, o, N, a, N, again, BYTES) == 0 && !memcmp(again, bytes, BYTES));
+    for (int by = -1; by <= 1; by += 2) {
+        kept = kept && geaidnosa_read_volume(file, BYTES, l, N, v, 16 * N, o, WORDS + by, a, WORDS).refusal == 3;
+        kept = kept && geaidnosa_read_volume(file, BYTES, l, N, v, 16 * N, o, WORDS, a, WORDS + by).refusal == 3;
+    }
+    for (int i = 0; i <= WORDS; i++) kept = kept && a[i] == UINT64_MAX && o[i] == UINT64_MAX;
+    check("read_volume: a word too few and one too many, refuses 3 and writes nothing", kept);
+    h = geaidnosa_read_volume(file, BYTES, l, N, v, 16 * N, o, WORDS, a, WORDS);
+    check("read_volume: every bit returns, unused bits 0",
+          h.refusal == 0 && h.axes.depth == D && !memcmp(l, lights, sizeof l) && !memcmp(v, volume, sizeof v) && !memcmp(a, active, sizeof active) && !memcmp(o, occupied, sizeof occupied));
+    check("write_volume: what was read gives the same bytes",
+          geaidnosa_write_volume(h.axes, h.corners, l, N, v, 16 * N, o, WORDS, a, WORDS, again, BYTES) == 0 && !memcmp(again, file, BYTES));
     uint64_t zeros = 0;
     for (int i = 0; i < N; i++) zeros += lights[i] == 0;
-    GeaidnosaFigures f = geaidnosa_file_figures(bytes, BYTES);
+    GeaidnosaFigures f = geaidnosa_file_figures(file, BYTES);
     check("file_figures: axes, counts and zero lights",
           f.refusal == 0 && f.width == W && f.height == H && f.depth == D && f.occupied == occupieds && f.active == actives && f.zeros == zeros);
-    check("file_axes: one byte short, refuses 12", geaidnosa_file_axes(bytes, BYTES - 1).refusal == 12);
-    bytes[BYTES - 1] = 0x7f;
-    bytes[BYTES - 2] = 0x80;
-    check("read_volume: a corner infinite, refuses 12", geaidnosa_read_volume(bytes, BYTES, l, N, v, 16 * N, o, N, a, N).refusal == 12);
+    check("file_axes: one byte short, refuses 12", geaidnosa_file_axes(file, BYTES - 1).refusal == 12);
+    file[BYTES - 1] = 0x7f;
+    file[BYTES - 2] = 0x80;
+    check("read_volume: a corner infinite, refuses 12", geaidnosa_read_volume(file, BYTES, l, N, v, 16 * N, o, WORDS, a, WORDS).refusal == 12);
     check("file_figures: 65,537 bytes, refuses 14", geaidnosa_file_figures(large, sizeof large).refusal == 14);
-    check("file_figures: empty, refuses 12", geaidnosa_file_figures(bytes, 0).refusal == 12);
+    check("file_figures: empty, refuses 12", geaidnosa_file_figures(file, 0).refusal == 12);
     printf("   file sum %016llx\n", (unsigned long long)sum_of(again, BYTES));
 }
 
@@ -417,7 +482,7 @@ int main(void) {
     check_counts();
     check_masks();
     uint64_t o = 0, a = 0;
-    for (int i = 0; i < N; i++) o += occupied[i], a += active[i];
+    for (int i = 0; i < N; i++) o += marked(occupied, i), a += marked(active, i);
     check_sun(a);
     check_bake();
     check_lookups();

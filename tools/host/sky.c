@@ -6,7 +6,7 @@
 
 #include "geaidnosa.h"
 
-enum { W = 12, H = 8, D = 10, N = W * H * D, T = 6, SKY = 1728 };
+enum { W = 12, H = 8, D = 10, N = W * H * D, WORDS = (N + 63) / 64, T = 6, SKY = 1728 };
 
 static const GeaidnosaAxes axes = {W, H, D};
 static const GeaidnosaCorners corners = {{0, 0, 0}, {6, 4, 5}};
@@ -24,7 +24,7 @@ static const float numbers[21] = {
     0.5f, 0.5f, 0.5f, 0, 0, 0, 0.5f, /* half of the light passes */
 };
 static const float lamps[6] = {3, 2.5f, 2, 2, 2, 2};
-static uint8_t occupied[N], active[N];
+static uint64_t occupied[WORDS], active[WORDS];
 static float directions[SKY], sky[SKY], lights[N], lights_scratch[N], volume[16 * N], scratch[16 * N], first[16 * N], distances[T];
 static size_t places[T];
 
@@ -71,9 +71,9 @@ static void show(const char *what, GeaidnosaVec3 at, GeaidnosaVec3 n) {
 
 int main(void) {
     printf("geaidnosa %s, the archive %u\n", GEAIDNOSA_VERSION, geaidnosa_version());
-    GeaidnosaMarked marked = geaidnosa_masks(axes, corners, points, 9 * T, occupied, N, active, N);
+    GeaidnosaMarked marked = geaidnosa_masks(axes, corners, points, 9 * T, occupied, WORDS, active, WORDS);
     good("masks", marked.refusal);
-    GeaidnosaSunned sunned = geaidnosa_sun(axes, corners, points, 9 * T, uses, T, kinds, 3, numbers, 21, sun.direction, active, N, lights, N, lights_scratch, N,
+    GeaidnosaSunned sunned = geaidnosa_sun(axes, corners, points, 9 * T, uses, T, kinds, 3, numbers, 21, sun.direction, active, WORDS, lights, N, lights_scratch, N,
                                            distances, T, places, T);
     good("sun", sunned.refusal);
     GeaidnosaAmbient ambient = fill_sky();
@@ -84,7 +84,7 @@ int main(void) {
         uint64_t rays = 0;
         int calls = 0;
         while (baked.progress < N) {
-            baked = geaidnosa_bake(axes, corners, points, 9 * T, uses, T, kinds, 3, numbers, 21, sun, ambient, sky, SKY, lamps, 6, active, N, lights, N, volume,
+            baked = geaidnosa_bake(axes, corners, points, 9 * T, uses, T, kinds, 3, numbers, 21, sun, ambient, sky, SKY, lamps, 6, active, WORDS, lights, N, volume,
                                    16 * N, scratch, 16 * N, distances, T, places, T, baked.progress, allowances[k]);
             good("bake", baked.refusal);
             rays += baked.rays;

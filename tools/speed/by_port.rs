@@ -4,9 +4,19 @@ use crate::port::{self, Ambient, Axes, CoefficientsAt, Corners, Light, LightAt, 
 use crate::{bits, measure, met, Lists, MET, POSITIONS, RAYS, SHORTEST};
 
 const GRID: Axes = Axes { width: AXES[0], height: AXES[1], depth: AXES[2] };
+const WORDS: usize = (VOXELS + 63) / 64;
 
 fn vec3(v: &[f32]) -> Vec3 {
     Vec3 { x: v[0], y: v[1], z: v[2] }
+}
+
+fn words(mask: &[bool]) -> Vec<u64> {
+    mask.chunks(64).map(|word| word.iter().rev().fold(0, |w, marked| 2 * w + *marked as u64)).collect()
+}
+
+/// An entry a voxel.
+fn entries(mask: &[u64]) -> impl Iterator<Item = u32> + '_ {
+    (0..VOXELS).map(|i| (mask[i / 64] >> (i % 64)) as u32 & 1)
 }
 
 /// What the calls answer and write.
@@ -15,8 +25,8 @@ struct State {
     passed: Vec<Transmitted>,
     lit: Vec<LightAt>,
     coefficients: Vec<CoefficientsAt>,
-    occupied: Vec<u8>,
-    active: Vec<u8>,
+    occupied: Vec<u64>,
+    active: Vec<u64>,
     lights: Vec<f32>,
     lights_scratch: Vec<f32>,
     volume: Vec<f32>,
@@ -33,8 +43,8 @@ impl State {
             passed: Vec::with_capacity(RAYS),
             lit: Vec::with_capacity(POSITIONS),
             coefficients: Vec::with_capacity(POSITIONS),
-            occupied: vec![7; VOXELS],
-            active: vec![7; VOXELS],
+            occupied: vec![7; WORDS],
+            active: vec![7; WORDS],
             lights: vec![0.0; VOXELS],
             lights_scratch: vec![0.0; VOXELS],
             volume: vec![0.0; 16 * VOXELS],
@@ -56,7 +66,7 @@ impl State {
     }
 
     /// The bake, so many rays a call.
-    fn bake(&mut self, hall: &Hall, lists: &Lists, corners: Corners, allowance: u64) {
+    fn bake(&mut self, hall: &Hall, lists: &Lists, few: &[u64], corners: Corners, allowance: u64) {
         let light = Light { direction: vec3(&DIRECTION), colour: vec3(&COLOUR) };
         let ambient = Ambient { c: [0, 3, 6, 9].map(|i| vec3(&AMBIENT[i..])) };
         let triangles = hall.triangles();
@@ -65,7 +75,7 @@ impl State {
             let answer = unsafe {
                 port::geaidnosa_bake(
                     GRID, corners, hall.points.as_ptr(), 9 * triangles, hall.uses.as_ptr(), triangles, KINDS.as_ptr(), MATERIALS, NUMBERS.as_ptr(),
-                    7 * MATERIALS, light, ambient, hall.sky.as_ptr(), hall.sky.len(), hall.sky.as_ptr(), 0, lists.few.as_ptr(), VOXELS, lists.lights.as_ptr(), VOXELS,
+                    7 * MATERIALS, light, ambient, hall.sky.as_ptr(), hall.sky.len(), hall.sky.as_ptr(), 0, few.as_ptr(), WORDS, lists.lights.as_ptr(), VOXELS,
                     self.volume.as_mut_ptr(), 16 * VOXELS, self.volume_scratch.as_mut_ptr(), 16 * VOXELS, self.distances.as_mut_ptr(), triangles,
                     self.places.as_mut_ptr(), triangles, progress, allowance,
                 )
@@ -91,7 +101,8 @@ pub fn answer(call: &str, turns: Option<usize>, hall: &Hall, lists: &Lists) -> V
         s.lights.copy_from_slice(&lists.lights);
         s.volume.copy_from_slice(&lists.volume);
     };
-    let words = match call {
+    let (active, few) = (words(&lists.active), words(&lists.few));
+    let answered = match call {
         "meet" => {
             measure(turns, s, |s| s.hits.clear(), |s| {
                 for ray in &rays[..MET] {
@@ -126,10 +137,10 @@ pub fn answer(call: &str, turns: Option<usize>, hall: &Hall, lists: &Lists) -> V
         "masks" => {
             measure(turns, s, still, |s| {
                 s.refusal = unsafe {
-                    port::geaidnosa_masks(GRID, corners, points, 9 * count, s.occupied.as_mut_ptr(), VOXELS, s.active.as_mut_ptr(), VOXELS).refusal
+                    port::geaidnosa_masks(GRID, corners, points, 9 * count, s.occupied.as_mut_ptr(), WORDS, s.active.as_mut_ptr(), WORDS).refusal
                 };
             });
-            s.occupied.iter().chain(&s.active).map(|m| *m as u32).collect()
+            entries(&s.occupied).chain(entries(&s.active)).collect()
         }
         "light blur" => {
             measure(turns, s, with_lists, |s| {
@@ -148,7 +159,7 @@ pub fn answer(call: &str, turns: Option<usize>, hall: &Hall, lists: &Lists) -> V
                 s.refusal = unsafe {
                     port::geaidnosa_sun(
                         GRID, corners, points, 9 * count, uses, count, kinds, MATERIALS, numbers, 7 * MATERIALS, vec3(&DIRECTION),
-                        lists.active.as_ptr(), VOXELS, s.lights.as_mut_ptr(), VOXELS, s.lights_scratch.as_mut_ptr(), VOXELS, s.distances.as_mut_ptr(),
+                        active.as_ptr(), WORDS, s.lights.as_mut_ptr(), VOXELS, s.lights_scratch.as_mut_ptr(), VOXELS, s.distances.as_mut_ptr(),
                         count, s.places.as_mut_ptr(), count,
                     )
                     .refusal
@@ -158,7 +169,7 @@ pub fn answer(call: &str, turns: Option<usize>, hall: &Hall, lists: &Lists) -> V
         }
         "bake" | "bake in parts" => {
             let allowance = if call == "bake" { u64::MAX } else { 2000 };
-            measure(turns, s, still, |s| s.bake(hall, lists, corners, allowance));
+            measure(turns, s, still, |s| s.bake(hall, lists, &few, corners, allowance));
             bits(&s.volume)
         }
         "light at" => {
@@ -196,5 +207,5 @@ pub fn answer(call: &str, turns: Option<usize>, hall: &Hall, lists: &Lists) -> V
         }
     };
     assert!(!state.refused(), "{call} was refused");
-    words
+    answered
 }

@@ -26,15 +26,11 @@ fn grid() -> VoxelGrid {
 }
 
 /// The hall's active mask.
-pub fn active(hall: &Hall) -> Vec<u8> {
+pub fn active(hall: &Hall) -> Vec<bool> {
     let scene = scene(hall);
     let mut grid = grid();
     gi::build_active_voxel_mask(&RayTracer::new(&scene), &scene, &mut grid);
-    grid.active_mask().expect("set").iter().map(|a| *a as u8).collect()
-}
-
-fn flags(mask: &[u8]) -> Vec<bool> {
-    mask.iter().map(|m| *m == 1).collect()
+    grid.active_mask().expect("set").to_vec()
 }
 
 fn packed(volume: &[f32]) -> Vec<[Vec4; 4]> {
@@ -134,13 +130,13 @@ pub fn answer(call: &str, turns: Option<usize>, hall: &Hall, lists: &Lists) -> V
             s.volume()
         }
         "sun" => {
-            measure(turns, s, |s| s.grid.set_active_mask(flags(&lists.active)), |s| gi::compute_sun_visibility(&tracer, &scene, &mut s.grid));
+            measure(turns, s, |s| s.grid.set_active_mask(lists.active.clone()), |s| gi::compute_sun_visibility(&tracer, &scene, &mut s.grid));
             s.lights()
         }
         "bake" | "bake in parts" => {
             let with_mask = |s: &mut State| {
                 with_lists(s);
-                s.grid.set_active_mask(flags(&lists.few));
+                s.grid.set_active_mask(lists.few.clone());
             };
             measure(turns, s, with_mask, |s| gi::bake_voxel_gi(&tracer, &scene, &mut s.grid));
             s.volume()

@@ -52,8 +52,8 @@ pub const SHORTEST: f32 = 1.0e-4;
 pub struct Lists {
     pub lines: Vec<Line>,
     pub positions: Vec<[f32; 3]>,
-    pub active: Vec<u8>,
-    pub few: Vec<u8>,
+    pub active: Vec<bool>,
+    pub few: Vec<bool>,
     pub lights: Vec<f32>,
     pub volume: Vec<f32>,
 }
@@ -66,9 +66,9 @@ impl Lists {
         let lights = (0..VOXELS).map(|_| chance.between(0.0, 1.0)).collect();
         let volume = (0..16 * VOXELS).map(|_| chance.between(0.0, 4.0)).collect();
         let active = by_rust::active(hall);
-        let mut few = vec![0; VOXELS];
-        for voxel in (0..VOXELS).filter(|i| active[*i] == 1).step_by(BAKED) {
-            few[voxel] = 1;
+        let mut few = vec![false; VOXELS];
+        for voxel in (0..VOXELS).filter(|i| active[*i]).step_by(BAKED) {
+            few[voxel] = true;
         }
         Lists { lines, positions, active, few, lights, volume }
     }

@@ -1,43 +1,25 @@
 -- How the code finds the active mask: the occupied mask is dilated along x, what came of it along y, and what came of that along z.
--- A list of voxels is a grid in three ways, whose middle axis is x, y or z; one definition dilates along a middle axis, line by line. Assumes nothing.
+-- A list of voxels is a grid in three ways, whose middle axis is x, y or z; one definition dilates along a middle axis. Assumes nothing.
 use mathlib.Core.Bool.{Bool, cond, _&&_}
 use mathlib.Core.List.{List}
-use Prim.Native.Nat.{ℕ, _+_, _*_, _/_, _%_}
-use lib.Dec.{ltb}
-use lib.ListN.{set}
-use Rattle.names.specs.Numbers.{reach}
-use Rattle.lists.specs.Fold.{fold}
+use Prim.Native.Nat.{ℕ, _*_}
+use Rattle.lists.specs.Fold.{tab}
 use Rattle.lists.specs.Any.{any}
 use Rattle.grid.specs.declared.Axes.{Axes}
+use Rattle.grid.specs.Grid.{voxels, indexOf, xOf, yOf, zOf}
 use Rattle.marks.specs.Marks.{isMarked}
 use Rattle.dilate.specs.Active.{withinReach}
 
--- place k of a line, whose places are stride apart
-abbrev pub placeOn : ℕ → ℕ → ℕ → ℕ
-placeOn start stride k = start + k * stride
+-- the line of voxels (r, .., o) has a mark within 2 of its place c
+abbrev pub lineHas : Axes → List ℕ → ℕ → ℕ → ℕ → Bool
+lineHas view mask r c o = any (λ j. isMarked mask (indexOf view r j o) && withinReach j c) (view .height) 0
 
--- a line of n places has a mark within 2 of its place k
-unfoldable pub lineHas : List ℕ → ℕ → ℕ → ℕ → ℕ → Bool
-lineHas mask start stride n k = any (λ j. isMarked mask (placeOn start stride j) && withinReach j k) n 0
-
--- place k of the line set to what the line has in the mask
-abbrev pub setOn : List ℕ → ℕ → ℕ → ℕ → ℕ → List ℕ → List ℕ
-setOn mask start stride n k l = set l (placeOn start stride k) (cond (lineHas mask start stride n k) 1 0)
-
--- a line dilated: each of its places set to that
-unfoldable pub lineDilated : ℕ → ℕ → ℕ → List ℕ → List ℕ
-lineDilated start stride n mask = fold (setOn mask start stride n) n 0 mask
-
--- the first place of line t along a grid's middle axis
-abbrev pub lineStart : Axes → ℕ → ℕ
-lineStart view t = t / view .width * view .height * view .width + t % view .width
-
-abbrev pub dilateLine : Axes → ℕ → List ℕ → List ℕ
-dilateLine view t mask = lineDilated (lineStart view t) (view .width) (view .height) mask
+abbrev pub middleEntry : Axes → List ℕ → ℕ → ℕ
+middleEntry view mask i = cond (lineHas view mask (xOf view i) (yOf view i) (zOf view i)) 1 0
 
 -- a grid dilated along its middle axis
 unfoldable pub dilateMiddle : Axes → List ℕ → List ℕ
-dilateMiddle view mask = fold (dilateLine view) (view .depth * view .width) 0 mask
+dilateMiddle view mask = tab (middleEntry view mask) (voxels view) 0
 
 -- the same voxels as a grid whose middle axis is x; as they are, it is y; and as one whose middle axis is z
 abbrev pub middleX : Axes → Axes
@@ -49,7 +31,3 @@ middleZ axes = record { width = axes .height * axes .width; height = axes .depth
 -- along x, then y, then z
 unfoldable pub dilateByAxes : Axes → List ℕ → List ℕ
 dilateByAxes axes occupied = dilateMiddle (middleZ axes) (dilateMiddle axes (dilateMiddle (middleX axes) occupied))
-
--- A walk along a line keeps the place past the reach of the last mark that it read.
-abbrev pub pastReach : List ℕ → ℕ → ℕ → ℕ → ℕ → ℕ → ℕ
-pastReach mask start stride n k past = cond (ltb k n && isMarked mask (placeOn start stride k)) (k + (reach + 1)) past

@@ -25,7 +25,7 @@ use Rattle.limits.specs.Limits.{within, upTo, outsideV, badAxes, badCorners, ba
 use Rattle.lists.specs.Some.{some}
 use Rattle.triangle.specs.Meet.{absentOf, solvedOf, judgedOf, meetOf}
 use Rattle.triangle.specs.Places.{triangleAt}
-use Rattle.scan.specs.Hits.{before, insertOf, withMeet, hitsOf}
+use Rattle.hits.specs.Hits.{before, insertOf, withMeet, hitsOf}
 use Rattle.scan.specs.Transmittance.{passOf, transmittanceOf}
 use Rattle.rays.specs.Rays.{meetRefusal, valuesOfTest, meetValues, wrongScratch, transmittanceRefusal}
 use Rattle.means.specs.Box.{lightBlurOf, squareAt, meanAt, meanIn, around, along}

@@ -32,8 +32,8 @@ use Rattle.triangle.specs.declared.Meet.the-variants.{Miss, Hit}
 use Rattle.scan.specs.Nearest.{nearestTo, nearerOf, meetAt, beats}
 use Rattle.scan.specs.declared.Nearest.{Nearest}
 use Rattle.scan.specs.declared.Nearest.the-variants.{Nothing, At}
-use Rattle.scan.specs.Hits.{hitsOf, placesOf}
-use Rattle.scan.specs.HitLaws.{places-below}
+use Rattle.hits.specs.Hits.{hitsOf, placesOf}
+use Rattle.hits.specs.HitLaws.{places-below}
 use Rattle.scan.specs.Transmittance.{transmittanceOf, passOf, kindAt, transmissionAt}
 use Rattle.bounce.specs.declared.Way.{Way}
 use Rattle.bounce.specs.Light.{faceNormal, blackOf, slantOf}

@@ -61,8 +61,8 @@ pub struct PartStart {
 
 // ---- the version
 
-// 0.1.0: major·1,000,000 + minor·1,000 + patch, as GEAIDNOSA_VERSION_NUMBER in the header.
-const VERSION: u32 = 1000;
+// 0.2.0: major·1,000,000 + minor·1,000 + patch, as GEAIDNOSA_VERSION_NUMBER in the header.
+const VERSION: u32 = 2000;
 
 #[no_mangle]
 pub extern "C" fn geaidnosa_version() -> u32
@@ -131,8 +131,8 @@ pub extern "C" fn geaidnosa_masks(
     axes: Axes,
     corners: Corners,
     points: &[f32],
-    occupied: &mut [u8],
-    active: &mut [u8],
+    occupied: &mut [u64],
+    active: &mut [u64],
 ) -> Marked
     ensures { λ r. ⌜ MasksFilled axes corners (now (points .entry)) (now (occupied .entry)) (now (active .entry)) r (now (occupied .exit)) (now (active .exit)) ⌝ }
 {
@@ -166,7 +166,7 @@ pub extern "C" fn geaidnosa_sun(
     kinds: &[u8],
     numbers: &[f32],
     direction: Vec3,
-    active: &[u8],
+    active: &[u64],
     light: &mut [f32],
     scratch: &mut [f32],
     distances: &mut [f32],
@@ -204,7 +204,7 @@ pub extern "C" fn geaidnosa_bake(
     ambient: Ambient,
     sky: &[f32],
     lamps: &[f32],
-    active: &[u8],
+    active: &[u64],
     lights: &[f32],
     volume: &mut [f32],
     scratch: &mut [f32],
@@ -349,8 +349,8 @@ pub extern "C" fn geaidnosa_read_volume(
     bytes: &[u8],
     light: &mut [f32],
     volume: &mut [f32],
-    occupied: &mut [u8],
-    active: &mut [u8],
+    occupied: &mut [u64],
+    active: &mut [u64],
 ) -> Head
     ensures { λ r. ⌜ VolumeRead (now (bytes .entry)) (now (light .entry)) (now (volume .entry)) (now (active .entry)) (now (occupied .entry)) r (now (light .exit)) (now (volume .exit)) (now (active .exit)) (now (occupied .exit)) ⌝ }
 {
@@ -363,8 +363,8 @@ pub extern "C" fn geaidnosa_write_volume(
     corners: Corners,
     light: &[f32],
     volume: &[f32],
-    occupied: &[u8],
-    active: &[u8],
+    occupied: &[u64],
+    active: &[u64],
     bytes: &mut [u8],
 ) -> u32
     ensures { λ r. ⌜ VolumeWritten axes corners (now (light .entry)) (now (volume .entry)) (now (active .entry)) (now (occupied .entry)) (now (bytes .entry)) r (now (bytes .exit)) ⌝ }

@@ -1,7 +1,9 @@
 -- A good input: a grid of 3×1×1 voxels, all active, no triangles, a black sky. It is accepted at an allowance of 384 rays, and refused 10 at 383;
--- with one lamp accepted at 448, and refused 10 at 447.
+-- with one lamp accepted at 448, and refused 10 at 447. Its mask is the word 7: with a bit of another voxel set, 15, it is refused 13, and with a word
+-- more or none 3.
 use mathlib.Core.Path.{_≡_, refl}
 use mathlib.Core.List.{List, [], _∷_}
+use Prim.Native.Nat.{ℕ}
 use lib.ListN.{replicate}
 use lib.Ieee as Ieee
 use lib.Ieee.{Float, ofBits, ofInt}
@@ -17,8 +19,8 @@ use Rattle.limits.specs.Limits.{within, upTo, outsideV, badAxes, badCorners, ba
 use Rattle.words.specs.Words.{unusedSet}
 use Rattle.intake.specs.Intake.{BakeInput, inputOf, wrongLengths, wrongBakeLists, badLighting, badVolume, badContents, bakeRows, bakeRefusal}
 
-abbrev pub threeWith : List Float → BakeInput
-threeWith lamps =
+abbrev pub threeOf : List ℕ → List Float → BakeInput
+threeOf active lamps =
     inputOf (record { width = 3; height = 1; depth = 1 })
     (record { min = vec zero32 zero32 zero32; max = vec (lit 0x40400000) one32 one32 })
     (sceneOf [] [] [] [])
@@ -31,10 +33,13 @@ threeWith lamps =
     })
     (replicate 1728 zero32)
     lamps
-    (7 ∷ [])
+    active
     (one32 ∷ one32 ∷ one32 ∷ [])
     0
     0
+
+abbrev pub threeWith : List Float → BakeInput
+threeWith lamps = threeOf (7 ∷ []) lamps
 
 abbrev pub three : BakeInput
 three = threeWith []
@@ -58,3 +63,7 @@ three-accepted = (refl, refl)
 pub lit-accepted : (bakeRefusal threeLit begun 448 ≡ 0) × (bakeRefusal threeLit begun 447 ≡ 10) × (bakeRefusal (threeWith (replicate 54 one32)) begun 0 ≡ 19)
 unfolding bakeRefusal bakeRows firstOf some within upTo outsideV badAxes badCorners badEdges wrongShare wrongScene tooMany badPoints badKinds badFrom badUses badMaterials badDirection badLight badAmbient badSky unusedSet badLights badCoefficients wrongLengths wrongBakeLists badLighting badLamp badLamps lampAt any badVolume badContents edgesOf dotV ofBits ofInt Ieee.add Ieee.sub Ieee.mul Ieee.div Ieee.neg Ieee.le Ieee.lt Ieee.eq
 lit-accepted = (refl, refl, refl)
+
+pub mask-judged : (bakeRefusal (threeOf (15 ∷ []) []) begun 384 ≡ 13) × (bakeRefusal (threeOf (7 ∷ 0 ∷ []) []) begun 384 ≡ 3) × (bakeRefusal (threeOf [] []) begun 384 ≡ 3)
+unfolding bakeRefusal bakeRows firstOf some within upTo outsideV badAxes badCorners badEdges wrongShare wrongScene tooMany badPoints badKinds badFrom badUses badMaterials badDirection badLight badAmbient badSky unusedSet badLights badCoefficients wrongLengths wrongBakeLists badLighting badLamp badLamps lampAt any badVolume badContents edgesOf dotV ofBits ofInt Ieee.add Ieee.sub Ieee.mul Ieee.div Ieee.neg Ieee.le Ieee.lt Ieee.eq
+mask-judged = (refl, refl, refl)

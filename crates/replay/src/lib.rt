@@ -2,7 +2,8 @@
 //
 // Standard input is a run of records, each led by its length in bytes. A record is a run of little-endian words, the first its kind. A list in
 // it is its length, the length k of a pattern, the pattern's k words (entry i is word i mod k), the count of exceptions, and for each its
-// place and its word. A list of places has two words an entry, low first, and its length counts words.
+// place and its word. A list of places has two words an entry, low first, and its length counts words. A mask has an entry a voxel, and is lent as
+// 64-bit words: entry i is bit i % 64 of word i / 64, set exactly where the entry is 1.
 ghost use Prim.Native.Nat.{_<_, _≤_};
 ghost use lib.ListN.{length};
 
@@ -12,6 +13,9 @@ const SIGN: u32 = 0x8000_0000;
 
 // No record is that long: sums of places stay far below what a usize holds.
 const FAR: usize = 4294967296;
+
+// 2^63: what is below it can be doubled.
+const HALF: u64 = 9223372036854775808;
 
 // What was compared: records and things in them, and where the first difference stood.
 pub struct Tally {
@@ -177,6 +181,52 @@ pub fn places(s: &[u8], at: usize, out: &mut [usize]) {
     }
 }
 
+// How many words the mask at `at` takes, cut to what a lent list of length `most` holds.
+pub fn mask_words(s: &[u8], at: usize, most: usize) -> usize
+    ensures { λ r. ⌜ r ≤ most ⌝ }
+{
+    let n = (small(s, at) + 63) / 64;
+    if n < most {
+        return n;
+    }
+    most
+}
+
+// Fills `out` with the words of the mask at `at`.
+pub fn mask(s: &[u8], at: usize, out: &mut [u64]) {
+    let mut k: usize = 0;
+    while k < out.len() {
+        out[k] = mask_word(s, at, k);
+        k += 1;
+    }
+}
+
+// Word `k` of the mask at `at`.
+fn mask_word(s: &[u8], at: usize, k: usize) -> u64 {
+    let mut w: u64 = 0;
+    let mut j: usize = 64;
+    while 0 < j {
+        j -= 1;
+        w = mask_bit(s, at, k, j) + w % HALF * 2;
+    }
+    w
+}
+
+// 1 where entry 64·k + j of the mask at `at` is 1, else 0.
+fn mask_bit(s: &[u8], at: usize, k: usize, j: usize) -> u64
+    ensures { λ r. ⌜ r < 2 ⌝ }
+{
+    if k < FAR {
+        let i = further(k * 64, j);
+        if i < small(s, at) {
+            if entry(s, at, i) == 1 {
+                return 1;
+            }
+        }
+    }
+    0
+}
+
 // Fills a scene's four lists, which stand one after another from `from` on.
 pub fn scene(
     s: &[u8],
@@ -232,16 +282,17 @@ pub fn same_floats(s: &[u8], at: usize, list: &[f32]) -> bool {
     true
 }
 
-pub fn same_bytes(s: &[u8], at: usize, list: &[u8]) -> bool {
-    if small(s, at) != list.len() {
+// Whether the words are those of the recorded mask: as many, and each bit, also those past the last entry.
+pub fn same_mask(s: &[u8], at: usize, list: &[u64]) -> bool {
+    if (small(s, at) + 63) / 64 != list.len() {
         return false;
     }
-    let mut i: usize = 0;
-    while i < list.len() {
-        if wide(list[i]) != entry(s, at, i) {
+    let mut k: usize = 0;
+    while k < list.len() {
+        if list[k] != mask_word(s, at, k) {
             return false;
         }
-        i += 1;
+        k += 1;
     }
     true
 }
@@ -322,7 +373,8 @@ pub fn ended(t: Tally) -> Tally {
     }
 }
 
-// Room for a record, and for each list that a call is lent: one triangle and one material more than are accepted, and 512 voxels.
+// Room for a record, and for each list that a call is lent: one triangle and one material more than are accepted, and 512 voxels; of masks alone
+// 32,768 voxels and three words more.
 pub fn buffer() -> [u8; 1048576] {
     [0u8; 1048576]
 }
@@ -355,8 +407,8 @@ pub fn room_for_places() -> [usize; 4100] {
     [0usize; 4100]
 }
 
-pub fn room_for_mask() -> [u8; 520] {
-    [0u8; 520]
+pub fn room_for_mask() -> [u64; 515] {
+    [0u64; 515]
 }
 
 pub fn room_for_light() -> [f32; 520] {

@@ -1,28 +1,16 @@
-// Replays the oracle's recorded answers for the bake, whole and interrupted: at each call the refusal, the progress, the rays, the volume and its
-// scratch bit by bit, and the hit scratch where no ray is traced.
+// Replays the oracle's recorded answers for the bake. A record of calls, whole and interrupted: at each call the refusal, the progress, the rays, the
+// volume and its scratch bit by bit, and the hit scratch where no ray is traced. A record of rays: each ray that the bake of a small scene fires, and their
+// number, which is also the one that the bake reports.
 use bake::BakeAnswer;
-use limits::Ambient;
-use limits::Light;
 use replay::Tally;
 
 // Where the lists begin: points, uses, kinds, numbers, sky, lamps, active, light, volume, scratch, distances, places.
 const FROM: usize = 31;
 
-fn light(s: &[u8]) -> Light {
-    Light {
-        direction: replay_values::vector(s, 13),
-        colour: replay_values::vector(s, 16),
-    }
-}
+// The two kinds of record.
+const CALLS: u32 = 7;
 
-fn ambient(s: &[u8]) -> Ambient {
-    Ambient {
-        c0: replay_values::vector(s, 19),
-        c1: replay_values::vector(s, 22),
-        c2: replay_values::vector(s, 25),
-        c3: replay_values::vector(s, 28),
-    }
-}
+const RAYS: u32 = 11;
 
 // Holds a call's numbers to the record. A call is its progress, its allowance, whether hit scratch is held, then refusal, progress and rays.
 fn numbers_held(s: &[u8], t: Tally, at: usize, r: BakeAnswer) -> Tally {
@@ -52,30 +40,29 @@ fn lists_held(
     )
 }
 
-fn one(
+// A call with the record's lists.
+fn answered(
     s: &[u8],
-    t: Tally,
-    at: usize,
+    progress: usize,
+    allowance: u64,
     points: &[f32],
     uses: &[u32],
     kinds: &[u8],
     numbers: &[f32],
     sky: &[f32],
     lamps: &[f32],
-    active: &[u8],
+    active: &[u64],
     lights: &[f32],
     volume: &mut [f32],
     scratch: &mut [f32],
     distances: &mut [f32],
     places: &mut [usize],
-) -> Tally {
+) -> BakeAnswer {
     let axes = replay_values::axes(s, 1);
     let corners = replay_values::corners(s, 7);
-    let sunlight = light(s);
-    let sh = ambient(s);
-    let progress = replay::whole(s, at);
-    let allowance = replay::long(s, replay::further(at, 2));
-    let r = bake::bake(
+    let sunlight = replay_values::light(s, 13);
+    let sh = replay_values::ambient(s, 19);
+    bake::bake(
         axes,
         corners,
         points,
@@ -94,6 +81,44 @@ fn one(
         places,
         progress,
         allowance,
+    )
+}
+
+fn one(
+    s: &[u8],
+    t: Tally,
+    at: usize,
+    points: &[f32],
+    uses: &[u32],
+    kinds: &[u8],
+    numbers: &[f32],
+    sky: &[f32],
+    lamps: &[f32],
+    active: &[u64],
+    lights: &[f32],
+    volume: &mut [f32],
+    scratch: &mut [f32],
+    distances: &mut [f32],
+    places: &mut [usize],
+) -> Tally {
+    let progress = replay::whole(s, at);
+    let allowance = replay::long(s, replay::further(at, 2));
+    let r = answered(
+        s,
+        progress,
+        allowance,
+        points,
+        uses,
+        kinds,
+        numbers,
+        sky,
+        lamps,
+        active,
+        lights,
+        volume,
+        scratch,
+        distances,
+        places,
     );
     let u = numbers_held(s, t, at, r);
     lists_held(s, u, at, volume, scratch, distances, places)
@@ -110,7 +135,7 @@ fn fresh(
     numbers: &[f32],
     sky: &[f32],
     lamps: &[f32],
-    active: &[u8],
+    active: &[u64],
     lights: &[f32],
     volume: &mut [f32],
     scratch: &mut [f32],
@@ -148,7 +173,7 @@ fn calls(
     numbers: &[f32],
     sky: &[f32],
     lamps: &[f32],
-    active: &[u8],
+    active: &[u64],
     lights: &[f32],
     volume: &mut [f32],
     scratch: &mut [f32],
@@ -184,6 +209,45 @@ fn calls(
     tally
 }
 
+// The rays that the port's own functions make, one by one, and their number, which the bake reports too.
+fn rays(
+    s: &[u8],
+    t: Tally,
+    points: &[f32],
+    uses: &[u32],
+    kinds: &[u8],
+    numbers: &[f32],
+    sky: &[f32],
+    lamps: &[f32],
+    active: &[u64],
+    lights: &[f32],
+    volume: &mut [f32],
+    scratch: &mut [f32],
+    distances: &mut [f32],
+    places: &mut [usize],
+) -> Tally {
+    let u = replay_fired::listed(s, t, points, uses, kinds, numbers, lamps, active);
+    let r = answered(
+        s,
+        0,
+        u64::MAX,
+        points,
+        uses,
+        kinds,
+        numbers,
+        sky,
+        lamps,
+        active,
+        lights,
+        volume,
+        scratch,
+        distances,
+        places,
+    );
+    let n = replay::half(s, replay::nth(s, FROM, 12));
+    replay::held(u, (r.refusal == 0) & (r.rays == n))
+}
+
 fn stock(s: &[u8], volume: &mut [f32], scratch: &mut [f32]) {
     replay::floats(s, replay::nth(s, FROM, 8), volume);
     replay::floats(s, replay::nth(s, FROM, 9), scratch);
@@ -198,7 +262,7 @@ fn stocked(
     numbers: &[f32],
     sky: &[f32],
     lamps: &[f32],
-    active: &[u8],
+    active: &[u64],
     lights: &[f32],
     volume: &mut [f32],
     scratch: &mut [f32],
@@ -206,6 +270,24 @@ fn stocked(
     places: &mut [usize],
 ) -> Tally {
     stock(s, volume, scratch);
+    if replay::word(s, 0) == RAYS {
+        return rays(
+            s,
+            t,
+            points,
+            uses,
+            kinds,
+            numbers,
+            sky,
+            lamps,
+            active,
+            lights,
+            volume,
+            scratch,
+            distances,
+            places,
+        );
+    }
     calls(
         s,
         t,
@@ -224,10 +306,10 @@ fn stocked(
     )
 }
 
-fn fill(s: &[u8], sky: &mut [f32], lamps: &mut [f32], active: &mut [u8], lights: &mut [f32]) {
+fn fill(s: &[u8], sky: &mut [f32], lamps: &mut [f32], active: &mut [u64], lights: &mut [f32]) {
     replay::floats(s, replay::nth(s, FROM, 4), sky);
     replay::floats(s, replay::nth(s, FROM, 5), lamps);
-    replay::bytes(s, replay::nth(s, FROM, 6), active);
+    replay::mask(s, replay::nth(s, FROM, 6), active);
     replay::floats(s, replay::nth(s, FROM, 7), lights);
 }
 
@@ -240,7 +322,7 @@ fn filled(
     numbers: &[f32],
     sky: &mut [f32],
     lamps: &mut [f32],
-    active: &mut [u8],
+    active: &mut [u64],
     lights: &mut [f32],
     volume: &mut [f32],
     scratch: &mut [f32],
@@ -275,7 +357,7 @@ fn baked(
     numbers: &mut [f32],
     sky: &mut [f32],
     lamps: &mut [f32],
-    active: &mut [u8],
+    active: &mut [u64],
     lights: &mut [f32],
     volume: &mut [f32],
     scratch: &mut [f32],
@@ -302,7 +384,7 @@ fn baked(
 }
 
 fn fits(s: &[u8]) -> bool {
-    (replay::word(s, 0) == 7)
+    ((replay::word(s, 0) == CALLS) | (replay::word(s, 0) == RAYS))
         & replay::fits(s, FROM, 36900)
         & replay::fits(s, replay::nth(s, FROM, 1), 4100)
         & replay::fits(s, replay::nth(s, FROM, 2), 260)
@@ -331,7 +413,7 @@ fn fourth(
     kinds: &mut [u8],
     numbers: &mut [f32],
     sky: &mut [f32],
-    active: &mut [u8],
+    active: &mut [u64],
     lights: &mut [f32],
     volume: &mut [f32],
     scratch: &mut [f32],
@@ -368,7 +450,7 @@ fn third(
     kinds: &mut [u8],
     numbers: &mut [f32],
     sky: &mut [f32],
-    active: &mut [u8],
+    active: &mut [u64],
 ) -> Tally {
     let mut lights = replay::room_for_light();
     let mut volume = replay::room_for_volume();
@@ -397,7 +479,7 @@ fn second(s: &[u8], t: Tally, points: &mut [f32], uses: &mut [u32], kinds: &mut 
     let mut active = replay::room_for_mask();
     let d = replay::fit(s, replay::nth(s, FROM, 3), 1820);
     let e = replay::fit(s, replay::nth(s, FROM, 4), 1740);
-    let f = replay::fit(s, replay::nth(s, FROM, 6), 520);
+    let f = replay::mask_words(s, replay::nth(s, FROM, 6), 515);
     third(
         s,
         t,

@@ -2,31 +2,37 @@
 use masks::Marked;
 use replay::Tally;
 
-fn fill(s: &[u8], points: &mut [f32], occupied: &mut [u8], active: &mut [u8]) {
+fn fill(s: &[u8], points: &mut [f32], occupied: &mut [u64], active: &mut [u64]) {
     replay::floats(s, 13, points);
-    replay::bytes(s, replay::nth(s, 13, 1), occupied);
-    replay::bytes(s, replay::nth(s, 13, 2), active);
+    replay::mask(s, replay::nth(s, 13, 1), occupied);
+    replay::mask(s, replay::nth(s, 13, 2), active);
 }
 
 // Holds the answer and both masks to the record.
-fn after(s: &[u8], t: Tally, r: Marked, occupied: &[u8], active: &[u8]) -> Tally {
+fn after(s: &[u8], t: Tally, r: Marked, occupied: &[u64], active: &[u64]) -> Tally {
     let answer = replay::nth(s, 13, 3);
     let first = replay::further(answer, 3);
     let a = replay::held(t, r.refusal == replay::word(s, answer));
     let b = replay::held(a, r.occupied == replay::half(s, replay::further(answer, 1)));
     let c = replay::held(b, r.active == replay::half(s, replay::further(answer, 2)));
-    let d = replay::held(c, replay::same_bytes(s, first, occupied));
-    replay::held(d, replay::same_bytes(s, replay::past(s, first), active))
+    let d = replay::held(c, replay::same_mask(s, first, occupied));
+    replay::held(d, replay::same_mask(s, replay::past(s, first), active))
 }
 
-fn judged(s: &[u8], t: Tally, points: &[f32], occupied: &mut [u8], active: &mut [u8]) -> Tally {
+fn judged(s: &[u8], t: Tally, points: &[f32], occupied: &mut [u64], active: &mut [u64]) -> Tally {
     let axes = replay_values::axes(s, 1);
     let corners = replay_values::corners(s, 7);
     let r = masks::masks(axes, corners, points, occupied, active);
     after(s, t, r, occupied, active)
 }
 
-fn masks(s: &[u8], t: Tally, points: &mut [f32], occupied: &mut [u8], active: &mut [u8]) -> Tally {
+fn masks(
+    s: &[u8],
+    t: Tally,
+    points: &mut [f32],
+    occupied: &mut [u64],
+    active: &mut [u64],
+) -> Tally {
     fill(s, points, occupied, active);
     judged(s, t, points, occupied, active)
 }
@@ -34,8 +40,8 @@ fn masks(s: &[u8], t: Tally, points: &mut [f32], occupied: &mut [u8], active: &m
 fn fits(s: &[u8]) -> bool {
     (replay::word(s, 0) == 3)
         & replay::fits(s, 13, 36900)
-        & replay::fits(s, replay::nth(s, 13, 1), 520)
-        & replay::fits(s, replay::nth(s, 13, 2), 520)
+        & replay::fits(s, replay::nth(s, 13, 1), 32960)
+        & replay::fits(s, replay::nth(s, 13, 2), 32960)
 }
 
 fn record(s: &[u8], t: Tally) -> Tally {
@@ -43,8 +49,8 @@ fn record(s: &[u8], t: Tally) -> Tally {
     let mut occupied = replay::room_for_mask();
     let mut active = replay::room_for_mask();
     let n = replay::fit(s, 13, 36900);
-    let m = replay::fit(s, replay::nth(s, 13, 1), 520);
-    let k = replay::fit(s, replay::nth(s, 13, 2), 520);
+    let m = replay::mask_words(s, replay::nth(s, 13, 1), 515);
+    let k = replay::mask_words(s, replay::nth(s, 13, 2), 515);
     let u = replay::held(t, fits(s));
     masks(s, u, &mut points[..n], &mut occupied[..m], &mut active[..k])
 }

@@ -5,8 +5,8 @@ use sun::Sunned;
 // Where the lists begin, and which list is which.
 const FROM: usize = 16;
 
-fn fill(s: &[u8], active: &mut [u8], light: &mut [f32], scratch: &mut [f32]) {
-    replay::bytes(s, replay::nth(s, FROM, 4), active);
+fn fill(s: &[u8], active: &mut [u64], light: &mut [f32], scratch: &mut [f32]) {
+    replay::mask(s, replay::nth(s, FROM, 4), active);
     replay::floats(s, replay::nth(s, FROM, 5), light);
     replay::floats(s, replay::nth(s, FROM, 6), scratch);
 }
@@ -38,7 +38,7 @@ fn trace(
     uses: &[u32],
     kinds: &[u8],
     numbers: &[f32],
-    active: &[u8],
+    active: &[u64],
     light: &mut [f32],
     scratch: &mut [f32],
     distances: &mut [f32],
@@ -72,7 +72,7 @@ fn hit(
     uses: &[u32],
     kinds: &[u8],
     numbers: &[f32],
-    active: &[u8],
+    active: &[u64],
     light: &mut [f32],
     scratch: &mut [f32],
     distances: &mut [f32],
@@ -102,7 +102,7 @@ fn lit(
     uses: &[u32],
     kinds: &[u8],
     numbers: &[f32],
-    active: &mut [u8],
+    active: &mut [u64],
     light: &mut [f32],
     scratch: &mut [f32],
     distances: &mut [f32],
@@ -131,7 +131,7 @@ fn sun(
     uses: &mut [u32],
     kinds: &mut [u8],
     numbers: &mut [f32],
-    active: &mut [u8],
+    active: &mut [u64],
     light: &mut [f32],
     scratch: &mut [f32],
     distances: &mut [f32],
@@ -174,7 +174,7 @@ fn rest(
     uses: &mut [u32],
     kinds: &mut [u8],
     numbers: &mut [f32],
-    active: &mut [u8],
+    active: &mut [u64],
     light: &mut [f32],
 ) -> Tally {
     let mut scratch = replay::room_for_light();
@@ -203,7 +203,7 @@ fn middle(s: &[u8], t: Tally, points: &mut [f32], uses: &mut [u32], kinds: &mut 
     let mut active = replay::room_for_mask();
     let mut light = replay::room_for_light();
     let d = replay::fit(s, replay::nth(s, FROM, 3), 1820);
-    let e = replay::fit(s, replay::nth(s, FROM, 4), 520);
+    let e = replay::mask_words(s, replay::nth(s, FROM, 4), 515);
     let f = replay::fit(s, replay::nth(s, FROM, 5), 520);
     rest(
         s,

@@ -1,6 +1,8 @@
 // Values of the port's own types out of a record.
 use grid::Axes;
 use grid::Corners;
+use limits::Ambient;
+use limits::Light;
 use vectors::Ray;
 use vectors::Triangle;
 use vectors::Vec3;
@@ -47,5 +49,23 @@ pub fn corners(s: &[u8], at: usize) -> Corners {
     Corners {
         min: vector(s, at),
         max: vector(s, replay::further(at, 3)),
+    }
+}
+
+// Six numbers: direction, colour.
+pub fn light(s: &[u8], at: usize) -> Light {
+    Light {
+        direction: vector(s, at),
+        colour: vector(s, replay::further(at, 3)),
+    }
+}
+
+// Twelve numbers.
+pub fn ambient(s: &[u8], at: usize) -> Ambient {
+    Ambient {
+        c0: vector(s, at),
+        c1: vector(s, replay::further(at, 3)),
+        c2: vector(s, replay::further(at, 6)),
+        c3: vector(s, replay::further(at, 9)),
     }
 }

@@ -15,7 +15,7 @@ use Rattle.triangle.specs.declared.Meet.the-variants.{Miss, Hit}
 use Rattle.scan.specs.declared.Nearest.{Nearest}
 use Rattle.scan.specs.declared.Nearest.the-variants.{Nothing, At}
 use Rattle.scan.specs.Nearest.{nearerOf, nearestTo}
-use Rattle.scan.specs.Hits.{struck, insertOf, withMeet, hitsOf}
+use Rattle.hits.specs.Hits.{struck, insertOf, withMeet, hitsOf}
 
 -- what is the first hit from place i up to place n: none where all are missed; otherwise a hit, and all before it are missed
 abbrev pub FirstFrom : List Float → Ray → ℕ → ℕ → Nearest → Type 0

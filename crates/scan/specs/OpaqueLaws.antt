@@ -15,8 +15,8 @@ use Rattle.names.specs.Scene.{Scene}
 use Rattle.vectors.specs.declared.Ray.{Ray}
 use Rattle.triangle.specs.declared.Meet.the-variants.{Hit}
 use Rattle.scan.specs.Nearest.{meetAt}
-use Rattle.scan.specs.Hits.{Struck, insertOf, placesOf}
-use Rattle.scan.specs.HitLaws.{put-only, hits-all}
+use Rattle.hits.specs.Hits.{Struck, insertOf, placesOf}
+use Rattle.hits.specs.HitLaws.{put-only, hits-all}
 use Rattle.scan.specs.Transmittance.{kindAt, transmissionAt, passOf, transmittanceOf}
 
 either-way : (b : Bool) (x : Float) → cond b x x ≡ x

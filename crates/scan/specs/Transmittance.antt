@@ -11,7 +11,7 @@ use Rattle.names.specs.Bits.{zero32, one32}
 use Rattle.names.specs.Numbers.{faintLimit}
 use Rattle.names.specs.Scene.{Scene}
 use Rattle.vectors.specs.declared.Ray.{Ray}
-use Rattle.scan.specs.Hits.{hitsOf, placesOf}
+use Rattle.hits.specs.Hits.{hitsOf, placesOf}
 
 -- the kind of the material that the triangle at place i uses: 0 is opaque
 abbrev pub kindAt : List ℕ → List ℕ → ℕ → ℕ

@@ -112,7 +112,7 @@ pub fn transmittance(
             }
         }
     }
-    super::sort::in_order(&mut distances[..m], &mut places[..m]);
+    hits::inner::in_order(&mut distances[..m], &mut places[..m]);
     product(uses, numbers, &places[..m])
 }
 

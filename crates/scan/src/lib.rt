@@ -2,7 +2,6 @@
 // by one search, which asks the test of one triangle; neither knows how it goes.
 
 pub mod inner; // inner.rt: the two scans, over lists that fit each other
-pub mod sort; // sort.rt: hits put in order
 
 // "Nearest: smallest t; among equal t the highest list place": nothing, or the hit's place, distance, u and v. The search that both scans go by answers
 // in it too: nothing, or the first hit in the list's order.

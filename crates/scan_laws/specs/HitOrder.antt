@@ -14,10 +14,10 @@ use Rattle.triangle.specs.Meet.{meetOf}
 use Rattle.triangle.specs.Places.{triangleAt}
 use Rattle.triangle.specs.declared.Meet.{Meet}
 use Rattle.triangle.specs.declared.Meet.the-variants.{Miss, Hit}
-use Rattle.scan.specs.Hits.{Struck, struck, before, insertOf, withMeet, hitsOf}
-use Rattle.scan.specs.HitLaws.{Stands, hits-only, hits-all}
-use Rattle.scan.specs.Order.{otherwise-below}
-use Rattle.scan.specs.BeforeLaws.{hit-number, before-trans}
+use Rattle.hits.specs.Hits.{Struck, struck, before, insertOf, withMeet, hitsOf}
+use Rattle.hits.specs.HitLaws.{Stands, hits-only, hits-all}
+use Rattle.hits.specs.Order.{otherwise-below}
+use Rattle.hits.specs.BeforeLaws.{hit-number, before-trans}
 
 pub data Sorted : List Struck → Type 0 where
   none : Sorted []

@@ -21,8 +21,8 @@ use Rattle.triangle.specs.declared.Meet.the-variants.{Miss, Hit}
 use Rattle.scan.specs.Nearest.{beats, nearerOf, meetAt, nearestTo, nearestOf}
 use Rattle.scan.specs.declared.Nearest.{Nearest}
 use Rattle.scan.specs.declared.Nearest.the-variants.{Nothing, At}
-use Rattle.scan.specs.Order.{otherwise-below}
-use Rattle.scan.specs.BeforeLaws.{hit-number}
+use Rattle.hits.specs.Order.{otherwise-below}
+use Rattle.hits.specs.BeforeLaws.{hit-number}
 
 -- the ray up to a distance
 abbrev pub narrowed : Ray → Float → Ray

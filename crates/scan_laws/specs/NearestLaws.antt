@@ -22,8 +22,8 @@ use Rattle.triangle.specs.declared.Meet.the-variants.{Miss, Hit}
 use Rattle.scan.specs.Nearest.{beats, nearerOf, meetAt, nearestTo, nearestOf}
 use Rattle.scan.specs.declared.Nearest.{Nearest}
 use Rattle.scan.specs.declared.Nearest.the-variants.{Nothing, At}
-use Rattle.scan.specs.Order.{lt-eq}
-use Rattle.scan.specs.BeforeLaws.{hit-number}
+use Rattle.hits.specs.Order.{lt-eq}
+use Rattle.hits.specs.BeforeLaws.{hit-number}
 
 -- a miss is no hit
 apart : {A : Type 0} (m : Meet) (t u v : Float) → m ≡ Miss → m ≡ Hit t u v → A

@@ -19,8 +19,8 @@ use Rattle.names.specs.Scene.{Scene, Sound}
 use Rattle.vectors.specs.declared.Ray.{Ray}
 use Rattle.limits.specs.Limits.{upTo, badNumbers}
 use Rattle.limits.specs.LimitsLaws.{transmission-within}
-use Rattle.scan.specs.Hits.{hitsOf, placesOf}
-use Rattle.scan.specs.HitLaws.{places-below}
+use Rattle.hits.specs.Hits.{hitsOf, placesOf}
+use Rattle.hits.specs.HitLaws.{places-below}
 use Rattle.scan.specs.Transmittance.{kindAt, transmissionAt, passOf, transmittanceOf}
 
 -- a number from 0 to 1: +a / p with a at most p, or −0

@@ -1,4 +1,5 @@
--- A good call is accepted: one active voxel, no triangles, the light straight up.
+-- A good call is accepted: one active voxel, so one word with its bit 0 set, no triangles, the light straight up. With bit 1 set too, which no voxel has,
+-- it is refused.
 use mathlib.Core.Path.{_≡_, refl}
 use mathlib.Core.List.{[], _∷_}
 use lib.Ieee.{ofBits, ofFields, odd, neg, le, lt, eq, add, sub, mul, div, ofInt, round, sum, units, size, climb, span}
@@ -10,8 +11,10 @@ use Rattle.vectors.specs.declared.Vec3.{Vec3}
 use Rattle.grid.specs.Grid.{edgesOf}
 use Rattle.grid.specs.declared.Axes.{Axes}
 use Rattle.grid.specs.declared.Corners.{Corners}
-use Rattle.limits.specs.Limits.{within, outsideV, badAxes, badCorners, badEdges, wrongShare, wrongScene, tooMany, badPoints, badKinds, badFrom, badUses, badMaterials, badDirection, badMask}
+use Rattle.limits.specs.Limits.{within, outsideV, badAxes, badCorners, badEdges, wrongShare, wrongScene, tooMany, badPoints, badKinds, badFrom, badUses, badMaterials, badDirection}
 use Rattle.lists.specs.Some.{some}
+use Rattle.lists.specs.Any.{any}
+use Rattle.words.specs.Words.{unusedSet}
 use Rattle.sun.specs.Sun.{wrongSun, sunRefusal}
 
 unfoldable pub oneVoxel : Axes
@@ -27,5 +30,9 @@ abbrev pub emptyScene : Scene
 emptyScene = sceneOf [] [] [] []
 
 pub sun-accepted : sunRefusal oneVoxel unitBox emptyScene upward (1 ∷ []) 1 1 0 0 ≡ 0
-unfolding sunRefusal wrongSun oneVoxel unitBox upward firstOf badAxes badCorners badEdges edgesOf wrongScene wrongShare tooMany badPoints badKinds badFrom badUses badMaterials badDirection badMask some outsideV within dotV ofBits ofFields odd neg le lt eq add sub mul div ofInt round sum units size climb span
+unfolding sunRefusal wrongSun oneVoxel unitBox upward firstOf badAxes badCorners badEdges edgesOf wrongScene wrongShare tooMany badPoints badKinds badFrom badUses badMaterials badDirection unusedSet any some outsideV within dotV ofBits ofFields odd neg le lt eq add sub mul div ofInt round sum units size climb span
 sun-accepted = refl
+
+pub sun-bit-refused : sunRefusal oneVoxel unitBox emptyScene upward (3 ∷ []) 1 1 0 0 ≡ 13
+unfolding sunRefusal wrongSun oneVoxel unitBox upward firstOf badAxes badCorners badEdges edgesOf wrongScene wrongShare tooMany badPoints badKinds badFrom badUses badMaterials badDirection unusedSet any some outsideV within dotV ofBits ofFields odd neg le lt eq add sub mul div ofInt round sum units size climb span
+sun-bit-refused = refl

@@ -99,10 +99,9 @@ sunRefusal axes corners scene direction active lightLength scratchLength distanc
     firstOf (sunRows axes corners scene direction active lightLength scratchLength distancesLength placesLength)
 
 -- what the trace of a voxel asks
-pub record Traceable (axes : Axes) (scene : Scene) (activeLength distancesLength placesLength : ℕ) : Type 0 where
+pub record Traceable (axes : Axes) (scene : Scene) (distancesLength placesLength : ℕ) : Type 0 where
   pub axes-fit : AxesWithin axes
   pub scene-fits : Sound scene
-  pub mask-fits : activeLength ≡ wordCount (voxels axes)
   pub distances-fit : length (scene .uses) ≤ distancesLength
   pub places-fit : length (scene .uses) ≤ placesLength
 

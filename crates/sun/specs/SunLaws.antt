@@ -1,15 +1,16 @@
 -- What the sun pass means: each figure before the blur, all of them 1.0 where no voxel is active; which row refuses a call; one result; and what an accepted call has.
 use mathlib.Core.Path.{_≡_, refl, sym, ap, ap₂, _∙_}
-use mathlib.Core.Bool.{Bool, true, false}
-use mathlib.Core.List.{List}
-use Prim.Native.Nat.{ℕ, _+_, _≤_, _<_}
+use mathlib.Core.Bool.{Bool, true, false, cond, _||_, false≢true}
+use mathlib.Core.Logic.{_↔_}
+use mathlib.Core.List.{List, [], _∷_, _++_}
+use Prim.Native.Nat.{ℕ, _+_, _/_, _≤_, _<_}
 use native.Mathlib.Nat.{zero-add}
 use native.Mathlib.Omega.{arith}
 use lib.ListN.{length, getD}
 use lib.Ieee.{Float, nan}
 use borrow.Author.Tests.{ltb-false, eqb-true, not-false}
 use Rattle.names.specs.Bits.{one32}
-use Rattle.names.specs.Refusals.{Numbered, RefusedBy, refused-by}
+use Rattle.names.specs.Refusals.{Row, row, firstOf, Numbered, RefusedBy, refused-by}
 use Rattle.names.specs.Scene.{Scene}
 use Rattle.lists.specs.Fold.{length-tab, getD-tab, tab-same}
 use Rattle.vectors.specs.Vectors.{normalV}
@@ -17,11 +18,13 @@ use Rattle.vectors.specs.declared.Vec3.{Vec3}
 use Rattle.grid.specs.Grid.{voxels, xOf, yOf, zOf, edgesOf, centreOf}
 use Rattle.grid.specs.declared.Axes.{Axes}
 use Rattle.grid.specs.declared.Corners.{Corners}
-use Rattle.limits.specs.Limits.{wrongLength}
+use Rattle.limits.specs.Limits.{badAxes, badGrid, wrongScene, wrongLength, tooShort, sceneRows, badDirection}
 use Rattle.limits.specs.LimitsLaws.{either, axes-row, sound}
 use Rattle.names.specs.Passed.{passed}
 use Rattle.marks.specs.Marks.{isMarked, markedCount}
 use Rattle.marks.specs.MarksLaws.{active-some}
+use Rattle.words.specs.Words.{bitAt, entriesOf, wordCount, wordsOf, unusedSet, AreWords, Tidy}
+use Rattle.words.specs.WordsLaws.{unclean-bit, bit-unclean, words-entries}
 use Rattle.scan.specs.Transmittance.{transmittanceOf}
 use Rattle.sun.specs.declared.Sunned.{Sunned}
 use Rattle.sun.specs.Sun.{aheadOf, sunRay, figureOf, sunAt, sunBefore, allOnes, sunRows, wrongSun, sunRefusal, Traceable, SunAnswered}
@@ -71,6 +74,47 @@ unfolding sunRefusal
 sun-refused-by axes corners scene direction active light scratch distances places r light' scratch' distances' places' p =
     refused-by _ (r .refusal) (sun-numbered axes corners scene direction active (length light) (length scratch) (length distances) (length places)) (p .answer)
 
+-- 13 is refused exactly when the rows before it pass and a bit past the last voxel is set
+
+-- every row but the last
+abbrev pub earlierRows : Axes → Corners → Scene → Vec3 → List ℕ → ℕ → ℕ → ℕ → ℕ → List Row
+earlierRows axes corners scene direction active lightLength scratchLength distancesLength placesLength =
+    row 1 (badAxes axes)
+    ∷ row 2 (badGrid corners axes)
+    ∷ row 3 (wrongSun (voxels axes) scene (length active) lightLength scratchLength distancesLength placesLength)
+    ∷ sceneRows scene (row 7 (badDirection direction) ∷ [])
+
+-- no row has the number k
+abbrev Without : ℕ → List Row → Type 0
+Without k [] = Unit
+Without k (r ∷ rows) = (r .number ≡ k → ⊥) × Without k rows
+
+last-row : (k : ℕ) (b : Bool) (rows : List Row) → 0 < k → Numbered rows → Without k rows → (firstOf (rows ++ (row k b ∷ [])) ≡ k) ↔ ((firstOf rows ≡ 0) × (b ≡ true))
+unfolding firstOf
+last-row k true [] h p q = (λ e. (refl, refl), λ e. refl)
+last-row k false [] h p q = (λ e. absurd (omega arith), λ e. absurd (false≢true (e .1)))
+last-row k b (r ∷ rows) h p q = go (r .holds) (last-row k b rows h (p .1) (q .1))
+  where
+    go : (c : Bool) → (firstOf (rows ++ (row k b ∷ [])) ≡ k) ↔ ((firstOf rows ≡ 0) × (b ≡ true))
+        → (cond c (r .number) (firstOf (rows ++ (row k b ∷ []))) ≡ k) ↔ ((cond c (r .number) (firstOf rows) ≡ 0) × (b ≡ true))
+    go true rest = (λ e. absurd (q .0 e), λ e. absurd (omega (arith, p .0, e .0)))
+    go false rest = rest
+
+pub sun-unused-bit : (axes : Axes) (corners : Corners) (scene : Scene) (direction : Vec3) (active : List ℕ) (lightLength scratchLength distancesLength placesLength : ℕ)
+    → (sunRefusal axes corners scene direction active lightLength scratchLength distancesLength placesLength ≡ 13)
+    ↔ ((firstOf (earlierRows axes corners scene direction active lightLength scratchLength distancesLength placesLength) ≡ 0)
+    × ((i : ℕ) × (voxels axes ≤ i) × (i / 64 < length active) × (bitAt active i ≡ 1)))
+unfolding sunRefusal
+sun-unused-bit axes corners scene direction active lightLength scratchLength distancesLength placesLength =
+    let n : ℕ = voxels axes in
+    let rows : List Row = earlierRows axes corners scene direction active lightLength scratchLength distancesLength placesLength in
+    let only = last-row 13 (unusedSet active n) rows (omega arith)
+    (omega arith, (omega arith, (omega arith, (omega arith, (omega arith, (omega arith, (omega arith, tt)))))))
+    ((λ e. omega arith), ((λ e. omega arith), ((λ e. omega arith), ((λ e. omega arith), ((λ e. omega arith), ((λ e. omega arith), ((λ e. omega arith), tt))))))) in (
+      λ e. let p = only .0 e in (p .0, unclean-bit active n (p .1)),
+      λ p. only .1 (p .0, bit-unclean active n (p .1 .0) (p .1 .1) (p .1 .3)),
+    )
+
 -- ---- one result
 
 pub record SameSun (r s : Sunned) (light light' scratch scratch' distances distances' : List Float) (places places' : List ℕ) : Type 0 where
@@ -101,17 +145,31 @@ sun-answered-once axes corners scene direction active l s d p r₁ r₂ l₁ s�
 
 -- ---- what an accepted call has
 
-pub record SunReady (axes : Axes) (scene : Scene) (activeLength lightLength scratchLength distancesLength placesLength : ℕ) : Type 0 where
-  pub traceable : Traceable axes scene activeLength distancesLength placesLength
+pub record SunReady (axes : Axes) (scene : Scene) (active : List ℕ) (lightLength scratchLength distancesLength placesLength : ℕ) : Type 0 where
+  pub traceable : Traceable axes scene distancesLength placesLength
+  pub tidy : Tidy active (voxels axes)
   pub light-fits : lightLength ≡ voxels axes
   pub scratch-fits : scratchLength ≡ voxels axes
 
 right : (len n : ℕ) → wrongLength len n ≡ false → len ≡ n
 right len n e = eqb-true _ _ (not-false _ e)
 
+-- what row 3 lets pass has the words of n voxels
+pub words-long : (n : ℕ) (scene : Scene) (activeLength lightLength scratchLength distancesLength placesLength : ℕ)
+    → wrongSun n scene activeLength lightLength scratchLength distancesLength placesLength ≡ false → activeLength ≡ wordCount n
+unfolding wrongSun
+words-long n scene activeLength lightLength scratchLength distancesLength placesLength e =
+    let t : ℕ = length (scene .uses) in
+    right _ _ (second (wrongScene (scene .points) (scene .uses) (scene .kinds) (scene .numbers)) (wrongLength activeLength (wordCount n)) (wrongLength lightLength n) (wrongLength scratchLength n) (tooShort distancesLength t) (tooShort placesLength t) e)
+  where
+    second : (a b c d f g : Bool) → a || b || c || d || f || g ≡ false → b ≡ false
+    second false false c d f g h = refl
+    second false true c d f g h = h
+    second true b c d f g h = absurd (false≢true (sym h))
+
 pub sun-ready : (axes : Axes) (corners : Corners) (scene : Scene) (direction : Vec3) (active : List ℕ) (lightLength scratchLength distancesLength placesLength : ℕ)
     → sunRefusal axes corners scene direction active lightLength scratchLength distancesLength placesLength ≡ 0
-    → SunReady axes scene (length active) lightLength scratchLength distancesLength placesLength
+    → SunReady axes scene active lightLength scratchLength distancesLength placesLength
 unfolding sunRefusal wrongSun
 sun-ready axes corners scene direction active lightLength scratchLength distancesLength placesLength e =
     let p = passed (sunRows axes corners scene direction active lightLength scratchLength distancesLength placesLength) (sun-numbered axes corners scene direction active lightLength scratchLength distancesLength placesLength) e in
@@ -124,10 +182,17 @@ sun-ready axes corners scene direction active lightLength scratchLength distance
       traceable = record {
         axes-fit = axes-row axes .0 (p .0);
         scene-fits = sound _ _ _ _ (f .0) (p .1 .1 .1 .0) (p .1 .1 .1 .1 .1 .0);
-        mask-fits = right _ _ (f .1);
         distances-fit = ltb-false _ _ (b .1);
         places-fit = ltb-false _ _ (a .1);
       };
+      tidy = record { long = right _ _ (f .1); clean = p .1 .1 .1 .1 .1 .1 .1 .0 };
       light-fits = right _ _ (d .1);
       scratch-fits = right _ _ (c .1);
     }
+
+-- and its words are those of the entries that it sees
+pub sun-words : (axes : Axes) (corners : Corners) (scene : Scene) (direction : Vec3) (active : List ℕ) (lightLength scratchLength distancesLength placesLength : ℕ)
+    → sunRefusal axes corners scene direction active lightLength scratchLength distancesLength placesLength ≡ 0 → AreWords active
+    → wordsOf (entriesOf active (voxels axes)) ≡ active
+sun-words axes corners scene direction active lightLength scratchLength distancesLength placesLength e a =
+    words-entries active (voxels axes) a (sun-ready axes corners scene direction active lightLength scratchLength distancesLength placesLength e .tidy)

@@ -5,8 +5,10 @@ ghost use lib.ListN.{length};
 ghost use Rattle.names.specs.Bits.{one32};
 ghost use Rattle.names.specs.Scene.{sceneOf};
 ghost use Rattle.lists.specs.Fold.{tab};
-ghost use Rattle.grid.specs.Grid.{voxels};
-ghost use Rattle.sun.specs.Sun.{figureOf, sunBefore, sunRefusal, Traceable, SunAnswered};
+ghost use Rattle.grid.specs.Grid.{voxels, xOf, yOf, zOf, centreFrom};
+ghost use Rattle.words.specs.Words.{entriesOf, Tidy};
+ghost use Rattle.scan.specs.Transmittance.{transmittanceOf};
+ghost use Rattle.sun.specs.Sun.{sunRay, sunBefore, sunRefusal, Traceable, SunAnswered};
 use grid::Axes;
 use grid::Corners;
 use names::SUN_DIAGONALS;
@@ -21,7 +23,8 @@ pub struct Sunned {
 }
 
 // Fills `light` with what each voxel sees of the sun, blurred, and `scratch` with the same before the blur. Where no voxel is active the light is all
-// 1.0, and scratch stays as it was. The two lists of hits are scratch too, and what stands in them afterwards is left open. Refusals 1 to 7 and 13.
+// 1.0, and scratch stays as it was. The two lists of hits are scratch too, and what stands in them afterwards is left open. The mask is in words.
+// Refusals 1 to 7 and 13.
 pub fn sun(
     axes: Axes,
     corners: Corners,
@@ -30,7 +33,7 @@ pub fn sun(
     kinds: &[u8],
     numbers: &[f32],
     direction: Vec3,
-    active: &[u8],
+    active: &[u64],
     light: &mut [f32],
     scratch: &mut [f32],
     distances: &mut [f32],
@@ -53,7 +56,7 @@ pub fn sun(
         places.len(),
     );
     if refusal == 0 {
-        let rays = marks::inner::count(active);
+        let rays = words::inner::count(active, light.len());
         if rays == 0 {
             brighten(light);
             return Sunned {
@@ -89,7 +92,7 @@ fn judge(
     kinds: &[u8],
     numbers: &[f32],
     direction: Vec3,
-    active: &[u8],
+    active: &[u64],
     lights: usize,
     scratches: usize,
     distances: usize,
@@ -107,8 +110,9 @@ fn judge(
     let t = uses.len();
     let scene = limits::inner::wrong_scene(points, uses, kinds, numbers);
     let a = active.len();
+    let w = (n + 63) / 64;
     let wrong = scene
-        | (a != n)
+        | (a != w)
         | (lights != n)
         | (scratches != n)
         | (distances < t)
@@ -128,7 +132,7 @@ fn judge(
     if limits::inner::bad_direction(direction) {
         return 7;
     }
-    if limits::inner::bad_mask(active) {
+    if words::inner::unused_set(active, n) {
         return 13;
     }
     0
@@ -145,7 +149,7 @@ fn brighten(light: &mut [f32])
     }
 }
 
-// The figures before the blur, in `before`.
+// The figures before the blur, in `before`: 1.0 everywhere, and then from active voxel to active voxel what each sees.
 fn trace(
     axes: Axes,
     corners: Corners,
@@ -154,22 +158,24 @@ fn trace(
     kinds: &[u8],
     numbers: &[f32],
     direction: Vec3,
-    active: &[u8],
+    active: &[u64],
     before: &mut [f32],
     distances: &mut [f32],
     places: &mut [usize],
 )
-    requires { ⌜ Traceable axes (sceneOf (now points) (now uses) (now kinds) (now numbers)) (length (now active)) (length (now distances)) (length (now places)) ⌝ }
-    requires { ⌜ length (now before) ≡ voxels axes ⌝ }
-    ensures { λ r. ⌜ now (before .exit) ≡ sunBefore axes corners (sceneOf (now (points .entry)) (now (uses .entry)) (now (kinds .entry)) (now (numbers .entry))) direction (now (active .entry)) ⌝ }
+    requires { ⌜ Traceable axes (sceneOf (now points) (now uses) (now kinds) (now numbers)) (length (now distances)) (length (now places)) ⌝ }
+    requires { ⌜ Tidy (now active) (voxels axes) × (length (now before) ≡ voxels axes) ⌝ }
+    ensures { λ r. ⌜ now (before .exit) ≡ sunBefore axes corners (sceneOf (now (points .entry)) (now (uses .entry)) (now (kinds .entry)) (now (numbers .entry))) direction (entriesOf (now (active .entry)) (voxels axes)) ⌝ }
 {
     let edges = grid::inner::edges(corners, axes);
     let l = vectors::normalise(direction);
     let ahead = vectors::length(edges) * SUN_DIAGONALS;
     let low = corners.min;
-    let mut i = 0;
-    while i < before.len() {
-        let f = figure(
+    brighten(before);
+    let n = before.len();
+    let mut i = words::inner::next_marked(active, n, 0);
+    while i < n {
+        let f = seen(
             axes,
             low,
             edges,
@@ -179,18 +185,17 @@ fn trace(
             uses,
             kinds,
             numbers,
-            active,
             i,
             distances,
             places,
         );
         before[i] = f;
-        i += 1;
+        i = words::inner::next_marked(active, n, i + 1);
     }
 }
 
-// What voxel i sees of the sun: 1.0 where it is not active.
-fn figure(
+// What an active voxel sees of the sun.
+fn seen(
     axes: Axes,
     low: Vec3,
     edges: Vec3,
@@ -200,19 +205,15 @@ fn figure(
     uses: &[u32],
     kinds: &[u8],
     numbers: &[f32],
-    active: &[u8],
     i: usize,
     distances: &mut [f32],
     places: &mut [usize],
 ) -> f32
-    requires { ⌜ Traceable axes (sceneOf (now points) (now uses) (now kinds) (now numbers)) (length (now active)) (length (now distances)) (length (now places)) ⌝ }
+    requires { ⌜ Traceable axes (sceneOf (now points) (now uses) (now kinds) (now numbers)) (length (now distances)) (length (now places)) ⌝ }
     requires { ⌜ i < voxels axes ⌝ }
-    ensures { λ r. ⌜ r ≡ figureOf axes low edges l ahead (sceneOf (now (points .entry)) (now (uses .entry)) (now (kinds .entry)) (now (numbers .entry))) (now (active .entry)) i ⌝ }
+    ensures { λ r. ⌜ r ≡ transmittanceOf (sceneOf (now (points .entry)) (now (uses .entry)) (now (kinds .entry)) (now (numbers .entry))) (sunRay l ahead (centreFrom low edges (xOf axes i) (yOf axes i) (zOf axes i))) ⌝ }
 {
-    if marks::inner::is_marked(active, i) {
-        let centre = grid::inner::centre_of(low, axes, edges, i);
-        let ray = vectors::inner::ray_from(centre, l, ahead, SUN_SHORTEST);
-        return scan::inner::transmittance(points, uses, kinds, numbers, ray, distances, places);
-    }
-    1.0
+    let centre = grid::inner::centre_of(low, axes, edges, i);
+    let ray = vectors::inner::ray_from(centre, l, ahead, SUN_SHORTEST);
+    scan::inner::transmittance(points, uses, kinds, numbers, ray, distances, places)
 }

@@ -16,20 +16,21 @@ use Rattle.limits.specs.Limits.{upTo}
 use Rattle.limits.specs.LimitsLaws.{materials-row}
 use Rattle.names.specs.Passed.{passed}
 use Rattle.marks.specs.Marks.{isMarked}
+use Rattle.words.specs.Words.{entriesOf}
 use Rattle.scan_laws.specs.TransmittanceLaws.{transmittance-within, one-is-within}
 use Rattle.sun.specs.Sun.{sunBefore, sunRows, sunRefusal}
 use Rattle.sun.specs.SunLaws.{inactive-before, active-before, sun-numbered, sun-ready}
 
 pub before-within : (axes : Axes) (corners : Corners) (scene : Scene) (direction : Vec3) (active : List ℕ) (lightLength scratchLength distancesLength placesLength : ℕ)
     → sunRefusal axes corners scene direction active lightLength scratchLength distancesLength placesLength ≡ 0 → (i : ℕ) → i < voxels axes
-    → upTo one32 (getD (sunBefore axes corners scene direction active) i nan) ≡ true
+    → upTo one32 (getD (sunBefore axes corners scene direction (entriesOf active (voxels axes))) i nan) ≡ true
 unfolding sunRefusal
-before-within axes corners scene direction active lightLength scratchLength distancesLength placesLength e i h = by (isMarked active i) refl
+before-within axes corners scene direction active lightLength scratchLength distancesLength placesLength e i h = by (isMarked (entriesOf active (voxels axes)) i) refl
   where
-    by : (b : Bool) → isMarked active i ≡ b → upTo one32 (getD (sunBefore axes corners scene direction active) i nan) ≡ true
-    by false f = rw (inactive-before axes corners scene direction active i h f) one-is-within
+    by : (b : Bool) → isMarked (entriesOf active (voxels axes)) i ≡ b → upTo one32 (getD (sunBefore axes corners scene direction (entriesOf active (voxels axes))) i nan) ≡ true
+    by false f = rw (inactive-before axes corners scene direction (entriesOf active (voxels axes)) i h f) one-is-within
     by true f =
         let p = passed (sunRows axes corners scene direction active lightLength scratchLength distancesLength placesLength) (sun-numbered axes corners scene direction active lightLength scratchLength distancesLength placesLength) e in
-        rw (active-before axes corners scene direction active i h f)
+        rw (active-before axes corners scene direction (entriesOf active (voxels axes)) i h f)
         (transmittance-within scene _ (sun-ready axes corners scene direction active lightLength scratchLength distancesLength placesLength e .traceable .scene-fits)
         (materials-row _ _ _ .0 (p .1 .1 .1 .1 .1 .0) .1))

@@ -22,6 +22,7 @@ use Rattle.bounds.specs.Bounds.{AtMost}
 use Rattle.bounds.specs.BoundsLaws.{at-most-up, at-most-of-test, one-value, light-value}
 use Rattle.grid_laws.specs.RowBounds.{at-most-within}
 use Rattle.means.specs.Box.{lightBlurOf, squareAt}
+use Rattle.words.specs.Words.{entriesOf}
 use Rattle.scan_laws.specs.TransmittanceLaws.{one-is-within}
 use Rattle.sun.specs.Sun.{sunBefore, sunLight, sunRefusal, noneActive, allOnes}
 use Rattle.sun.specs.SunLaws.{length-before, sun-ready}
@@ -48,35 +49,35 @@ units-accepted l h = lights-row l .1 (λ i p. at-most-light _ (h i p))
 
 module _ (axes : Axes) (corners : Corners) (scene : Scene) (direction : Vec3) (active : List ℕ) (lightLength scratchLength distancesLength placesLength : ℕ)
     (accepted : sunRefusal axes corners scene direction active lightLength scratchLength distancesLength placesLength ≡ 0) where
-  before-units : (i : ℕ) → i < length (sunBefore axes corners scene direction active) → AtMost 1 0 (getD (sunBefore axes corners scene direction active) i nan)
+  before-units : (i : ℕ) → i < length (sunBefore axes corners scene direction (entriesOf active (voxels axes))) → AtMost 1 0 (getD (sunBefore axes corners scene direction (entriesOf active (voxels axes))) i nan)
   before-units i h =
       unit-at-most _
       (before-within axes corners scene direction active lightLength scratchLength distancesLength placesLength accepted i
-      (omega (arith, length-before axes corners scene direction active)))
+      (omega (arith, length-before axes corners scene direction (entriesOf active (voxels axes)))))
 
   -- what the light's scratch list holds
-  pub before-accepted : badLights (sunBefore axes corners scene direction active) ≡ false
+  pub before-accepted : badLights (sunBefore axes corners scene direction (entriesOf active (voxels axes))) ≡ false
   before-accepted = units-accepted _ before-units
 
   -- what the light holds
-  pub sun-light-accepted : badLights (sunLight axes corners scene direction active) ≡ false
+  pub sun-light-accepted : badLights (sunLight axes corners scene direction (entriesOf active (voxels axes))) ≡ false
   unfolding sunLight lightBlurOf
-  sun-light-accepted = by (noneActive active)
+  sun-light-accepted = by (noneActive (entriesOf active (voxels axes)))
     where
       ones : (i : ℕ) → i < length (allOnes axes) → AtMost 1 0 (getD (allOnes axes) i nan)
       ones i h =
           let l = length-tab (λ (j : ℕ). one32) (voxels axes) 0 in
           rw (getD-tab (λ (j : ℕ). one32) (voxels axes) 0 i nan (omega arith)) (unit-at-most one32 one-is-within)
 
-      blurred : (i : ℕ) → i < length (lightBlurOf (sunBefore axes corners scene direction active) (axes .width) (axes .height) (axes .depth))
-          → AtMost 1 0 (getD (lightBlurOf (sunBefore axes corners scene direction active) (axes .width) (axes .height) (axes .depth)) i nan)
+      blurred : (i : ℕ) → i < length (lightBlurOf (sunBefore axes corners scene direction (entriesOf active (voxels axes))) (axes .width) (axes .height) (axes .depth))
+          → AtMost 1 0 (getD (lightBlurOf (sunBefore axes corners scene direction (entriesOf active (voxels axes))) (axes .width) (axes .height) (axes .depth)) i nan)
       blurred i h =
           let r = sun-ready axes corners scene direction active lightLength scratchLength distancesLength placesLength accepted .traceable .axes-fit in
-          let b = sunBefore axes corners scene direction active in
+          let b = sunBefore axes corners scene direction (entriesOf active (voxels axes)) in
           let l = length-tab (squareAt b (axes .width) (axes .height) (axes .depth)) (length b) 0 in
-          blurred-at-most axes b (r .width) (r .height) (length-before axes corners scene direction active) before-units i (omega arith)
+          blurred-at-most axes b (r .width) (r .height) (length-before axes corners scene direction (entriesOf active (voxels axes))) before-units i (omega arith)
 
       by : (c : Bool)
-          → badLights (cond c (allOnes axes) (lightBlurOf (sunBefore axes corners scene direction active) (axes .width) (axes .height) (axes .depth))) ≡ false
+          → badLights (cond c (allOnes axes) (lightBlurOf (sunBefore axes corners scene direction (entriesOf active (voxels axes))) (axes .width) (axes .height) (axes .depth))) ≡ false
       by true = units-accepted _ ones
       by false = units-accepted _ blurred

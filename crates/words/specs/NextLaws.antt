@@ -1,5 +1,5 @@
 -- The next marked voxel: a run of unmarked ones is passed over, and the lowest bit of what is left of a word is the next.
-use mathlib.Core.Path.{_≡_, refl, sym, ap, ap₂, _∙_}
+use mathlib.Core.Path.{_≡_, refl, sym, ap, ap₂, _∙_, subst}
 use mathlib.Core.Bool.{Bool, true, false, cond}
 use mathlib.Core.List.{List}
 use mathlib.Core.Logic.{_⊎_, inl, inr}
@@ -39,6 +39,27 @@ module _ (f : ℕ → Bool) (n : ℕ) where
           let s : nextFrom f n (n - i) i ≡ nextFrom f n (n - (i + 1)) (i + 1) = let z : f i ≡ false = ap f (sym (add-zero i)) ∙ e 0 (omega arith) in rw (ahead i n h, z) refl in
           let a : i + 1 + m ≡ i + suc m = omega arith in
           s ∙ ih ∙ ap (λ (x : ℕ). nextFrom f n (n - x) x) a
+
+  -- what passes from each number to the next where f does not hold passes to the next of which it holds
+  pub next-carries : (P : ℕ → Type 0) → ((j : ℕ) → j < n → f j ≡ false → P j → P (j + 1)) → (k i : ℕ) → i + k ≡ n → P i → P (nextFrom f n k i)
+  unfolding nextFrom
+  next-carries P on zero i h p = let e : i ≡ n = omega arith in subst P e p
+  next-carries P on (suc k) i h p = go (f i) refl (λ q. next-carries P on k (i + 1) (omega arith) q)
+    where
+      go : (b : Bool) → f i ≡ b → (P (i + 1) → P (nextFrom f n k (i + 1))) → P (cond b i (nextFrom f n k (i + 1)))
+      go true e rest = p
+      go false e rest = rest (on i (omega arith) e p)
+
+  -- and of that f holds
+  pub next-there : (k i : ℕ) → i + k ≡ n → nextFrom f n k i < n → f (nextFrom f n k i) ≡ true
+  unfolding nextFrom
+  next-there zero i h l = absurd (omega arith)
+  next-there (suc k) i h l = go (f i) refl l (λ q. next-there k (i + 1) (omega arith) q)
+    where
+      go : (b : Bool) → f i ≡ b → cond b i (nextFrom f n k (i + 1)) < n → (nextFrom f n k (i + 1) < n → f (nextFrom f n k (i + 1)) ≡ true)
+          → f (cond b i (nextFrom f n k (i + 1))) ≡ true
+      go true e m rest = e
+      go false e m rest = rest m
 
 module _ (words : List ℕ) (n : ℕ) (a : AreWords words) (t : Tidy words n) where
   -- what an entry says is what the bit says, at every place

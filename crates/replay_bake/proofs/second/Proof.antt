@@ -30,8 +30,8 @@ fit-requires-2 c κs = search needs
 nth-requires-3 : tie.Need-nth-requires-3
 nth-requires-3 c κs = search needs
 
-fit-requires-3 : tie.Need-fit-requires-3
-fit-requires-3 c κs = search needs
+mask-words-requires : tie.Need-mask-words-requires
+mask-words-requires c κs = search needs
 
 array-borrow-prefix-numbers : tie.Need-array-borrow-prefix-numbers
 array-borrow-prefix-numbers c = search needs
@@ -78,7 +78,7 @@ second-spec =
     nth-requires-2
     fit-requires-2
     nth-requires-3
-    fit-requires-3
+    mask-words-requires
     array-borrow-prefix-numbers
     slice-aggregate-third
     array-borrow-prefix-sky

@@ -21,14 +21,14 @@ fit-requires c κs = search needs
 nth-requires : tie.Need-nth-requires
 nth-requires c κs = search needs
 
-fit-requires-2 : tie.Need-fit-requires-2
-fit-requires-2 c κs = search needs
+mask-words-requires : tie.Need-mask-words-requires
+mask-words-requires c κs = search needs
 
 nth-requires-2 : tie.Need-nth-requires-2
 nth-requires-2 c κs = search needs
 
-fit-requires-3 : tie.Need-fit-requires-3
-fit-requires-3 c κs = search needs
+mask-words-requires-2 : tie.Need-mask-words-requires-2
+mask-words-requires-2 c κs = search needs
 
 fits-requires : tie.Need-fits-requires
 fits-requires c κs = search needs
@@ -69,9 +69,9 @@ record-spec =
     room-for-mask-requires-2
     fit-requires
     nth-requires
-    fit-requires-2
+    mask-words-requires
     nth-requires-2
-    fit-requires-3
+    mask-words-requires-2
     fits-requires
     held-requires
     array-borrow-prefix-points

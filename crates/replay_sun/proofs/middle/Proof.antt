@@ -24,14 +24,14 @@ fit-requires c κs = search needs
 nth-requires-2 : tie.Need-nth-requires-2
 nth-requires-2 c κs = search needs
 
-fit-requires-2 : tie.Need-fit-requires-2
-fit-requires-2 c κs = search needs
+mask-words-requires : tie.Need-mask-words-requires
+mask-words-requires c κs = search needs
 
 nth-requires-3 : tie.Need-nth-requires-3
 nth-requires-3 c κs = search needs
 
-fit-requires-3 : tie.Need-fit-requires-3
-fit-requires-3 c κs = search needs
+fit-requires-2 : tie.Need-fit-requires-2
+fit-requires-2 c κs = search needs
 
 array-borrow-prefix-numbers : tie.Need-array-borrow-prefix-numbers
 array-borrow-prefix-numbers c = search needs
@@ -76,9 +76,9 @@ middle-spec =
     nth-requires
     fit-requires
     nth-requires-2
-    fit-requires-2
+    mask-words-requires
     nth-requires-3
-    fit-requires-3
+    fit-requires-2
     array-borrow-prefix-numbers
     slice-aggregate-rest
     array-borrow-prefix-active

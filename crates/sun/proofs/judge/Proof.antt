@@ -1,8 +1,13 @@
 -- `sun::judge` meets its contract: the first test that holds gives its row's number. Voxels are counted once the axes have passed.
 use mathlib.Core.Path.{sym, _∙_}
+use native.Mathlib.Omega.{arith}
+use lib.ListN.{length}
 use Rattle.names.specs.Refusals.{refusals}
+use Rattle.names.specs.Scene.{sceneOf}
+use Rattle.grid.specs.GridLaws.{voxels-most}
 use Rattle.limits.specs.LimitsLaws.{axes-row}
 use Rattle.sun.specs.Sun.{wrongSun, sunRefusal}
+use Rattle.sun.specs.SunLaws.{words-long}
 use borrow.Author.Needs.{needs}
 use Rattle.sun.proofs.judge.Statement.{statement}
 use Rattle.sun.proofs.judge.Tie as tie
@@ -31,6 +36,12 @@ voxel-count-requires c κs = axes-row _ .0 (sym (c .before .before .before .bad-
 
 wrong-scene-requires : tie.Need-wrong-scene-requires
 wrong-scene-requires c κs = search needs
+
+add-w : tie.Need-add-w
+add-w c =
+    let g = c .before .before .before .before in
+    let axes-fit = axes-row _ .0 (sym (g .before .bad-axes .ensures) ∙ g .if1 .left) in
+    omega (arith, c .before .voxel-count .ensures, voxels-most _ axes-fit)
 
 returns-3 : tie.Need-returns-3
 unfolding sunRefusal wrongSun
@@ -109,8 +120,15 @@ returns-7 c =
     )
     (search refusals depth 20)
 
-bad-mask-requires : tie.Need-bad-mask-requires
-bad-mask-requires c κs = search needs
+-- row 3 has passed, so the mask has the words of n voxels
+unused-set-requires : tie.Need-unused-set-requires
+unfolding wrongSun
+unused-set-requires c κs =
+    let w = c .before .before .before .before .before .before .before .before in
+    let v = w .before .before in
+    let a = v .before .before .before .before .before .before .before .before .before .before .args in
+    words-long (v .voxel-count .result) (sceneOf (a .points .now) (a .uses .now) (a .kinds .now) (a .numbers .now)) (length (a .active .now)) (a .lights) (a .scratches) (a .distances) (a .places)
+    (rw (← w .before .wrong-scene .ensures) (w .if3 .left))
 
 returns-8 : tie.Need-returns-8
 unfolding sunRefusal wrongSun
@@ -124,7 +142,7 @@ returns-8 c =
       ← c .before .before .before .before .before .before .before .bad-points .ensures,
       ← c .before .before .before .before .before .bad-materials .ensures,
       ← c .before .before .before .bad-direction .ensures,
-      ← c .before .bad-mask .ensures,
+      ← c .before .unused-set .ensures,
     )
     (search refusals depth 20)
 
@@ -140,7 +158,7 @@ returns-9 c =
       ← c .before .before .before .before .before .before .before .bad-points .ensures,
       ← c .before .before .before .before .before .bad-materials .ensures,
       ← c .before .before .before .bad-direction .ensures,
-      ← c .before .bad-mask .ensures,
+      ← c .before .unused-set .ensures,
     )
     (search refusals depth 20)
 
@@ -154,6 +172,7 @@ judge-spec =
     returns-2
     voxel-count-requires
     wrong-scene-requires
+    add-w
     returns-3
     too-many-requires
     returns-4
@@ -163,6 +182,6 @@ judge-spec =
     returns-6
     bad-direction-requires
     returns-7
-    bad-mask-requires
+    unused-set-requires
     returns-8
     returns-9)

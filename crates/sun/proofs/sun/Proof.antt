@@ -1,10 +1,14 @@
 -- `sun::sun` meets its contract: what is not refused fits the grid; with no active voxel the light is all 1.0, and with one the light is the blur of
 -- the traced figures, which scratch holds.
-use mathlib.Core.Path.{refl, sym, _∙_}
+use mathlib.Core.Path.{_≡_, refl, sym, ap, subst, _∙_}
+use Prim.Native.Nat.{ℕ}
 use lib.ListN.{length}
 use borrow.Author.Tests.{eq-eqb, ne-eqb}
 use Rattle.names.specs.Scene.{sceneOf}
 use Rattle.names.specs.Refusals.{unlessRefused, kept}
+use Rattle.grid.specs.Grid.{voxels}
+use Rattle.marks.specs.Marks.{markedCount}
+use Rattle.words.specs.Words.{entriesOf, Tidy}
 use Rattle.sun.specs.Sun.{sunLight, sunScratch}
 use Rattle.sun.specs.SunLaws.{SunReady, sun-ready}
 use borrow.Author.Needs.{needs}
@@ -14,14 +18,22 @@ use Rattle.sun.proofs.sun.Tie as tie
 -- what an accepted call has
 ready : (c : tie.Then1)
     → let a = c .before .before .before .before .before .before .before .before .before .before .before .args in
-    SunReady (a .axes) (sceneOf (a .points .now) (a .uses .now) (a .kinds .now) (a .numbers .now)) (length (a .active .now)) (length (a .light .now)) (length (a .scratch .now)) (length (a .distances .now)) (length (a .places .now))
+    SunReady (a .axes) (sceneOf (a .points .now) (a .uses .now) (a .kinds .now) (a .numbers .now)) (a .active .now) (length (a .light .now)) (length (a .scratch .now)) (length (a .distances .now)) (length (a .places .now))
 ready c = sun-ready _ _ _ _ _ _ _ _ _ (sym (c .before .judge .ensures) ∙ c .if1 .taken)
 
 judge-requires : tie.Need-judge-requires
 judge-requires c κs = search needs
 
 count-requires : tie.Need-count-requires
-count-requires c κs = search needs
+count-requires c κs = let r = ready c in subst (Tidy _) (sym (r .light-fits)) (r .tidy)
+
+-- the light has a number for each voxel
+counted : (c : tie.After-count)
+    → let a = c .before .before .before .before .before .before .before .before .before .before .before .before .args in
+    c .count .result ≡ markedCount (entriesOf (a .active .now) (voxels (a .axes)))
+counted c =
+    let a = c .before .before .before .before .before .before .before .before .before .before .before .before .args in
+    c .count .ensures ∙ ap (λ (n : ℕ). markedCount (entriesOf (a .active .now) n)) (ready (c .before) .light-fits)
 
 brighten-requires : tie.Need-brighten-requires
 brighten-requires c κs = search needs
@@ -34,10 +46,10 @@ unfolding sunLight sunScratch unlessRefused
 returns c =
     let b = c .before .before in
     let n = c .before .before .before .before .before in
-    let e = eq-eqb _ 0 (sym (n .count .ensures) ∙ c .before .before .before .before .if2 .taken) in
+    let e = eq-eqb _ 0 (sym (counted n) ∙ c .before .before .before .before .if2 .taken) in
     record {
       answer = sym (n .before .if1 .taken) ∙ n .before .before .judge .ensures;
-      rays = sym (c .before .before .before .before .if2 .taken) ∙ n .count .ensures;
+      rays = sym (c .before .before .before .before .if2 .taken) ∙ counted n;
       light-after = rw e (b .brighten .ensures ∙ rw (ready (n .before) .light-fits) refl);
       scratch-after = rw e refl;
       distances-kept = λ z. refl;
@@ -47,7 +59,7 @@ returns c =
     }
 
 trace-requires : tie.Need-trace-requires
-trace-requires c κs = let r = ready (c .before .before .before .before .before) in (r .traceable, r .scratch-fits)
+trace-requires c κs = let r = ready (c .before .before .before .before .before) in (r .traceable, (r .tidy, r .scratch-fits))
 
 square-requires : tie.Need-square-requires
 square-requires c κs =
@@ -75,10 +87,10 @@ returns-2 c =
     let t = c .before .before .before .before .before .before .before .before .before .before .before in
     let n = t .before .before .before .before .before in
     let some = t .before .before .before .before .if2 .left in
-    let e = ne-eqb _ 0 (λ z. some (n .count .ensures ∙ z)) in
+    let e = ne-eqb _ 0 (λ z. some (counted n ∙ z)) in
     record {
       answer = sym (n .before .if1 .taken) ∙ n .before .before .judge .ensures;
-      rays = n .count .ensures;
+      rays = counted n;
       light-after = rw (e, ← t .trace .ensures) (c .before .before .square .ensures);
       scratch-after = rw e (t .trace .ensures);
       distances-kept = λ z. absurd (some z);

@@ -19,8 +19,14 @@ abbrev μ-loop : tie.MeasureT-loop
 loop-holds : tie.Need-loop-holds Inv-loop μ-loop
 loop-holds c = (omega arith, omega arith, refl)
 
+mul-to : tie.Need-mul-to Inv-loop μ-loop
+mul-to c = omega arith
+
 shared-slice-read-to : tie.Need-shared-slice-read-to Inv-loop μ-loop
 shared-slice-read-to c = omega arith
+
+mul-to-2 : tie.Need-mul-to-2 Inv-loop μ-loop
+mul-to-2 c = omega arith
 
 slice-write-to : tie.Need-slice-write-to Inv-loop μ-loop
 slice-write-to c = omega arith
@@ -62,7 +68,9 @@ copy-spec =
     Inv-loop
     μ-loop
     loop-holds
+    mul-to
     shared-slice-read-to
+    mul-to-2
     slice-write-to
     add-i
     loop-less

@@ -10,16 +10,16 @@ use borrow.Author.Tests.{ne-eqb}
 use lib.ListN.{length, take, drop, length-set}
 use lib.Seq.{length-take-le, length-front, take-at}
 use Rattle.names.specs.Bits.{one32}
-use Rattle.scan.specs.BeforeLaws.{hit-number}
+use Rattle.hits.specs.BeforeLaws.{hit-number}
 use Rattle.scan.specs.FirstHit.{FirstFrom, hits-over, hits-first}
-use Rattle.scan.specs.Hits.{Struck, struck, paired, hitsOf, placesOf}
-use Rattle.scan.specs.HitLaws.{places-below}
-use Rattle.scan.specs.Merge.{insertAll, sortOf, Numbers}
-use Rattle.scan.specs.MergeLaws.{insert-all-append, numbers-append}
+use Rattle.hits.specs.Hits.{Struck, struck, paired, hitsOf, placesOf}
+use Rattle.hits.specs.HitLaws.{places-below}
+use Rattle.hits.specs.Merge.{insertAll, sortOf, Numbers}
+use Rattle.hits.specs.MergeLaws.{insert-all-append, numbers-append}
 use Rattle.scan.specs.OpaqueLaws.{NoneOpaque, opaque-dark, clear-pass, none-opaque-put}
 use Rattle.scan.specs.Transmittance.{transmittanceOf}
 use borrow.Author.Needs.{needs}
-use Rattle.scan.proofs.Lists.{paired-places, stored}
+use Rattle.hits.specs.PairedLaws.{paired-places, stored}
 use Rattle.scan.proofs.inner.transmittance.Statement.{statement}
 use Rattle.scan.proofs.inner.transmittance.Tie as tie
 
