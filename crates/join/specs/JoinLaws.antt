@@ -1,9 +1,9 @@
 -- The contract of the join leaves one result, a call is refused by row k exactly when that row holds and none before it, an accepted call has a mask and
 -- lists that fit its grid, it leaves what it should voxel by voxel and number by number, and a good call is accepted.
 use mathlib.Core.Path.{_≡_, refl, sym, ap, _∙_}
-use mathlib.Core.Bool.{Bool, true, false, cond, not, _&&_}
+use mathlib.Core.Bool.{Bool, true, false, cond, not, _&&_, and-false}
 use mathlib.Core.List.{List, [], _∷_, _++_}
-use Prim.Native.Nat.{ℕ, zero, suc, _+_, _-_, _*_, _≤_, _<_}
+use Prim.Native.Nat.{ℕ, _+_, _-_, _*_, _≤_, _<_}
 use native.Mathlib.Omega.{arith}
 use native.Mathlib.Decide.{ℕ-discrete}
 use lib.Dec.{ltb}
@@ -25,6 +25,7 @@ use Rattle.limits.specs.LimitsLaws.{axes-row, either, any-of-three}
 use Rattle.marks.specs.Marks.{isMarked}
 use Rattle.words.specs.Words.{wordCount, entriesOf, unusedSet, Tidy}
 use Rattle.words.specs.ByWords.{nextFrom}
+use Rattle.words.specs.NextLaws.{next-carries, next-there}
 use Rattle.shares.specs.LaidBelow.{part-long, laid-parts, replaced-below}
 use Rattle.shares.specs.Shares.{joinedBy}
 use Rattle.shares.specs.SharesLaws.{joined-voxel, length-joined}
@@ -143,43 +144,11 @@ pub join-done : (axes : Axes) (share : List ℕ) (unblurred joined joined' : Lis
     → Joined axes share unblurred joined 0 joined'
 join-done axes share unblurred joined joined' e l = record { answer = e; joined-after = l ∙ given 0 _ joined refl }
 
--- ---- the next mark: none is passed over, and there is one where the search ends short of n
-
-module _ (f : ℕ → Bool) (n : ℕ) where
-  next-from : (k i : ℕ) → i + k ≡ n → (i ≤ nextFrom f n k i) × (nextFrom f n k i ≤ n)
-  unfolding nextFrom
-  next-from zero i e = (omega arith, omega arith)
-  next-from (suc k) i e = go (f i) (next-from k (i + 1) (omega arith))
-    where
-      go : (x : Bool) → (i + 1 ≤ nextFrom f n k (i + 1)) × (nextFrom f n k (i + 1) ≤ n)
-          → (i ≤ cond x i (nextFrom f n k (i + 1))) × (cond x i (nextFrom f n k (i + 1)) ≤ n)
-      go true h = (omega arith, omega arith)
-      go false h = (omega (arith, h .0), h .1)
-
-  pub next-onward : (i : ℕ) → i ≤ n → i ≤ nextFrom f n (n - i) i
-  next-onward i h = next-from (n - i) i (omega arith) .0
-
-  none-passed : (k i : ℕ) → i + k ≡ n → (j : ℕ) → i ≤ j → j < nextFrom f n k i → f j ≡ false
-  unfolding nextFrom
-  none-passed zero i e j p q = absurd (omega arith)
-  none-passed (suc k) i e j p q = go (f i) refl q (ℕ-discrete j i) (none-passed k (i + 1) (omega arith) j)
-    where
-      go : (x : Bool) → f i ≡ x → j < cond x i (nextFrom f n k (i + 1)) → Dec (j ≡ i) → (i + 1 ≤ j → j < nextFrom f n k (i + 1) → f j ≡ false) → f j ≡ false
-      go true h r d rest = absurd (omega arith)
-      go false h r (yes z) rest = ap f z ∙ h
-      go false h r (no o) rest = rest (omega (arith, o)) r
-
-  marked-there : (k i : ℕ) → nextFrom f n k i < n → f (nextFrom f n k i) ≡ true
-  unfolding nextFrom
-  marked-there zero i h = absurd (omega arith)
-  marked-there (suc k) i h = go (f i) refl h (marked-there k (i + 1))
-    where
-      go : (x : Bool) → f i ≡ x → cond x i (nextFrom f n k (i + 1)) < n → (nextFrom f n k (i + 1) < n → f (nextFrom f n k (i + 1)) ≡ true)
-          → f (cond x i (nextFrom f n k (i + 1))) ≡ true
-      go true e p rest = e
-      go false e p rest = rest p
-
 -- ---- how the copy goes, from mark to mark: below i all is joined, and i is marked or the end
+
+-- the next mark from i on lies from i on
+pub next-onward : (f : ℕ → Bool) (n i : ℕ) → i ≤ n → i ≤ nextFrom f n (n - i) i
+next-onward f n i h = next-carries f n (λ j. i ≤ j) (λ j l e p. omega arith) (n - i) i (omega arith) (omega arith)
 
 module _ (n : ℕ) (has : ℕ → Bool) (from to : List Float) where
   abbrev below : ℕ → ℕ → Bool
@@ -201,6 +170,14 @@ module _ (n : ℕ) (has : ℕ → Bool) (from to : List Float) where
         go true = part-long 16 n from e j h
         go false = part-long 16 n to f j h
 
+    -- whether j lies below i and whether it lies below i + 1 differ at i alone
+    below-other : (i j : ℕ) → (j ≡ i → ⊥) → ltb j i ≡ ltb j (i + 1)
+    below-other i j ne = go (ltb j i) refl
+      where
+        go : (x : Bool) → ltb j i ≡ x → ltb j i ≡ ltb j (i + 1)
+        go true p = p ∙ sym (lt-ltb j (i + 1) (omega (arith, ltb-true j i p)))
+        go false p = p ∙ sym (le-ltb j (i + 1) (omega (arith, ne, ltb-false j i p)))
+
     below-none : to ≡ joinedBelow 0
     unfolding joinedBy
     below-none = sym (laid-parts 16 n to f) ∙ laid-same _ _ n 0 (λ j p q. rw (le-ltb j 0 (omega arith)) refl)
@@ -209,16 +186,14 @@ module _ (n : ℕ) (has : ℕ → Bool) (from to : List Float) where
     unfolding joinedBy
     below-all = laid-same _ _ n 0 (λ j p q. rw (lt-ltb j n (omega arith)) refl)
 
-    -- unmarked voxels from i up to m change nothing
-    below-skip : (i m : ℕ) → i ≤ m → ((j : ℕ) → i ≤ j → j < m → has j ≡ false) → joinedBelow i ≡ joinedBelow m
+    -- an unmarked voxel changes nothing
+    below-skip : (i : ℕ) → has i ≡ false → joinedBelow i ≡ joinedBelow (i + 1)
     unfolding joinedBy
-    below-skip i m h none = laid-same _ _ n 0 (λ j p q. ap (λ (x : Bool). cond x (voxelPart 16 j from) (voxelPart 16 j to)) (same j (ltb j i) refl (ltb j m) refl))
+    below-skip i none = laid-same _ _ n 0 (λ j p q. ap (λ (x : Bool). cond x (voxelPart 16 j from) (voxelPart 16 j to)) (same j (ℕ-discrete j i)))
       where
-        same : (j : ℕ) (x : Bool) → ltb j i ≡ x → (y : Bool) → ltb j m ≡ y → ltb j i && has j ≡ ltb j m && has j
-        same j true p true q = rw (p, q) refl
-        same j true p false q = absurd (omega (arith, ltb-true j i p, ltb-false j m q))
-        same j false p true q = rw (p, q) (sym (none j (ltb-false j i p) (ltb-true j m q)))
-        same j false p false q = rw (p, q) refl
+        same : (j : ℕ) → Dec (j ≡ i) → ltb j i && has j ≡ ltb j (i + 1) && has j
+        same j (yes z) = rw (z, none, and-false (ltb i i), and-false (ltb i (i + 1))) refl
+        same j (no ne) = ap (λ (x : Bool). x && has j) (below-other i j ne)
 
     -- a marked voxel is copied
     below-copy : (i : ℕ) → i < n → has i ≡ true → replaced 16 i (voxelPart 16 i from) (joinedBelow i) ≡ joinedBelow (i + 1)
@@ -227,25 +202,17 @@ module _ (n : ℕ) (has : ℕ → Bool) (from to : List Float) where
         ap (λ (x : List Float). replaced 16 i x (joinedBelow i)) (sym there)
         ∙ replaced-below 16 n (λ j. cond (below i j) (voxelPart 16 j from) (voxelPart 16 j to)) (chosen-long i)
         (λ j. cond (below (i + 1) j) (voxelPart 16 j from) (voxelPart 16 j to)) i h
-        (λ j ne. ap (λ (x : Bool). cond (x && has j) (voxelPart 16 j from) (voxelPart 16 j to)) (other j ne (ltb j i) refl))
+        (λ j ne. ap (λ (x : Bool). cond (x && has j) (voxelPart 16 j from) (voxelPart 16 j to)) (below-other i j ne))
       where
         there : cond (below (i + 1) i) (voxelPart 16 i from) (voxelPart 16 i to) ≡ voxelPart 16 i from
         there = rw (lt-ltb i (i + 1) (omega arith), t) refl
-
-        other : (j : ℕ) → (j ≡ i → ⊥) → (x : Bool) → ltb j i ≡ x → ltb j i ≡ ltb j (i + 1)
-        other j ne true p = p ∙ sym (lt-ltb j (i + 1) (omega (arith, ltb-true j i p)))
-        other j ne false p = p ∙ sym (le-ltb j (i + 1) (omega (arith, ne, ltb-false j i p)))
 
     -- from what is joined below i to the next mark
     on-to : (now : List Float) (i : ℕ) → i ≤ n → now ≡ joinedBelow i → Copied now (nextFrom has n (n - i) i)
     on-to now i h d =
         let k : i + (n - i) ≡ n = omega arith in
-        let r = next-from has n (n - i) i k in
-        record {
-          done = d ∙ below-skip i _ (r .0) (λ j p q. none-passed has n (n - i) i k j p q);
-          inside = r .1;
-          marked = marked-there has n (n - i) i;
-        }
+        let r = next-carries has n (λ j. (now ≡ joinedBelow j) × (j ≤ n)) (λ j l e p. (p .0 ∙ below-skip j e, omega arith)) (n - i) i k (d, h) in
+        record { done = r .0; inside = r .1; marked = next-there has n (n - i) i k }
 
     pub copied-none : Copied to (nextFrom has n (n - 0) 0)
     copied-none = on-to to 0 (omega arith) below-none

@@ -1,10 +1,9 @@
 -- Results of public calls over shares do what is demanded. Each share's calls end as the unbroken bake over its voxels, of which the joins take the unblurred
 -- volumes; these joined are the whole bake's (crate shares). No join and no blur is refused, since what an accepted bake writes lies within ±2^96.
 use mathlib.Core.Path.{_≡_, refl, sym, ap, ap₂, _∙_}
-use mathlib.Core.Bool.{Bool, true, false, cond, not}
+use mathlib.Core.Bool.{true, false, cond, not}
 use mathlib.Core.List.{List, [], _∷_, map}
-use Prim.Native.Nat.{ℕ, _+_, _*_, _≤_, _<_}
-use native.Mathlib.Omega.{arith}
+use Prim.Native.Nat.{ℕ, _+_, _*_}
 use native.Mathlib.Nat.{add-zero}
 use lib.ListN.{length}
 use lib.Ieee.{Float}
@@ -12,28 +11,33 @@ use borrow.Author.Tests.{eq-eqb}
 use Rattle.names.specs.Refusals.{given}
 use Rattle.names.specs.Passed.{passes}
 use Rattle.grid.specs.Grid.{AxesWithin}
-use Rattle.limits.specs.Limits.{badCoefficients}
-use Rattle.limits.specs.LimitsLaws.{axes-row, either}
+use Rattle.limits.specs.Limits.{badLights, badCoefficients}
+use Rattle.limits.specs.LimitsLaws.{axes-row, either, any-of-three}
 use Rattle.marks.specs.Marks.{isMarked}
-use Rattle.words.specs.Words.{entriesOf}
-use Rattle.spread.specs.Spread.{Stage, stage, Bake, anyActive, blurred, unblurred, unbroken, costs, sum, EachAtLeast, NoneRefused}
+use Rattle.words.specs.Words.{entriesOf, unusedSet, Tidy}
+use Rattle.spread.specs.Spread.{Stage, stage, Bake, unblurred, unbroken, costs, sum, EachAtLeast, NoneRefused}
 use Rattle.spread.specs.Demand.{Sized}
 use Rattle.shares.specs.Shares.{Share, bakeBy, holders, Parted, joinedBy, unblurredIn, joinedAll, addedOver}
 use Rattle.shares.specs.SharesLaws.{unblurred-in, length-unblurred, length-joined, same-unbroken, all-joined, rays-add-up}
-use Rattle.join.specs.Join.{joinRefusal, Joined}
-use Rattle.join.specs.JoinLaws.{FittingShare, join-accepted}
+use Rattle.join.specs.Join.{joinRefusal}
+use Rattle.join.specs.JoinLaws.{join-accepted}
 use Rattle.ends.specs.Ends.{meanOver}
-use Rattle.blurs.specs.Blurs.{wrongBlurLists, coefficientBlurRows, coefficientBlurRefusal, CoefficientsBlurred}
-use Rattle.intake.specs.Intake.{BakeInput, voxelNumbers, voxelCount, bakeCost}
-use Rattle.intake.specs.IntakeLaws.{BakePassed, Fits, fits, none-refused}
+use Rattle.blurs.specs.Blurs.{wrongBlurLists, coefficientBlurRows, coefficientBlurRefusal}
+use Rattle.intake.specs.Intake.{BakeInput, voxelNumbers, voxelCount, bakeCost, wrongBakeLists, badContents, bakeRefusal}
+use Rattle.intake.specs.IntakeLaws.{BakePassed, fits, none-refused}
 use Rattle.demand.specs.Bake.{bakeOf}
 use Rattle.demand.specs.Calls.{answers-refusal}
 use Rattle.demand.specs.Demanded.{bake-fair}
 use Rattle.bake.specs.Baked.{Baked}
 use Rattle.bake.specs.GoesOn.{accepted-unblurred}
-use Rattle.bake.specs.Results.{Result, handedOn, lending, Successive, allowancesOf, refusalsOf, reportedBy, raysBelow, DemandOfResults}
+use Rattle.bake.specs.Results.{Result, handedOn, lending, Successive, allowancesOf, refusalsOf, reportedBy, DemandOfResults}
 use Rattle.bake.specs.ResultsLaws.{demand-of-results}
-use Rattle.shared_bake.specs.SharedBake.{sharing, ShareBake, callsOf, endOf, BakedToEnd, EachBaked, shareHas, shareOf, unblurredOf, JoinedShare, JoinedOnto, lastJoined, sharesOf, Shared, allJoined, someActive, allReported, DemandOfShares, AsOne}
+use Rattle.shared_bake.specs.SharedBake.{sharing, ShareBake, callsOf, endOf, BakedToEnd, EachBaked, shareHas, shareOf, unblurredOf, JoinedShare, JoinedOnto, lastJoined, sharesOf, Shared, allJoined, someActive, DemandOfShares, AsOne}
+
+-- the sum of one number
+alone : (n : ℕ) → sum (n ∷ []) ≡ n
+unfolding sum
+alone n = add-zero n
 
 -- ---- calls that are not refused
 
@@ -48,6 +52,29 @@ allowances-hold b s d p [] h n = tt
 allowances-hold b s d p (c ∷ rest) h n =
     let i = lending b d p in
     (fits i s (c .allowance) (accepted-call {c = c} (h .0) (n .0)) .allowance, allowances-hold b (handedOn c) (c .distances) (c .places) rest (h .1) (n .1))
+
+-- ---- that there are such calls: with the words of any mask in place of its own an accepted input is accepted
+
+pub share-accepted : (b : BakeInput) (mask : List ℕ) (s : Stage Float) (a : ℕ) → Tidy mask (voxelCount b) → bakeRefusal b s a ≡ 0 → bakeRefusal (sharing b mask) s a ≡ 0
+unfolding wrongBakeLists badContents
+share-accepted b mask s a t e =
+    let p = none-refused b s a .0 e in
+    let c = any-of-three (unusedSet (b .active) (voxelCount b)) (badLights (b .lights)) _ .0 (p .contents) in
+    let long : length mask ≡ length (b .active) = t .long ∙ sym (fits b s a p .active .long) in
+    none-refused (sharing b mask) s a .1
+    (record {
+      axes = p .axes;
+      grid = p .grid;
+      lists = rw long (p .lists);
+      few = p .few;
+      points = p .points;
+      materials = p .materials;
+      lighting = p .lighting;
+      lamps = p .lamps;
+      progress = p .progress;
+      allowance = p .allowance;
+      contents = any-of-three _ _ _ .1 (t .clean, c .1, c .2);
+    })
 
 -- ---- one share
 
@@ -151,8 +178,17 @@ module _ (b : BakeInput) (first : ShareBake) (rest : List JoinedShare) (h : Shar
   abbrev everyVoxel : Share Float
   everyVoxel = record { has = bakeOf b .active; refusal = bakeOf b .refusal }
 
-  pub demand-of-shares : DemandOfShares b first rest
+  -- how the unbroken bake ends, where any voxel is active and where none is
+  ends-blurred : (scratch : List Float) → someActive b first rest ≡ true
+      → unbroken (bakeOf b) scratch ≡ stage (voxelCount b) (meanOver (b .axes) (unblurred (bakeOf b))) (unblurred (bakeOf b))
   unfolding unbroken
+  ends-blurred scratch t = rw t refl
+
+  ends-unblurred : (scratch : List Float) → someActive b first rest ≡ false → unbroken (bakeOf b) scratch ≡ stage (voxelCount b) (unblurred (bakeOf b)) scratch
+  unfolding unbroken
+  ends-unblurred scratch t = rw t refl
+
+  pub demand-of-shares : DemandOfShares b first rest
   demand-of-shares =
       let e = joined-all .1 in
       let z = sized b first one in
@@ -165,9 +201,30 @@ module _ (b : BakeInput) (first : ShareBake) (rest : List JoinedShare) (h : Shar
             let n : r ≡ 0 = p .answer ∙ blur-accepted b (allJoined b first rest) scratch (axes-within b first one) long l fine in
             let v : volume' ≡ meanOver (b .axes) (unblurred (bakeOf b)) = p .volume-after ∙ sym (given r _ _ n) ∙ ap (meanOver (b .axes)) e in
             let s : scratch' ≡ unblurred (bakeOf b) = p .scratch-after ∙ sym (given r _ _ n) ∙ e in
-            (n, ap₂ (stage (voxelCount b)) v s ∙ sym (ap (λ (x : Bool). cond x (stage (voxelCount b) (meanOver (b .axes) (unblurred (bakeOf b))) (unblurred (bakeOf b))) (stage (voxelCount b) (unblurred (bakeOf b)) scratch)) t));
-        unblurred-end = λ t scratch.
-            ap (λ (v : List Float). stage (voxelCount b) v scratch) e
-            ∙ sym (ap (λ (x : Bool). cond x (stage (voxelCount b) (meanOver (b .axes) (unblurred (bakeOf b))) (unblurred (bakeOf b))) (stage (voxelCount b) (unblurred (bakeOf b)) scratch)) t);
+            (n, ap₂ (stage (voxelCount b)) v s ∙ sym (ends-blurred scratch t));
+        unblurred-end = λ t scratch. ap (λ (v : List Float). stage (voxelCount b) v scratch) e ∙ sym (ends-unblurred scratch t);
         rays = reported-all b (sharesOf first rest) (h .baked) ∙ rays-add-up (bakeOf b) (map (shareOf b) (sharesOf first rest)) (h .parted);
+      }
+
+  -- a share of every active voxel is parted
+  whole-parted : (whole : ShareBake) → whole .mask ≡ b .active → Parted (bakeOf b) (shareOf b whole ∷ [])
+  unfolding holders
+  whole-parted whole e i l = add-zero _ ∙ ap (λ (m : List ℕ). cond {A = ℕ} (isMarked (entriesOf m (voxelCount b)) i) 1 0) e
+
+  whole-ended : (whole : ShareBake) → whole .mask ≡ b .active → BakedToEnd b whole → endOf whole ≡ unbroken (bakeOf b) (whole .begun .scratch)
+  whole-ended whole e w =
+      ended b whole w
+      ∙ same-unbroken (bakeOf b) (sized b first one) (shareOf b whole) (whole .begun .scratch) (λ i l. ap (λ (m : List ℕ). isMarked (entriesOf m (voxelCount b)) i) e)
+
+  pub as-one : (whole : ShareBake) → whole .mask ≡ b .active → BakedToEnd b whole → AsOne b first rest whole
+  as-one whole e w =
+      let d = demand-of-shares in
+      let end = whole-ended whole e w in
+      record {
+        blurred = λ t scratch l r volume' scratch' p.
+            let same : stage (voxelCount b) volume' scratch' ≡ endOf whole
+            = d .blurred t scratch l r volume' scratch' p .1 ∙ ends-blurred scratch t ∙ sym (ends-blurred (whole .begun .scratch) t) ∙ sym end in
+            (ap (λ (x : Stage Float). x .volume) same, ap (λ (x : Stage Float). x .scratch) same);
+        unblurred-end = λ t. ap (λ (x : Stage Float). x .volume) (d .unblurred-end t (whole .begun .scratch) ∙ sym end);
+        rays = d .rays ∙ sym (rays-add-up (bakeOf b) (shareOf b whole ∷ []) (whole-parted whole e)) ∙ sym (reported-all b (whole ∷ []) (w, tt)) ∙ alone (sum (reportedBy (callsOf whole)));
       }
