@@ -1,32 +1,34 @@
 // The active mask: the occupied mask is copied into it and dilated there, along x, then along y, then along z.
 ghost use mathlib.Core.Path.{_≡_};
 ghost use mathlib.Core.Bool.{cond};
-ghost use Prim.Native.Nat.{_+_, _*_, _<_};
+ghost use Prim.Native.Nat.{_+_, _*_, _<_, _≤_};
 ghost use lib.ListN.{length};
+ghost use Rattle.names.specs.Numbers.{voxelLimit};
 ghost use Rattle.grid.specs.Grid.{voxels};
+ghost use Rattle.words.specs.Words.{wordCount, entriesOf, wordsOf, Tidy, Holds};
 ghost use Rattle.dilate.specs.Active.{activeOf};
 ghost use Rattle.dilate.specs.ByAxes.{lineDilated, dilateMiddle, dilateByAxes, pastReach};
 use grid::Axes;
 use names::REACH;
 
 // The active mask of occupied, in active.
-pub fn dilate(axes: Axes, occupied: &[u8], active: &mut [u8])
-    requires { ⌜ (0 < axes .width) × (0 < axes .height) × (0 < axes .depth) × (voxels axes ≡ length (now occupied)) × (length (now active) ≡ length (now occupied)) ⌝ }
-    ensures { λ r. ⌜ now (active .exit) ≡ activeOf axes (now (occupied .entry)) ⌝ }
+pub fn dilate(axes: Axes, occupied: &[u64], active: &mut [u64])
+    requires { ⌜ (0 < axes .width) × (0 < axes .height) × (0 < axes .depth) × Tidy (now occupied) (voxels axes) × (length (now active) ≡ length (now occupied)) × (voxels axes ≤ voxelLimit) ⌝ }
+    ensures { λ r. ⌜ Holds (now (active .exit)) (voxels axes) (activeOf axes (entriesOf (now (occupied .entry)) (voxels axes))) ⌝ }
 {
-    copy(occupied, active);
-    dilate_by_axes(axes, active);
+    let layers = axes.depth * axes.height;
+    let n = layers * axes.width;
+    let mut entries = [0u8; 32768];
+    dilate_entries(axes, occupied, active, &mut entries[..n]);
 }
 
-fn copy(from: &[u8], to: &mut [u8])
-    requires { ⌜ length (now to) ≡ length (now from) ⌝ }
-    ensures { λ r. ⌜ now (to .exit) ≡ now (from .entry) ⌝ }
+fn dilate_entries(axes: Axes, occupied: &[u64], active: &mut [u64], entries: &mut [u8])
+    requires { ⌜ (0 < axes .width) × (0 < axes .height) × (0 < axes .depth) × (voxels axes ≡ length (now entries)) × (length (now occupied) ≡ wordCount (voxels axes)) × (length (now active) ≡ wordCount (voxels axes)) ⌝ }
+    ensures { λ r. ⌜ now (active .exit) ≡ wordsOf (activeOf axes (entriesOf (now (occupied .entry)) (voxels axes))) ⌝ }
 {
-    let mut i = 0;
-    while i < to.len() {
-        to[i] = from[i];
-        i += 1;
-    }
+    words::inner::unpack(occupied, entries);
+    dilate_by_axes(axes, entries);
+    words::inner::pack(entries, active);
 }
 
 // Along x, then y, then z: each is the middle axis of a grid that the list is.
