@@ -20,7 +20,7 @@ smallest-edge-requires : tie.Need-smallest-edge-requires
 smallest-edge-requires c κs = search needs
 
 -- cleared words hold a mask of zeros
-cleared : (c : tie.After-clear) → let a = c .before .before .before .before .args in Holds (c .clear .last .0 .0) (voxels (a .axes)) (tab unmarked (voxels (a .axes)) 0)
+cleared : (c : tie.After-clear) → let a = c .before .before .before .before .args in Holds (c .clear .last .0) (voxels (a .axes)) (tab unmarked (voxels (a .axes)) 0)
 cleared c =
     let s = c .before .before .before .before in
     rw (c .clear .ensures, s .pre .1) (clear-holds (voxels (s .args .axes)))
