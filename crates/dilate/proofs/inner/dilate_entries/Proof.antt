@@ -1,7 +1,6 @@
 -- `dilate::inner::dilate_entries`: the entries, dilated by the axes, are the active mask. Assumes nothing.
 use borrow.Author.Needs.{needs}
-use mathlib.Core.Path.{_≡_, sym, ap, _∙_}
-use Prim.Native.Nat.{ℕ}
+use mathlib.Core.Path.{sym, ap, _∙_}
 use Rattle.words.specs.Words.{entriesOf, wordsOf}
 use Rattle.words.specs.WordsLaws.{entries-length}
 use Rattle.grid.specs.Grid.{voxels}

@@ -1,6 +1,5 @@
 -- `samples::inner::off_axis`: below 0 there is no cell, and else there is one exactly below n. Assumes nothing.
-use mathlib.Core.Path.{sym, _∙_}
-use mathlib.Core.Bool.{not}
+use mathlib.Core.Path.{sym}
 use native.Mathlib.Omega.{arith}
 use borrow.Author.Needs.{needs}
 use Rattle.samples.specs.FallsLaws.{off-axis, off-below}
