@@ -36,8 +36,21 @@ pub fn mark(words: &mut [u64], n: usize, i: usize)
     set_bit(words, i);
 }
 
-// The first marked voxel of n from i on, or n if there is none. Words of 0 are passed over whole.
+// The first marked voxel of n from i on, or n if there is none. Where voxels are marked one after another, the first look finds the next.
 pub fn next_marked(words: &[u64], n: usize, i: usize) -> usize
+    requires { ⌜ Tidy (now words) n × (n < 9223372036854775808) ⌝ }
+    ensures { λ r. ⌜ r ≡ nextFrom (isMarked (entriesOf (now (words .entry)) n)) n (n - i) i ⌝ }
+{
+    if i < n {
+        if is_marked(words, i) {
+            return i;
+        }
+    }
+    search(words, n, i)
+}
+
+// The same by search: words of 0 are passed over whole.
+fn search(words: &[u64], n: usize, i: usize) -> usize
     requires { ⌜ Tidy (now words) n × (n < 9223372036854775808) ⌝ }
     ensures { λ r. ⌜ r ≡ nextFrom (isMarked (entriesOf (now (words .entry)) n)) n (n - i) i ⌝ }
 {

@@ -1,4 +1,5 @@
 -- `masks::masks` meets its contract: what is not refused fits the grid, and both masks and both counts are their definitions. Assumes nothing.
+use native.Mathlib.Omega.{arith}
 use mathlib.Core.Path.{refl, sym, _∙_}
 use borrow.Author.Needs.{needs}
 use Rattle.grid.specs.GridLaws.{voxels-most}
