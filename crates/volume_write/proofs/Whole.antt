@@ -1,12 +1,13 @@
 -- Seven runs of stores, each right after the one before, cover the whole list.
-use Prim.Native.Nat.{ℕ, _+_, _*_}
+use Prim.Native.Nat.{ℕ, _+_, _-_, _*_, _≤_}
 use mathlib.Core.Path.{_≡_, refl, sym, ap, _∙_}
-use mathlib.Core.List.{List, _++_}
+use mathlib.Core.List.{List, _++_, append-assoc}
 use native.Mathlib.Nat.{zero-add}
 use native.Mathlib.Omega.{arith}
-use lib.ListN.{length, length-append}
-use lib.Seq.{sets}
+use lib.ListN.{length, take, drop, length-append}
+use lib.Seq.{sets, sets-eq}
 use lib.Ieee.{Float}
+use borrow.Rule.Slice.PartMut.{midOf, putMid, mid-len, post-is}
 use Rattle.grid.specs.declared.Axes.{Axes}
 use Rattle.grid.specs.declared.Corners.{Corners}
 use Rattle.grid.specs.Grid.{voxels}
@@ -23,6 +24,18 @@ start-length a n = refl
 
 after : (x y : List ℕ) (k m j : ℕ) → length x ≡ k → length y ≡ m → k + m ≡ j → length (x ++ y) ≡ j
 after x y k m j e f g = length-append x y ∙ rw (e, f) g
+
+-- a part that was lent and came back with a mask's entries: they were stored from its first place on
+pub part-set : (at n : ℕ) (s part words : List ℕ) → at + n ≤ length s → part ≡ entriesOf words (length (midOf at (at + n - at) s))
+    → putMid at (at + n - at) s part ≡ sets s at (entriesOf words n)
+part-set at n s part words h e =
+    let k : at + n - at ≡ n = omega arith in
+    let long : length (midOf at (at + n - at) s) ≡ n = mid-len at (at + n) s h ∙ k in
+    let l : length (entriesOf words n) ≡ n = entries-length words n in
+    let filled : part ≡ entriesOf words n = e ∙ ap (entriesOf words) long in
+    let stored : sets s at (entriesOf words n) ≡ take at s ++ entriesOf words n ++ drop (at + n) s =
+    sets-eq (entriesOf words n) s at (omega arith) ∙ ap (λ (x : ℕ). take at s ++ entriesOf words n ++ drop (at + x) s) l in
+    rw (post-is at (at + n) s (omega arith), filled) (sym (stored ∙ append-assoc (take at s) (entriesOf words n) (drop (at + n) s)))
 
 pub written : (a : Axes) (c : Corners) (l v : List Float) (mw ow : List ℕ) (n : ℕ) (b b₁ b₂ b₃ b₄ b₅ b₆ b₇ : List ℕ)
     → Lent a n (length l) (length v) (length mw) (length ow) (length b)

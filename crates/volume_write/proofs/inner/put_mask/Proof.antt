@@ -1,5 +1,6 @@
--- TODO
+-- The part of n bytes is lent, and filled with the entries.
 use borrow.Author.Needs.{needs}
+use Rattle.volume_write.proofs.Whole.{part-set}
 use Rattle.volume_write.proofs.inner.put_mask.Statement.{statement}
 use Rattle.volume_write.proofs.inner.put_mask.Tie as tie
 
@@ -22,7 +23,10 @@ same-length : tie.Need-same-length
 same-length c = search needs
 
 returns : tie.Need-returns
-returns c = ?
+returns c =
+    let args = c .before .before .before .before .before .before .args in
+    let pre = c .before .before .before .before .before .before .pre in
+    part-set (args .at) (args .n) (args .bytes .now) _ (args .words .now) (pre .1) (c .before .before .unpack .ensures)
 
 pub put-mask-spec : {M : Type 1} → statement M
 put-mask-spec =
