@@ -68,10 +68,14 @@ read-12 s l v m o f r p q e =
     let h : faulty s ≡ true = sym p ∙ q in
     record { answer = e ∙ rw h refl; light = rw h refl; volume = rw h refl; active = rw h refl; occupied = rw h refl }
 
--- the lengths, by the file's own count
+-- the file's own count
+pub read-count : (s : List ℕ) (a : Axes) (n : ℕ) → a ≡ axesAt s → n ≡ voxels a → n ≡ voxelsAt s
+read-count s a n x y = rw x at y
+
+-- the lengths by it
 counted : (s : List ℕ) (a : Axes) (n : ℕ) (l v : List Float) (m o : List ℕ) (g w : Bool) → a ≡ axesAt s → n ≡ voxels a
     → g ≡ wrongVolumeLists n (length l) (length v) (length m) (length o) → g ≡ w → wrongVolumeLists (voxelsAt s) (length l) (length v) (length m) (length o) ≡ w
-counted s a n l v m o g w x y p q = let z : n ≡ voxelsAt s = rw x at y in rw z at (sym p ∙ q)
+counted s a n l v m o g w x y p q = rw (read-count s a n x y) at (sym p ∙ q)
 
 pub read-3 : (s : List ℕ) (a : Axes) (n : ℕ) (l v : List Float) (m o : List ℕ) (f g : Bool) (r : Head) → f ≡ faulty s → f ≡ false → a ≡ axesAt s → n ≡ voxels a
     → g ≡ wrongVolumeLists n (length l) (length v) (length m) (length o) → g ≡ true → r ≡ noHead 3 → VolumeRead s l v m o r l v m o
@@ -174,7 +178,7 @@ lent a n l v m o b h e k w =
 
 module _ (s : List ℕ) (k : Accepted s) (a : Axes) (n : ℕ) (x : a ≡ axesAt s) (y : n ≡ voxels a) where
   count : n ≡ voxelsAt s
-  count = rw x at y
+  count = read-count s a n x y
 
   pub room-light : (off : ℕ) → off ≡ offsetAt s 0 → off + n * 4 ≤ length s
   room-light off e = let d = accepted-laid s k in omega (arith, e, count, d .light, d .within)

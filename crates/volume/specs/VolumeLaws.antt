@@ -83,7 +83,8 @@ coefficients-numbers v e = within-numbers coefficientLimit coefficient-finite v 
 -- ---- room for the lists that are read
 
 -- lists of these lengths are read from within the file
-pub record Room (s : List ℕ) (l v m o : ℕ) : Type 0 where
+pub record Room (s : List ℕ) (n l v m o : ℕ) : Type 0 where
+  pub count : n ≡ voxelsAt s
   pub contents : 72 ≤ length s
   pub lights : l ≡ voxelsAt s
   pub light : offsetAt s 0 + l * 4 ≤ length s
@@ -94,11 +95,11 @@ pub record Room (s : List ℕ) (l v m o : ℕ) : Type 0 where
   pub occupieds : o ≡ wordCount (voxelsAt s)
   pub occupied : offsetAt s 3 + voxelsAt s ≤ length s
 
-pub accepted-room : (s : List ℕ) → Accepted s → (l v m o : ℕ) → l ≡ voxelsAt s → v ≡ voxelsAt s * 16 → m ≡ wordCount (voxelsAt s) → o ≡ wordCount (voxelsAt s) → Room s l v m o
-accepted-room s a l v m o p q r t =
-    let n : ℕ = voxelsAt s in
-    let d : Laid s n = accepted-laid s a in
+pub accepted-room : (s : List ℕ) → Accepted s → (n l v m o : ℕ) → n ≡ voxelsAt s → l ≡ voxelsAt s → v ≡ voxelsAt s * 16 → m ≡ wordCount (voxelsAt s) → o ≡ wordCount (voxelsAt s) → Room s n l v m o
+accepted-room s a n l v m o c p q r t =
+    let d : Laid s (voxelsAt s) = accepted-laid s a in
     record {
+      count = c;
       contents = omega (arith, a .headed .contents, a .headed .least);
       lights = p;
       light = omega (arith, d .light, d .within);

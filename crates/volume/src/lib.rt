@@ -88,7 +88,7 @@ pub fn read_volume(
     if wrong_lists(n, light.len(), volume.len(), active.len(), occupied.len()) {
         return no_head(3);
     }
-    read_bodies(bytes, light, volume, active, occupied);
+    read_bodies(bytes, n, light, volume, active, occupied);
     head_of(bytes)
 }
 
@@ -154,18 +154,19 @@ fn head_of(bytes: &[u8]) -> Head
 
 fn read_bodies(
     bytes: &[u8],
+    n: usize,
     light: &mut [f32],
     volume: &mut [f32],
     active: &mut [u64],
     occupied: &mut [u64],
 )
-    requires { ⌜ Room (now bytes) (length (now light)) (length (now volume)) (length (now active)) (length (now occupied)) ⌝ }
+    requires { ⌜ Room (now bytes) n (length (now light)) (length (now volume)) (length (now active)) (length (now occupied)) ⌝ }
     ensures { λ _. ⌜ BodiesRead (now (bytes .entry)) (now (light .exit)) (now (volume .exit)) (now (active .exit)) (now (occupied .exit)) ⌝ }
 {
     bytes_le::inner::floats_into(bytes, volume_file::inner::offset_at(bytes, 0), light);
     bytes_le::inner::floats_into(bytes, volume_file::inner::offset_at(bytes, 1), volume);
-    mask_into(bytes, volume_file::inner::offset_at(bytes, 2), light.len(), active);
-    mask_into(bytes, volume_file::inner::offset_at(bytes, 3), light.len(), occupied);
+    mask_into(bytes, volume_file::inner::offset_at(bytes, 2), n, active);
+    mask_into(bytes, volume_file::inner::offset_at(bytes, 3), n, occupied);
 }
 
 // Fills `words` with the mask that has the n bytes from `at` on for its entries.

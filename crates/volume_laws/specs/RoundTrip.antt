@@ -1,5 +1,5 @@
 -- The two laws of the public calls. Written and then read: every bit returns. Read and then written, for a file of kinds 1 to 5: every
--- byte returns.
+-- byte returns. Masks are lent as words and stand in the file as entries; what the reader leaves of them is tidy, so every call that takes a mask takes it.
 use mathlib.Core.Path.{_≡_, refl, sym, ap, _∙_}
 use mathlib.Core.Bool.{Bool, true, false, cond, not, _||_}
 use mathlib.Core.List.{List, [], _∷_}
@@ -33,39 +33,53 @@ use Rattle.volume_laws.specs.Kept.{kept-back, file-ended}
 
 -- ---- what row 3 and row 13 say
 
-lists-right : (n l v m o : ℕ) → l ≡ n → v ≡ n * 16 → m ≡ n → o ≡ n → wrongVolumeLists n l v m o ≡ false
+lists-right : (n l v m o : ℕ) → l ≡ n → v ≡ n * 16 → m ≡ wordCount n → o ≡ wordCount n → wrongVolumeLists n l v m o ≡ false
 unfolding wrongVolumeLists
-lists-right n l v m o p q r t = rw (eq-eqb l n p, eq-eqb v (n * 16) q, eq-eqb m n r, eq-eqb o n t) refl
+lists-right n l v m o p q r t = rw (eq-eqb l n p, eq-eqb v (n * 16) q, eq-eqb m (wordCount n) r, eq-eqb o (wordCount n) t) refl
 
-lists-good : (l v : List Float) (m o : List ℕ) → badLists l v m o ≡ false → (badLights l ≡ false) × (badCoefficients v ≡ false) × (badMask m ≡ false) × (badMask o ≡ false)
+lists-good : (n : ℕ) (l v : List Float) (m o : List ℕ) → badLists n l v m o ≡ false → (badLights l ≡ false) × (badCoefficients v ≡ false) × (unusedSet m n ≡ false) × (unusedSet o n ≡ false)
 unfolding badLists
-lists-good l v m o e =
-    let p = either _ (badMask o) .0 e in
-    let q = any-of-three (badLights l) (badCoefficients v) (badMask m) .0 (p .0) in
+lists-good n l v m o e =
+    let p = either _ (unusedSet o n) .0 e in
+    let q = any-of-three (badLights l) (badCoefficients v) (unusedSet m n) .0 (p .0) in
     (q .0, q .1, q .2, p .1)
 
--- what the writer's answer 0 says of what it was given
-written-givens : (a : Axes) (c : Corners) (l v : List Float) (m o b : List ℕ) → AllFit l → AllFit v → AllFit (cornersList c) → 0 ≡ writeRefusal a c l v m o b → Givens a c l v m o
+-- the entries of words are 0 or 1
+entries-good : (words : List ℕ) (n : ℕ) → badMask (entriesOf words n) ≡ false
+entries-good words n = mask-row (entriesOf words n) .1 (λ i h. omega (arith, entries-are words n i))
+
+-- what the writer's answer 0 says of what it was given: the masks are tidy, and with their entries the rest is what a file may hold
+record Written₀ (a : Axes) (c : Corners) (l v : List Float) (m o : List ℕ) : Type 0 where
+  givens : Givens a c l v (entriesOf m (voxels a)) (entriesOf o (voxels a))
+  active : Tidy m (voxels a)
+  occupied : Tidy o (voxels a)
+
+written-givens : (a : Axes) (c : Corners) (l v : List Float) (m o b : List ℕ) → AllFit l → AllFit v → AllFit (cornersList c) → 0 ≡ writeRefusal a c l v m o b → Written₀ a c l v m o
 unfolding writeRefusal
 written-givens a c l v m o b x y z e =
+    let n : ℕ = voxels a in
     let p = passed (writeRows a c l v m o b) (omega arith, (omega arith, (omega arith, (omega arith, tt)))) (sym e) in
     let w = either _ (wrongBytes (voxels a) (length b)) .0 (p .1 .1 .0) in
     let q = lists-row (voxels a) (length l) (length v) (length m) (length o) (w .0) in
-    let r = lists-good l v m o (p .1 .1 .1 .0) in
+    let r = lists-good (voxels a) l v m o (p .1 .1 .1 .0) in
     record {
-      axes = p .0;
-      grid = p .1 .0;
-      light = q .0;
-      volume = q .1;
-      active = q .2;
-      occupied = q .3;
-      lights = r .0;
-      coefficients = r .1;
-      actives = r .2;
-      occupieds = r .3;
-      light-fits = x;
-      volume-fits = y;
-      corners-fit = z;
+      givens = record {
+        axes = p .0;
+        grid = p .1 .0;
+        light = q .0;
+        volume = q .1;
+        active = entries-length m n;
+        occupied = entries-length o n;
+        lights = r .0;
+        coefficients = r .1;
+        actives = entries-good m n;
+        occupieds = entries-good o n;
+        light-fits = x;
+        volume-fits = y;
+        corners-fit = z;
+      };
+      active = record { long = q .2; clean = r .2 };
+      occupied = record { long = q .3; clean = r .3 };
     }
 
 -- ---- written, then read
