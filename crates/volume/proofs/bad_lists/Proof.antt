@@ -1,5 +1,5 @@
 -- The four tests joined.
-use mathlib.Core.Path.{_≡_}
+use mathlib.Core.Path.{_≡_, refl}
 use Rattle.volume.specs.Volume.{badLists}
 use borrow.Author.Needs.{needs}
 use Rattle.volume.proofs.bad_lists.Statement.{statement}
@@ -23,7 +23,7 @@ returns c =
     let bad-lights = c .before .before .before .bad-lights in
     let bad-coefficients = c .before .before .bad-coefficients in
     let unused-set = c .before .unused-set in
-    rw (bad-lights .ensures, bad-coefficients .ensures, unused-set .ensures, c .unused-set2 .ensures)
+    rw (bad-lights .ensures, bad-coefficients .ensures, unused-set .ensures, c .unused-set2 .ensures) refl
 
 pub bad-lists-spec : {M : Type 1} → statement M
 bad-lists-spec =
