@@ -171,7 +171,8 @@ module _ (b : BakeInput) (first : ShareBake) (rest : List JoinedShare) (h : Shar
   joined-all : NoneRefused (map (λ (j : JoinedShare). j .answer) rest) × (allJoined b first rest ≡ unblurred (bakeOf b))
   joined-all =
       let z = sized b first one in
-      let r = joins-all b (unblurredOf b first) (unblurred (overShare b first)) (unblurred-left b first one) (length-unblurred (bakeOf b) z (shareOf b first)) rest (h .baked .1) (h .joins) in
+      let r = joins-all b (unblurredOf b first) (unblurred (overShare b first)) (unblurred-left b first one) (length-unblurred (bakeOf b) z (shareOf b first)) rest
+      (h .baked .1) (h .joins) in
       (r .0, r .1 ∙ all-joined (bakeOf b) z (shareOf b first) (map (shareOf b) (map (λ (j : JoinedShare). j .share) rest)) (h .parted))
 
   -- the bake over all active voxels, as a share
@@ -179,12 +180,12 @@ module _ (b : BakeInput) (first : ShareBake) (rest : List JoinedShare) (h : Shar
   everyVoxel = record { has = bakeOf b .active; refusal = bakeOf b .refusal }
 
   -- how the unbroken bake ends, where any voxel is active and where none is
-  ends-blurred : (scratch : List Float) → someActive b first rest ≡ true
+  ends-blurred : (scratch : List Float) → someActive b ≡ true
       → unbroken (bakeOf b) scratch ≡ stage (voxelCount b) (meanOver (b .axes) (unblurred (bakeOf b))) (unblurred (bakeOf b))
   unfolding unbroken
   ends-blurred scratch t = rw t refl
 
-  ends-unblurred : (scratch : List Float) → someActive b first rest ≡ false → unbroken (bakeOf b) scratch ≡ stage (voxelCount b) (unblurred (bakeOf b)) scratch
+  ends-unblurred : (scratch : List Float) → someActive b ≡ false → unbroken (bakeOf b) scratch ≡ stage (voxelCount b) (unblurred (bakeOf b)) scratch
   unfolding unbroken
   ends-unblurred scratch t = rw t refl
 
@@ -226,5 +227,9 @@ module _ (b : BakeInput) (first : ShareBake) (rest : List JoinedShare) (h : Shar
             = d .blurred t scratch l r volume' scratch' p .1 ∙ ends-blurred scratch t ∙ sym (ends-blurred (whole .begun .scratch) t) ∙ sym end in
             (ap (λ (x : Stage Float). x .volume) same, ap (λ (x : Stage Float). x .scratch) same);
         unblurred-end = λ t. ap (λ (x : Stage Float). x .volume) (d .unblurred-end t (whole .begun .scratch) ∙ sym end);
-        rays = d .rays ∙ sym (rays-add-up (bakeOf b) (shareOf b whole ∷ []) (whole-parted whole e)) ∙ sym (reported-all b (whole ∷ []) (w, tt)) ∙ alone (sum (reportedBy (callsOf whole)));
+        rays =
+            d .rays
+            ∙ sym (rays-add-up (bakeOf b) (shareOf b whole ∷ []) (whole-parted whole e))
+            ∙ sym (reported-all b (whole ∷ []) (w, tt))
+            ∙ alone (sum (reportedBy (callsOf whole)));
       }
