@@ -61,8 +61,8 @@ module _ (b : BakeInput) where
   abbrev pub shareHas : ShareBake → ℕ → Bool
   shareHas s = isMarked (entriesOf (s .mask) (voxelCount b))
 
-  abbrev pub shareOf : ShareBake → Share Float
-  shareOf s = record { has = shareHas s; refusal = bakeRefusal (lending (sharing b (s .mask)) (s .distances) (s .places)) }
+  abbrev pub asShare : ShareBake → Share Float
+  asShare s = record { has = shareHas s; refusal = bakeRefusal (lending (sharing b (s .mask)) (s .distances) (s .places)) }
 
   -- its unblurred volume: scratch has it, and where the share has no voxel the volume, which no mean was taken of
   abbrev pub unblurredOf : ShareBake → List Float
@@ -96,7 +96,7 @@ module _ (b : BakeInput) (first : ShareBake) (rest : List JoinedShare) where
   -- shares of the active voxels of b, baked, and joined onto the first one's unblurred volume
   pub record Shared : Type 0 where
     -- each active voxel stands in exactly one of them, and none has another
-    pub parted : Parted (bakeOf b) (map (shareOf b) (sharesOf first rest))
+    pub parted : Parted (bakeOf b) (map (asShare b) (sharesOf first rest))
     pub baked : EachBaked b (sharesOf first rest)
     pub joins : JoinedOnto b (unblurredOf b first) rest
 
