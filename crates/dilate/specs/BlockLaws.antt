@@ -7,7 +7,6 @@ use mathlib.Core.List.{List}
 use Prim.Native.Nat.{ℕ, zero, suc, _+_, _-_, _*_, _/_, _%_, _^_, _≤_, _<_, max}
 use native.Mathlib.Omega.{arith}
 use native.Mathlib.Nat.{zero-mul, suc-mul, mul-le-mul-right, max-zero, add-mul, mul-assoc, le-refl}
-use lib.Bits.{bitOr}
 use lib.Dec.{eqb}
 use lib.ListN.{length, getD}
 use lib.Seq.{ext-getD}
@@ -24,7 +23,7 @@ use Rattle.dilate.specs.Active.{activeOf}
 use Rattle.dilate.specs.ActiveLaws.{near-out, near-in}
 use Rattle.dilate.specs.ByAxes.{lineHas, dilateMiddle, middleX, middleZ, dilateByAxes}
 use Rattle.dilate.specs.ByAxesLaws.{middle-length, middle-entry, voxels-x, voxels-z, dilated-mask}
-use Rattle.dilate.specs.ByBlocks.{Run, Ored, Merged, FromAbove, FromBelow, Near, Spread, BlockDilated, BlocksDilated}
+use Rattle.dilate.specs.ByBlocks.{aboveWord, belowWord, Run, Ored, Merged, FromAbove, FromBelow, Near, Spread, BlockDilated, BlocksDilated}
 use Rattle.dilate.specs.RunLaws.{max-one-left, max-one-right, one-of-max, or-bit, low-bit, no-high-bit, up-bit, up-none}
 
 -- ---- what a mark reaches
@@ -130,21 +129,21 @@ spread-same s m a b f g f′ g′ p q old =
 -- ---- a block of one word's bits
 
 module _ (s m v : ℕ) (z : (j : ℕ) → m ≤ j → bitOf v j ≡ 0) where
-  shifted-down : (j : ℕ) → bitOf (bitOr v (v / 2 ^ s)) j ≡ max (bitOf v j) (bitOf v (j + s))
+  shifted-down : (j : ℕ) → bitOf (aboveWord s v) j ≡ max (bitOf v j) (bitOf v (j + s))
   shifted-down j = let e : s + j ≡ j + s = omega arith in or-bit v (v / 2 ^ s) j ∙ ap (max (bitOf v j)) (bit-shifted v s j ∙ ap (bitOf v) e)
 
-  pub word-above : FromAbove s m (bitOf v) (bitOf (bitOr v (v / 2 ^ s)))
+  pub word-above : FromAbove s m (bitOf v) (bitOf (aboveWord s v))
   word-above =
       record {
         taken = λ j h. shifted-down j;
         last = λ j h k. shifted-down j ∙ ap (max (bitOf v j)) (z (j + s) k) ∙ max-zero (bitOf v j);
       }
 
-  pub word-above-beyond : (j : ℕ) → m ≤ j → bitOf (bitOr v (v / 2 ^ s)) j ≡ 0
+  pub word-above-beyond : (j : ℕ) → m ≤ j → bitOf (aboveWord s v) j ≡ 0
   word-above-beyond j h = shifted-down j ∙ ap₂ max (z j h) (z (j + s) (omega arith))
 
 -- with any bits from m on
-pub word-below : (s m v : ℕ) → m ≤ 64 → FromBelow s m (bitOf v) (bitOf (bitOr v (v * 2 ^ s % 2 ^ 64)))
+pub word-below : (s m v : ℕ) → m ≤ 64 → FromBelow s m (bitOf v) (bitOf (belowWord s v))
 word-below s m v l =
     record {
       taken = λ j h.
@@ -153,12 +152,6 @@ word-below s m v l =
           ∙ ap (max (bitOf v (j + s))) (ap (bitOf (v * 2 ^ s % 2 ^ 64)) e ∙ up-bit v s j (omega arith));
       first = λ j h k. or-bit v (v * 2 ^ s % 2 ^ 64) j ∙ ap (max (bitOf v j)) (up-none v s j k) ∙ max-zero (bitOf v j);
     }
-
-abbrev pub aboveWord : ℕ → ℕ → ℕ
-aboveWord s v = bitOr v (v / 2 ^ s)
-
-abbrev pub belowWord : ℕ → ℕ → ℕ
-belowWord s v = bitOr v (v * 2 ^ s % 2 ^ 64)
 
 module _ (s m v : ℕ) (l : m ≤ 64) (z : (j : ℕ) → m ≤ j → bitOf v j ≡ 0) {r : ℕ} (e : r ≡ belowWord s (belowWord s (aboveWord s (aboveWord s v))) % 2 ^ m) where
   abbrev v1 : ℕ

@@ -3,9 +3,26 @@
 -- A block is dilated so four times: twice from above, which marks what lies up to 2 below a mark, and twice from below. Assumes nothing.
 use mathlib.Core.Path.{_≡_}
 use mathlib.Core.List.{List}
-use Prim.Native.Nat.{ℕ, _+_, _*_, _≤_, _<_, max}
+use Prim.Native.Nat.{ℕ, _+_, _*_, _/_, _%_, _^_, _≤_, _<_, max}
+use lib.Bits.{bitOr}
+use lib.ListN.{getD, set}
 use Rattle.names.specs.Numbers.{reach}
 use Rattle.words.specs.Words.{bitOf, bitAt}
+
+-- ---- words
+
+-- word k with the bits of v set
+abbrev pub orWord : List ℕ → ℕ → ℕ → List ℕ
+orWord words k v = set words k (bitOr (getD words k 0) v)
+
+-- a word's bits taken together with those s places above, and with those s places below
+abbrev pub aboveWord : ℕ → ℕ → ℕ
+aboveWord s v = bitOr v (v / 2 ^ s)
+
+abbrev pub belowWord : ℕ → ℕ → ℕ
+belowWord s v = bitOr v (v * 2 ^ s % 2 ^ 64)
+
+-- ---- runs of bits
 
 -- v has the bits of words from o on, len of them
 pub record Run (words : List ℕ) (o len v : ℕ) : Type 0 where
