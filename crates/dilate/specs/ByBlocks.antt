@@ -61,11 +61,15 @@ pub record Spread (s m a b : ℕ) (f g : ℕ → ℕ) : Type 0 where
   pub marked-near : (r c : ℕ) → r < s → c * s + r < m → g (c * s + r) ≡ 1 → Near f s m a b r c
   pub near-marked : (r c : ℕ) → r < s → c * s + r < m → Near f s m a b r c → g (c * s + r) ≡ 1
 
--- the block from o on is dilated, and no other bit changes
-pub record BlockDilated (before after : List ℕ) (o s m : ℕ) : Type 0 where
-  pub spread : Spread s m reach reach (λ j. bitAt before (o + j)) (λ j. bitAt after (o + j))
+-- so far in the block from o on, and no other bit changes
+pub record BlockSpread (before after : List ℕ) (o s m a b : ℕ) : Type 0 where
+  pub spread : Spread s m a b (λ j. bitAt before (o + j)) (λ j. bitAt after (o + j))
   pub below : (x : ℕ) → x < o → bitAt after x ≡ bitAt before x
   pub above : (x : ℕ) → o + m ≤ x → bitAt after x ≡ bitAt before x
+
+-- the block is dilated
+abbrev pub BlockDilated : List ℕ → List ℕ → ℕ → ℕ → ℕ → Type 0
+BlockDilated before after o s m = BlockSpread before after o s m reach reach
 
 -- the first k blocks are dilated, and no other bit changes
 pub record BlocksDilated (before after : List ℕ) (s m k : ℕ) : Type 0 where
