@@ -17,7 +17,7 @@ use Rattle.grid.specs.declared.Axes.{Axes}
 use Rattle.grid.specs.Grid.{voxels, indexOf, xOf, yOf, zOf}
 use Rattle.grid.specs.GridLaws.{index-within, index-of-coordinates, x-within, y-within, z-within}
 use Rattle.words.specs.Words.{bitOf, bitAt, entriesOf, Tidy, Holds}
-use Rattle.words.specs.BitLaws.{alike, below-or-from, bit-lt, bit-shifted}
+use Rattle.words.specs.BitLaws.{alike, below-or-from, bit-shifted}
 use Rattle.words.specs.WordsLaws.{bit-says, bit-at-lt, entries-length, entries-at, clean-bits, bits-clean}
 use Rattle.dilate.specs.Active.{activeOf}
 use Rattle.dilate.specs.ActiveLaws.{near-out, near-in}
