@@ -1,5 +1,5 @@
--- A block, dilated: each of four steps widens by one place what a mark reaches; the code's two ways are those four steps; and blocks dilated one after the
--- other are the grid dilated along its middle axis.
+-- A block, dilated: each step widens by one place what a mark reaches, in one word and in many; and blocks dilated one after the other are the grid dilated
+-- along its middle axis.
 use mathlib.Core.Path.{_≡_, refl, sym, ap, ap₂, _∙_, subst}
 use mathlib.Core.Logic.{_⊎_, inl, inr}
 use mathlib.Core.Bool.{Bool, true, cond}
@@ -7,7 +7,6 @@ use mathlib.Core.List.{List}
 use Prim.Native.Nat.{ℕ, zero, suc, _+_, _-_, _*_, _/_, _%_, _^_, _≤_, _<_, max}
 use native.Mathlib.Omega.{arith}
 use native.Mathlib.Nat.{zero-mul, suc-mul, mul-le-mul-right, max-zero, add-mul, mul-assoc, le-refl}
-use lib.Bits.{bitOr}
 use lib.Dec.{eqb}
 use lib.ListN.{length, getD}
 use lib.Seq.{ext-getD}
@@ -18,13 +17,13 @@ use Rattle.grid.specs.declared.Axes.{Axes}
 use Rattle.grid.specs.Grid.{voxels, indexOf, xOf, yOf, zOf}
 use Rattle.grid.specs.GridLaws.{index-within, index-of-coordinates, x-within, y-within, z-within}
 use Rattle.words.specs.Words.{bitOf, bitAt, entriesOf, Tidy, Holds}
-use Rattle.words.specs.BitLaws.{alike, below-or-from, bit-lt, bit-shifted}
+use Rattle.words.specs.BitLaws.{alike, below-or-from, bit-shifted}
 use Rattle.words.specs.WordsLaws.{bit-says, bit-at-lt, entries-length, entries-at, clean-bits, bits-clean}
 use Rattle.dilate.specs.Active.{activeOf}
 use Rattle.dilate.specs.ActiveLaws.{near-out, near-in}
 use Rattle.dilate.specs.ByAxes.{lineHas, dilateMiddle, middleX, middleZ, dilateByAxes}
 use Rattle.dilate.specs.ByAxesLaws.{middle-length, middle-entry, voxels-x, voxels-z, dilated-mask}
-use Rattle.dilate.specs.ByBlocks.{Run, Ored, Merged, FromAbove, FromBelow, Near, Spread, BlockDilated, BlocksDilated}
+use Rattle.dilate.specs.ByBlocks.{aboveWord, belowWord, Run, Ored, Merged, FromAbove, FromBelow, Near, Spread, BlockSpread, BlockDilated, BlocksDilated}
 use Rattle.dilate.specs.RunLaws.{max-one-left, max-one-right, one-of-max, or-bit, low-bit, no-high-bit, up-bit, up-none}
 
 -- ---- what a mark reaches
@@ -110,15 +109,6 @@ module _ (s m : ℕ) (f : ℕ → ℕ) where
             let q : g (c * s + r) ≡ 1 = old .near-marked r c hr (omega (arith, up r c)) (n .0, n .1, omega arith, omega (arith, n .3), n .4) in
             ap h (up r c) ∙ step .taken (c * s + r) (omega (arith, up r c)) ∙ max-one-right (g (c * s + r + s)) (g (c * s + r)) (bits (c * s + r + s)) q
 
--- the four steps
-module _ (s m : ℕ) (f f1 f2 f3 f4 : ℕ → ℕ) (b0 : (j : ℕ) → f j < 2) (b1 : (j : ℕ) → f1 j < 2) (b2 : (j : ℕ) → f2 j < 2) (b3 : (j : ℕ) → f3 j < 2) where
-  pub spread-four : FromAbove s m f f1 → FromAbove s m f1 f2 → FromBelow s m f2 f3 → FromBelow s m f3 f4 → Spread s m 2 2 f f4
-  spread-four p q r t =
-      let d1 : Spread s m 1 0 f f1 = spread-above s m f 0 0 f f1 b0 (spread-none s m f) p in
-      let d2 : Spread s m 2 0 f f2 = spread-above s m f 1 0 f1 f2 b1 d1 q in
-      let d3 : Spread s m 2 1 f f3 = spread-below s m f 2 0 f2 f3 b2 d2 r in
-      spread-below s m f 2 1 f3 f4 b3 d3 t
-
 -- of the same bits
 pub spread-same : (s m a b : ℕ) (f g f′ g′ : ℕ → ℕ) → ((j : ℕ) → j < m → f j ≡ f′ j) → ((j : ℕ) → j < m → g j ≡ g′ j) → Spread s m a b f g → Spread s m a b f′ g′
 spread-same s m a b f g f′ g′ p q old =
@@ -130,21 +120,21 @@ spread-same s m a b f g f′ g′ p q old =
 -- ---- a block of one word's bits
 
 module _ (s m v : ℕ) (z : (j : ℕ) → m ≤ j → bitOf v j ≡ 0) where
-  shifted-down : (j : ℕ) → bitOf (bitOr v (v / 2 ^ s)) j ≡ max (bitOf v j) (bitOf v (j + s))
+  shifted-down : (j : ℕ) → bitOf (aboveWord s v) j ≡ max (bitOf v j) (bitOf v (j + s))
   shifted-down j = let e : s + j ≡ j + s = omega arith in or-bit v (v / 2 ^ s) j ∙ ap (max (bitOf v j)) (bit-shifted v s j ∙ ap (bitOf v) e)
 
-  pub word-above : FromAbove s m (bitOf v) (bitOf (bitOr v (v / 2 ^ s)))
+  pub word-above : FromAbove s m (bitOf v) (bitOf (aboveWord s v))
   word-above =
       record {
         taken = λ j h. shifted-down j;
         last = λ j h k. shifted-down j ∙ ap (max (bitOf v j)) (z (j + s) k) ∙ max-zero (bitOf v j);
       }
 
-  pub word-above-beyond : (j : ℕ) → m ≤ j → bitOf (bitOr v (v / 2 ^ s)) j ≡ 0
+  pub word-above-beyond : (j : ℕ) → m ≤ j → bitOf (aboveWord s v) j ≡ 0
   word-above-beyond j h = shifted-down j ∙ ap₂ max (z j h) (z (j + s) (omega arith))
 
 -- with any bits from m on
-pub word-below : (s m v : ℕ) → m ≤ 64 → FromBelow s m (bitOf v) (bitOf (bitOr v (v * 2 ^ s % 2 ^ 64)))
+pub word-below : (s m v : ℕ) → m ≤ 64 → FromBelow s m (bitOf v) (bitOf (belowWord s v))
 word-below s m v l =
     record {
       taken = λ j h.
@@ -154,33 +144,13 @@ word-below s m v l =
       first = λ j h k. or-bit v (v * 2 ^ s % 2 ^ 64) j ∙ ap (max (bitOf v j)) (up-none v s j k) ∙ max-zero (bitOf v j);
     }
 
-abbrev pub aboveWord : ℕ → ℕ → ℕ
-aboveWord s v = bitOr v (v / 2 ^ s)
+-- and cut to the block
+pub word-cut : (s m a b v w : ℕ) {r : ℕ} → Spread s m a b (bitOf v) (bitOf w) → r ≡ w % 2 ^ m → Spread s m a b (bitOf v) (bitOf r)
+word-cut s m a b v w {r} old e =
+    spread-same s m a b (bitOf v) (bitOf w) (bitOf v) (bitOf r) (λ j h. refl) (λ j h. sym (ap (λ (x : ℕ). bitOf x j) e ∙ low-bit w m j h)) old
 
-abbrev pub belowWord : ℕ → ℕ → ℕ
-belowWord s v = bitOr v (v * 2 ^ s % 2 ^ 64)
-
-module _ (s m v : ℕ) (l : m ≤ 64) (z : (j : ℕ) → m ≤ j → bitOf v j ≡ 0) {r : ℕ} (e : r ≡ belowWord s (belowWord s (aboveWord s (aboveWord s v))) % 2 ^ m) where
-  abbrev v1 : ℕ
-  v1 = aboveWord s v
-
-  abbrev v2 : ℕ
-  v2 = aboveWord s v1
-
-  abbrev v3 : ℕ
-  v3 = belowWord s v2
-
-  abbrev v4 : ℕ
-  v4 = belowWord s v3
-
-  pub word-spread : Spread s m 2 2 (bitOf v) (bitOf r)
-  word-spread =
-      spread-same s m 2 2 (bitOf v) (bitOf v4) (bitOf v) (bitOf r) (λ j h. refl) (λ j h. sym (ap (λ (x : ℕ). bitOf x j) e ∙ low-bit v4 m j h))
-      (spread-four s m (bitOf v) (bitOf v1) (bitOf v2) (bitOf v3) (bitOf v4) (bit-lt v) (bit-lt v1) (bit-lt v2) (bit-lt v3)
-      (word-above s m v z) (word-above s m v1 (word-above-beyond s m v z)) (word-below s m v2 l) (word-below s m v3 l))
-
-  pub word-beyond : (j : ℕ) → m ≤ j → bitOf r j ≡ 0
-  word-beyond j h = ap (λ (x : ℕ). bitOf x j) e ∙ no-high-bit v4 m j h
+pub word-beyond : (m w : ℕ) {r : ℕ} → r ≡ w % 2 ^ m → (j : ℕ) → m ≤ j → bitOf r j ≡ 0
+word-beyond m w e j h = ap (λ (x : ℕ). bitOf x j) e ∙ no-high-bit w m j h
 
 -- in the words
 pub block-by-word : (before after : List ℕ) (o s m bits marks : ℕ) → Run before o m bits → Spread s m 2 2 (bitOf bits) (bitOf marks) → ((j : ℕ) → m ≤ j → bitOf marks j ≡ 0)
@@ -224,17 +194,29 @@ module _ (before after : List ℕ) (o s n : ℕ) where
         first = λ j h k. m .below (o + j) (omega arith);
       }
 
-pub block-by-merges : (w w1 w2 w3 w4 : List ℕ) (o s n : ℕ)
-    → Merged w w1 o (o + s) 0 n → Merged w1 w2 o (o + s) 0 n → Merged w2 w3 (o + s) o 0 n → Merged w3 w4 (o + s) o 0 n → BlockDilated w w4 o s (s + n)
-block-by-merges w w1 w2 w3 w4 o s n p q r t =
-    record {
-      spread =
-          spread-four s (s + n) (λ j. bitAt w (o + j)) (λ j. bitAt w1 (o + j)) (λ j. bitAt w2 (o + j)) (λ j. bitAt w3 (o + j)) (λ j. bitAt w4 (o + j))
-          (λ j. bit-at-lt w (o + j)) (λ j. bit-at-lt w1 (o + j)) (λ j. bit-at-lt w2 (o + j)) (λ j. bit-at-lt w3 (o + j))
-          (merged-above w w1 o s n p) (merged-above w1 w2 o s n q) (merged-below w2 w3 o s n r) (merged-below w3 w4 o s n t);
-      below = λ x h. t .below x (omega arith) ∙ r .below x (omega arith) ∙ q .below x (omega arith) ∙ p .below x (omega arith);
-      above = λ x h. t .above x (omega arith) ∙ r .above x (omega arith) ∙ q .above x (omega arith) ∙ p .above x (omega arith);
-    }
+pub block-none : (words : List ℕ) (o s m : ℕ) → BlockSpread words words o s m 0 0
+block-none words o s m = record { spread = spread-none s m (λ j. bitAt words (o + j)); below = λ x h. refl; above = λ x h. refl }
+
+module _ (before now after : List ℕ) (o s n a b : ℕ) (old : BlockSpread before now o s (s + n) a b) where
+  pub block-above : Merged now after o (o + s) 0 n → BlockSpread before after o s (s + n) (a + 1) b
+  block-above m =
+      record {
+        spread =
+            spread-above s (s + n) (λ j. bitAt before (o + j)) a b (λ j. bitAt now (o + j)) (λ j. bitAt after (o + j)) (λ j. bit-at-lt now (o + j)) (old .spread)
+            (merged-above now after o s n m);
+        below = λ x h. m .below x (omega arith) ∙ old .below x h;
+        above = λ x h. m .above x (omega arith) ∙ old .above x h;
+      }
+
+  pub block-below : Merged now after (o + s) o 0 n → BlockSpread before after o s (s + n) a (b + 1)
+  block-below m =
+      record {
+        spread =
+            spread-below s (s + n) (λ j. bitAt before (o + j)) a b (λ j. bitAt now (o + j)) (λ j. bitAt after (o + j)) (λ j. bit-at-lt now (o + j)) (old .spread)
+            (merged-below now after o s n m);
+        below = λ x h. m .below x (omega arith) ∙ old .below x h;
+        above = λ x h. m .above x (omega arith) ∙ old .above x h;
+      }
 
 -- ---- one block after the other
 
