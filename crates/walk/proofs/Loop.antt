@@ -41,6 +41,17 @@ reports e h =
       hits = h;
     }
 
+pub begins : {b : BakeInput} {v₀ d₀ : List Float} {p₀ : List ℕ} {progress allowance : ℕ} → SoFar b v₀ d₀ p₀ progress allowance v₀ d₀ p₀ progress 0
+begins =
+    record {
+      within = omega arith;
+      volume = refl;
+      distances = refl;
+      places = refl;
+      hits = record { distances = λ z. refl; places = λ z. refl };
+      goes = rw (sub-zero, zero-add) refl;
+    }
+
 -- x says whether voxel i is active, and t is the next active voxel from i on, as the code finds them: the latter of as many voxels as there are lights
 abbrev pub Says : BakeInput → ℕ → Bool → Type 0
 Says b i x = (n : ℕ) → i < n → x ≡ isMarked (entriesOf (b .active) n) i
@@ -66,17 +77,6 @@ module _ {b : BakeInput} {m progress : ℕ} (f : Walkable b m progress) where
       omega (arith, of-voxels (i + 1) e, next-from (bakeOf b .active) (voxelCount b) (voxelCount b - (i + 1)) (i + 1) (omega arith))
 
 module _ {b : BakeInput} {v₀ d₀ : List Float} {p₀ : List ℕ} {progress allowance : ℕ} (f : Walkable b (length v₀) progress) where
-  pub begins : SoFar b v₀ d₀ p₀ progress allowance v₀ d₀ p₀ progress 0
-  begins =
-      record {
-        within = omega arith;
-        volume = refl;
-        distances = refl;
-        places = refl;
-        hits = record { distances = λ z. refl; places = λ z. refl };
-        goes = rw (sub-zero, zero-add) refl;
-      }
-
   module _ {v d : List Float} {p : List ℕ} {i r : ℕ} (s : SoFar b v₀ d₀ p₀ progress allowance v d p i r) where
     pub ends : length (b .lights) ≤ i
         → Reports (walk (bakeOf b) (voxelCount b - progress) progress allowance v₀) (record { progress = i; rays = r }) v d₀ d p₀ p

@@ -8,6 +8,7 @@ use Rattle.words.specs.ByWords.{nextFrom}
 use Rattle.spread.specs.Spread.{Bake, Walked, more, walk}
 use Rattle.spread.specs.Walks.{so-far-skip}
 
+-- the next one lies from i on
 pub next-from : (f : ℕ → Bool) (n k i : ℕ) → i + k ≡ n → i ≤ nextFrom f n k i
 unfolding nextFrom
 next-from f n zero i h = omega arith

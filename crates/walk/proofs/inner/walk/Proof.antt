@@ -22,7 +22,7 @@ voxel-cost-requires : tie.Need-voxel-cost-requires Inv-loop μ-loop
 voxel-cost-requires c κs = c .before .before .before .before .before .before .before .before .before .before .before .pre .0 .lamps
 
 loop-holds : tie.Need-loop-holds Inv-loop μ-loop
-loop-holds c = begins (c .before .before .before .before .before .before .before .before .before .before .before .before .pre .0)
+loop-holds c = begins
 
 add-i : tie.Need-add-i Inv-loop μ-loop
 add-i c = omega (arith, c .loop-test .taken, searchable (c .before .before .before .before .before .before .before .before .before .before .before .before .before .before .pre .0) .1)
