@@ -44,5 +44,5 @@ encode [] = []
 encode (x ∷ xs) = bytes4 (toBits binary32 x) ++ encode xs
 
 -- no NaN among them
-abbrev pub Numbers : List Float → Type 0
-Numbers xs = (i : ℕ) → i < length xs → isNan (getD xs i nan) ≡ false
+abbrev pub NoneNan : List Float → Type 0
+NoneNan xs = (i : ℕ) → i < length xs → isNan (getD xs i nan) ≡ false

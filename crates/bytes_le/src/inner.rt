@@ -6,7 +6,7 @@ ghost use lib.ListN.{length, getD};
 ghost use lib.Seq.{sets};
 ghost use lib.Ieee.{binary32, toBits, isNan};
 ghost use Rattle.names.specs.Bits.{lit};
-ghost use Rattle.bytes_le.specs.Bytes.{u16At, u32At, f32At, floatsAt, bytes2, bytes4, encode, Numbers};
+ghost use Rattle.bytes_le.specs.Bytes.{u16At, u32At, f32At, floatsAt, bytes2, bytes4, encode, NoneNan};
 
 // With the sign taken off, the patterns above an infinity's are the NaNs'.
 const INFINITY: u32 = 0x7f80_0000;
@@ -80,7 +80,7 @@ pub fn put_f32(s: &mut [u8], at: usize, x: f32)
 
 // Writes all numbers of `xs`, none of them NaN, from `at` on.
 pub fn put_floats(s: &mut [u8], at: usize, xs: &[f32])
-    requires { ⌜ (at + length (now xs) * 4 ≤ length (now s)) × Numbers (now xs) ⌝ }
+    requires { ⌜ (at + length (now xs) * 4 ≤ length (now s)) × NoneNan (now xs) ⌝ }
     ensures { λ _. ⌜ now (s .exit) ≡ sets (now (s .entry)) at (encode (now (xs .entry))) ⌝ }
 {
     let mut i: usize = 0;

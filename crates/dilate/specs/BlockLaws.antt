@@ -23,22 +23,22 @@ use Rattle.dilate.specs.Active.{activeOf}
 use Rattle.dilate.specs.ActiveLaws.{near-out, near-in}
 use Rattle.dilate.specs.ByAxes.{lineHas, dilateMiddle, middleX, middleZ, dilateByAxes}
 use Rattle.dilate.specs.ByAxesLaws.{middle-length, middle-entry, voxels-x, voxels-z, dilated-mask}
-use Rattle.dilate.specs.ByBlocks.{aboveWord, belowWord, Run, Ored, Merged, FromAbove, FromBelow, Near, Spread, BlockSpread, BlockDilated, BlocksDilated}
+use Rattle.dilate.specs.ByBlocks.{aboveWord, belowWord, Run, Ored, Merged, FromAbove, FromBelow, MarkedNear, SpreadTo, BlockSpread, BlockDilated, BlocksDilated}
 use Rattle.dilate.specs.RunLaws.{max-one-left, max-one-right, one-of-max, or-bit, low-bit, no-high-bit, up-bit, up-none}
 
 -- ---- what a mark reaches
 
 module _ (s m : ℕ) (f : ℕ → ℕ) where
-  pub spread-none : Spread s m 0 0 f f
+  pub spread-none : SpreadTo s m 0 0 f f
   spread-none =
       record {
         marked-near = λ r c hr hc e. (c, hc, omega arith, omega arith, e);
         near-marked = λ r c hr hc n. let k : n .0 ≡ c = omega (arith, n .2, n .3) in sym (ap (λ (x : ℕ). f (x * s + r)) k) ∙ n .4;
       }
 
-  module _ (a b : ℕ) (g h : ℕ → ℕ) (bits : (j : ℕ) → g j < 2) (old : Spread s m a b f g) where
+  module _ (a b : ℕ) (g h : ℕ → ℕ) (bits : (j : ℕ) → g j < 2) (old : SpreadTo s m a b f g) where
     -- one place further down
-    pub spread-above : FromAbove s m g h → Spread s m (a + 1) b f h
+    pub spread-above : FromAbove s m g h → SpreadTo s m (a + 1) b f h
     spread-above step =
         record {
           marked-near = λ r c hr hc e. go r c hr hc e (below-or-from (c * s + r + s) m);
@@ -48,17 +48,17 @@ module _ (s m : ℕ) (f : ℕ → ℕ) where
         up : (r c : ℕ) → c * s + r + s ≡ suc c * s + r
         up r c = omega (arith, suc-mul c s)
 
-        wider : (r c : ℕ) → Near f s m a b r c → Near f s m (a + 1) b r c
+        wider : (r c : ℕ) → MarkedNear f s m a b r c → MarkedNear f s m (a + 1) b r c
         wider r c n = (n .0, n .1, omega (arith, n .2), n .3, n .4)
 
-        go : (r c : ℕ) → r < s → c * s + r < m → h (c * s + r) ≡ 1 → (c * s + r + s < m) ⊎ (m ≤ c * s + r + s) → Near f s m (a + 1) b r c
+        go : (r c : ℕ) → r < s → c * s + r < m → h (c * s + r) ≡ 1 → (c * s + r + s < m) ⊎ (m ≤ c * s + r + s) → MarkedNear f s m (a + 1) b r c
         go r c hr hc e (inr p) = wider r c (old .marked-near r c hr hc (sym (step .last (c * s + r) hc p) ∙ e))
         go r c hr hc e (inl p) = which (one-of-max (g (c * s + r)) (g (c * s + r + s)) (bits (c * s + r)) (sym (step .taken (c * s + r) p) ∙ e))
           where
-            which : (g (c * s + r) ≡ 1) ⊎ (g (c * s + r + s) ≡ 1) → Near f s m (a + 1) b r c
+            which : (g (c * s + r) ≡ 1) ⊎ (g (c * s + r + s) ≡ 1) → MarkedNear f s m (a + 1) b r c
             which (inl q) = wider r c (old .marked-near r c hr hc q)
             which (inr q) =
-                let n : Near f s m a b r (suc c) = old .marked-near r (suc c) hr (omega (arith, up r c)) (sym (ap g (up r c)) ∙ q) in
+                let n : MarkedNear f s m a b r (suc c) = old .marked-near r (suc c) hr (omega (arith, up r c)) (sym (ap g (up r c)) ∙ q) in
                 (n .0, n .1, omega (arith, n .2), omega (arith, n .3), n .4)
 
         -- marked here, marked after
@@ -66,7 +66,7 @@ module _ (s m : ℕ) (f : ℕ → ℕ) where
         stays r c hc q (inr p) = step .last (c * s + r) hc p ∙ q
         stays r c hc q (inl p) = step .taken (c * s + r) p ∙ max-one-left (g (c * s + r)) (g (c * s + r + s)) (bits (c * s + r + s)) q
 
-        back : (r c : ℕ) → r < s → c * s + r < m → (n : Near f s m (a + 1) b r c) → (c + a < n .0) ⊎ (n .0 ≤ c + a) → h (c * s + r) ≡ 1
+        back : (r c : ℕ) → r < s → c * s + r < m → (n : MarkedNear f s m (a + 1) b r c) → (c + a < n .0) ⊎ (n .0 ≤ c + a) → h (c * s + r) ≡ 1
         back r c hr hc n (inr p) = stays r c hc (old .near-marked r c hr hc (n .0, n .1, p, n .3, n .4)) (below-or-from (c * s + r + s) m)
         back r c hr hc n (inl p) =
             let le : suc c ≤ n .0 = omega arith in
@@ -75,7 +75,7 @@ module _ (s m : ℕ) (f : ℕ → ℕ) where
             step .taken (c * s + r) (omega (arith, up r c)) ∙ max-one-right (g (c * s + r)) (g (c * s + r + s)) (bits (c * s + r)) (ap g (up r c) ∙ q)
 
     -- one place further up
-    pub spread-below : FromBelow s m g h → Spread s m a (b + 1) f h
+    pub spread-below : FromBelow s m g h → SpreadTo s m a (b + 1) f h
     spread-below step = record { marked-near = go; near-marked = λ r c hr hc n. back r c hr hc n (below-or-from (n .0 + b) c) }
       where
         up : (r c : ℕ) → suc c * s + r ≡ c * s + r + s
@@ -84,17 +84,17 @@ module _ (s m : ℕ) (f : ℕ → ℕ) where
         low : (r : ℕ) → r < s → 0 * s + r < s
         low r h = omega (arith, zero-mul s)
 
-        wider : (r c : ℕ) → Near f s m a b r c → Near f s m a (b + 1) r c
+        wider : (r c : ℕ) → MarkedNear f s m a b r c → MarkedNear f s m a (b + 1) r c
         wider r c n = (n .0, n .1, n .2, omega (arith, n .3), n .4)
 
-        go : (r c : ℕ) → r < s → c * s + r < m → h (c * s + r) ≡ 1 → Near f s m a (b + 1) r c
+        go : (r c : ℕ) → r < s → c * s + r < m → h (c * s + r) ≡ 1 → MarkedNear f s m a (b + 1) r c
         go r zero hr hc e = wider r 0 (old .marked-near r 0 hr hc (sym (step .first (0 * s + r) hc (low r hr)) ∙ e))
         go r (suc c) hr hc e = which (one-of-max (g (c * s + r + s)) (g (c * s + r)) (bits (c * s + r + s)) (sym (step .taken (c * s + r) (omega (arith, up r c))) ∙ sym (ap h (up r c)) ∙ e))
           where
-            which : (g (c * s + r + s) ≡ 1) ⊎ (g (c * s + r) ≡ 1) → Near f s m a (b + 1) r (suc c)
+            which : (g (c * s + r + s) ≡ 1) ⊎ (g (c * s + r) ≡ 1) → MarkedNear f s m a (b + 1) r (suc c)
             which (inl q) = wider r (suc c) (old .marked-near r (suc c) hr hc (ap g (up r c) ∙ q))
             which (inr q) =
-                let n : Near f s m a b r c = old .marked-near r c hr (omega (arith, up r c)) q in
+                let n : MarkedNear f s m a b r c = old .marked-near r c hr (omega (arith, up r c)) q in
                 (n .0, n .1, omega (arith, n .2), omega (arith, n .3), n .4)
 
         stays : (r c : ℕ) → r < s → c * s + r < m → g (c * s + r) ≡ 1 → h (c * s + r) ≡ 1
@@ -102,7 +102,7 @@ module _ (s m : ℕ) (f : ℕ → ℕ) where
         stays r (suc c) hr hc q =
             ap h (up r c) ∙ step .taken (c * s + r) (omega (arith, up r c)) ∙ max-one-left (g (c * s + r + s)) (g (c * s + r)) (bits (c * s + r)) (sym (ap g (up r c)) ∙ q)
 
-        back : (r c : ℕ) → r < s → c * s + r < m → (n : Near f s m a (b + 1) r c) → (n .0 + b < c) ⊎ (c ≤ n .0 + b) → h (c * s + r) ≡ 1
+        back : (r c : ℕ) → r < s → c * s + r < m → (n : MarkedNear f s m a (b + 1) r c) → (n .0 + b < c) ⊎ (c ≤ n .0 + b) → h (c * s + r) ≡ 1
         back r c hr hc n (inr p) = stays r c hr hc (old .near-marked r c hr hc (n .0, n .1, n .2, p, n .4))
         back r zero hr hc n (inl p) = absurd (omega arith)
         back r (suc c) hr hc n (inl p) =
@@ -110,7 +110,7 @@ module _ (s m : ℕ) (f : ℕ → ℕ) where
             ap h (up r c) ∙ step .taken (c * s + r) (omega (arith, up r c)) ∙ max-one-right (g (c * s + r + s)) (g (c * s + r)) (bits (c * s + r + s)) q
 
 -- of the same bits
-pub spread-same : (s m a b : ℕ) (f g f′ g′ : ℕ → ℕ) → ((j : ℕ) → j < m → f j ≡ f′ j) → ((j : ℕ) → j < m → g j ≡ g′ j) → Spread s m a b f g → Spread s m a b f′ g′
+pub spread-same : (s m a b : ℕ) (f g f′ g′ : ℕ → ℕ) → ((j : ℕ) → j < m → f j ≡ f′ j) → ((j : ℕ) → j < m → g j ≡ g′ j) → SpreadTo s m a b f g → SpreadTo s m a b f′ g′
 spread-same s m a b f g f′ g′ p q old =
     record {
       marked-near = λ r c hr hc e. let n = old .marked-near r c hr hc (q (c * s + r) hc ∙ e) in (n .0, n .1, n .2, n .3, sym (p (n .0 * s + r) (n .1)) ∙ n .4);
@@ -145,7 +145,7 @@ word-below s m v l =
     }
 
 -- and cut to the block
-pub word-cut : (s m a b v w : ℕ) {r : ℕ} → Spread s m a b (bitOf v) (bitOf w) → r ≡ w % 2 ^ m → Spread s m a b (bitOf v) (bitOf r)
+pub word-cut : (s m a b v w : ℕ) {r : ℕ} → SpreadTo s m a b (bitOf v) (bitOf w) → r ≡ w % 2 ^ m → SpreadTo s m a b (bitOf v) (bitOf r)
 word-cut s m a b v w {r} old e =
     spread-same s m a b (bitOf v) (bitOf w) (bitOf v) (bitOf r) (λ j h. refl) (λ j h. sym (ap (λ (x : ℕ). bitOf x j) e ∙ low-bit w m j h)) old
 
@@ -153,7 +153,7 @@ pub word-beyond : (m w : ℕ) {r : ℕ} → r ≡ w % 2 ^ m → (j : ℕ) → m 
 word-beyond m w e j h = ap (λ (x : ℕ). bitOf x j) e ∙ no-high-bit w m j h
 
 -- in the words
-pub block-by-word : (before after : List ℕ) (o s m bits marks : ℕ) → Run before o m bits → Spread s m 2 2 (bitOf bits) (bitOf marks) → ((j : ℕ) → m ≤ j → bitOf marks j ≡ 0)
+pub block-by-word : (before after : List ℕ) (o s m bits marks : ℕ) → Run before o m bits → SpreadTo s m 2 2 (bitOf bits) (bitOf marks) → ((j : ℕ) → m ≤ j → bitOf marks j ≡ 0)
     → Ored before after o marks → BlockDilated before after o s m
 block-by-word before after o s m bits marks run old z set =
     record {
@@ -171,7 +171,7 @@ block-by-word before after o s m bits marks run old z set =
           sym (ap (bitAt after) d) ∙ set .there (x - o) ∙ ap₂ max (ap (bitAt before) d) (z (x - o) (omega arith)) ∙ max-zero (bitAt before x);
     }
   where
-    go : (r c : ℕ) → r < s → c * s + r < m → (bitAt before (o + (c * s + r)) ≡ 1) ⊎ (bitOf marks (c * s + r) ≡ 1) → Near (λ j. bitAt before (o + j)) s m 2 2 r c
+    go : (r c : ℕ) → r < s → c * s + r < m → (bitAt before (o + (c * s + r)) ≡ 1) ⊎ (bitOf marks (c * s + r) ≡ 1) → MarkedNear (λ j. bitAt before (o + j)) s m 2 2 r c
     go r c hr hc (inl e) = (c, hc, omega arith, omega arith, e)
     go r c hr hc (inr e) = let n = old .marked-near r c hr hc e in (n .0, n .1, n .2, n .3, sym (run .there (n .0 * s + r) (n .1)) ∙ n .4)
 
@@ -233,7 +233,7 @@ blocks-next before now after s m k old new =
     next : (k + 1) * m ≡ k * m + m
     next = let e : k + 1 ≡ suc k = omega arith in ap (λ (x : ℕ). x * m) e ∙ suc-mul k m
 
-    go : (b : ℕ) → b < k + 1 → (b < k) ⊎ (k ≤ b) → Spread s m 2 2 (λ j. bitAt before (b * m + j)) (λ j. bitAt after (b * m + j))
+    go : (b : ℕ) → b < k + 1 → (b < k) ⊎ (k ≤ b) → SpreadTo s m 2 2 (λ j. bitAt before (b * m + j)) (λ j. bitAt after (b * m + j))
     go b h (inl p) =
         spread-same s m 2 2 (λ j. bitAt before (b * m + j)) (λ j. bitAt now (b * m + j)) (λ j. bitAt before (b * m + j)) (λ j. bitAt after (b * m + j))
         (λ j q. refl) (λ j q. sym (new .below (b * m + j) (omega (arith, suc-mul b m, mul-le-mul-right m p)))) (old .spread b p)

@@ -7,7 +7,7 @@ ghost use Rattle.words.specs.Words.{bitOf, entriesOf, Tidy, Holds};
 ghost use Rattle.names.specs.Numbers.{reach};
 ghost use Rattle.dilate.specs.Active.{activeOf};
 ghost use Rattle.dilate.specs.ByAxes.{dilateMiddle, dilateByAxes};
-ghost use Rattle.dilate.specs.ByBlocks.{Run, Ored, Merged, Spread, BlockDilated};
+ghost use Rattle.dilate.specs.ByBlocks.{Run, Ored, Merged, SpreadTo, BlockDilated};
 use grid::Axes;
 use names::REACH;
 
@@ -102,7 +102,7 @@ fn dilate_long(mask: &mut [u64], o: usize, stride: usize, rest: usize)
 // A block of at most a word's bits, in the same way.
 fn dilate_word(bits: u64, stride: usize, m: usize) -> u64
     requires { ⌜ (0 < stride) × (stride < m) × (m ≤ 64) × ((j : ℕ) → m ≤ j → bitOf bits j ≡ 0) ⌝ }
-    ensures { λ r. ⌜ Spread stride m reach reach (bitOf bits) (bitOf r) × ((j : ℕ) → m ≤ j → bitOf r j ≡ 0) ⌝ }
+    ensures { λ r. ⌜ SpreadTo stride m reach reach (bitOf bits) (bitOf r) × ((j : ℕ) → m ≤ j → bitOf r j ≡ 0) ⌝ }
 {
     let mut marks = bits;
     let mut down = 0;

@@ -13,7 +13,7 @@ use Rattle.grid.specs.declared.Corners.{Corners}
 use Rattle.grid.specs.Grid.{voxels, AxesWithin}
 use Rattle.grid.specs.GridLaws.{voxels-most}
 use Rattle.names.specs.Numbers.{voxelLimit, figuresLimit}
-use Rattle.bytes_le.specs.Bytes.{floatsAt, bytesAt, Numbers}
+use Rattle.bytes_le.specs.Bytes.{floatsAt, bytesAt, NoneNan}
 use Rattle.limits.specs.Limits.{badAxes, badGrid, badLights, badCoefficients}
 use Rattle.limits.specs.LimitsLaws.{axes-row, either, any-of-three}
 use Rattle.marks.specs.Marks.{markedCount}
@@ -150,7 +150,7 @@ pub of-words : (n l v m o : ℕ) (g : Bool) → g ≡ wrongVolumeLists n l v m o
 of-words n l v m o g p q = let r = lists-row n l v m o (sym p ∙ q) in (r .2, r .3)
 
 -- what the writer's tests leave known
-pub numbers : (n : ℕ) (l v : List Float) (m o : List ℕ) (g : Bool) → g ≡ badLists n l v m o → g ≡ false → Numbers l × Numbers v
+pub numbers : (n : ℕ) (l v : List Float) (m o : List ℕ) (g : Bool) → g ≡ badLists n l v m o → g ≡ false → NoneNan l × NoneNan v
 unfolding badLists
 numbers n l v m o g p q =
     let e = either _ (unusedSet o n) .0 (sym p ∙ q) in

@@ -17,7 +17,7 @@ use Rattle.grid.specs.declared.Corners.{Corners}
 use Rattle.limits.specs.Limits.{within, wrongLength, badLights, badCoefficients}
 use Rattle.limits.specs.LimitsLaws.{either, any-of-three, limit-finite, lights-row, coefficients-row}
 use Rattle.words.specs.Words.{wordCount, wordsOf}
-use Rattle.bytes_le.specs.Bytes.{Numbers}
+use Rattle.bytes_le.specs.Bytes.{NoneNan}
 use Rattle.contents.specs.Contents.{offsetAt}
 use Rattle.contents.specs.ContentsLaws.{Laid}
 use Rattle.volume_file.specs.VolumeFile.{voxelsAt, lightAt, volumeAt, activeAt, occupiedAt}
@@ -62,23 +62,23 @@ lists-row n l v m o e =
 
 -- ---- what row 13 means for the writer: no NaN
 
-pub light-finite : finite lightLimit ≡ true
+pub light-limit-finite : finite lightLimit ≡ true
 unfolding Ieee.ofBits
-light-finite = refl
+light-limit-finite = refl
 
-pub coefficient-finite : finite coefficientLimit ≡ true
+pub coefficient-limit-finite : finite coefficientLimit ≡ true
 unfolding Ieee.ofBits
-coefficient-finite = refl
+coefficient-limit-finite = refl
 
 -- numbers within a finite bound are no NaN
-pub within-numbers : (b : Float) → finite b ≡ true → (l : List Float) → ((i : ℕ) → i < length l → within b (getD l i nan) ≡ true) → Numbers l
+pub within-numbers : (b : Float) → finite b ≡ true → (l : List Float) → ((i : ℕ) → i < length l → within b (getD l i nan) ≡ true) → NoneNan l
 within-numbers b f l w i h = finite-number (getD l i nan) (limit-finite b (getD l i nan) f (w i h))
 
-pub lights-numbers : (l : List Float) → badLights l ≡ false → Numbers l
-lights-numbers l e = within-numbers lightLimit light-finite l (lights-row l .0 e)
+pub lights-numbers : (l : List Float) → badLights l ≡ false → NoneNan l
+lights-numbers l e = within-numbers lightLimit light-limit-finite l (lights-row l .0 e)
 
-pub coefficients-numbers : (v : List Float) → badCoefficients v ≡ false → Numbers v
-coefficients-numbers v e = within-numbers coefficientLimit coefficient-finite v (coefficients-row v .0 e)
+pub coefficients-numbers : (v : List Float) → badCoefficients v ≡ false → NoneNan v
+coefficients-numbers v e = within-numbers coefficientLimit coefficient-limit-finite v (coefficients-row v .0 e)
 
 -- ---- room for the lists that are read
 

@@ -17,7 +17,7 @@ use Rattle.floats.specs.FiniteLaws.{finite-number}
 use Rattle.names.specs.Numbers.{pointLimit}
 use Rattle.lists.specs.Fold.{tab, length-tab, getD-tab}
 use Rattle.grid.specs.Grid.{voxels}
-use Rattle.bytes_le.specs.Bytes.{word, u16At, u32At, f32At, floatsAt, bytesAt, bytes2, bytes4, encode, Numbers}
+use Rattle.bytes_le.specs.Bytes.{word, u16At, u32At, f32At, floatsAt, bytesAt, bytes2, bytes4, encode, NoneNan}
 use Rattle.bytes_le.specs.BytesLaws.{half-bytes, word-bytes}
 use Rattle.bytes_le.specs.RoundTrip.{AllBytes, one-cons, floats-kept}
 use Rattle.limits.specs.Limits.{within}
@@ -112,7 +112,7 @@ unfolding Ieee.ofBits
 point-finite = refl
 
 -- a run without NaN
-run-numbers : (s : List ℕ) (at n : ℕ) → Numbers (floatsAt s at n) → (i : ℕ) → i < n → isNan (f32At s (at + i * 4)) ≡ false
+run-numbers : (s : List ℕ) (at n : ℕ) → NoneNan (floatsAt s at n) → (i : ℕ) → i < n → isNan (f32At s (at + i * 4)) ≡ false
 run-numbers s at n w i h =
     let l : i < length (floatsAt s at n) = rw (length-tab (λ j. f32At s (at + j * 4)) n 0) h in
     let e : getD (floatsAt s at n) i nan ≡ f32At s (at + i * 4) =

@@ -7,7 +7,7 @@ ghost use lib.Seq.{sets};
 ghost use Rattle.names.specs.Numbers.{voxelLimit};
 ghost use Rattle.grid.specs.Grid.{voxels};
 ghost use Rattle.words.specs.Words.{wordCount, entriesOf};
-ghost use Rattle.bytes_le.specs.Bytes.{encode, Numbers};
+ghost use Rattle.bytes_le.specs.Bytes.{encode, NoneNan};
 ghost use Rattle.volume_write.specs.FileBytes.{contentsOf, cornersList, fileBytes, Lent};
 use grid::Axes;
 use grid::Corners;
@@ -24,7 +24,7 @@ pub fn put_file(
     active: &[u64],
     occupied: &[u64],
 )
-    requires { ⌜ Lent axes n (length (now light)) (length (now volume)) (length (now active)) (length (now occupied)) (length (now bytes)) × Numbers (now light) × Numbers (now volume) ⌝ }
+    requires { ⌜ Lent axes n (length (now light)) (length (now volume)) (length (now active)) (length (now occupied)) (length (now bytes)) × NoneNan (now light) × NoneNan (now volume) ⌝ }
     ensures { λ _. ⌜ now (bytes .exit) ≡ fileBytes axes corners (now (light .entry)) (now (volume .entry)) (entriesOf (now (active .entry)) (voxels axes)) (entriesOf (now (occupied .entry)) (voxels axes)) ⌝ }
 {
     contents::inner::put_head(bytes, axes);

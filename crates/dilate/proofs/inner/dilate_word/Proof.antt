@@ -5,19 +5,19 @@ use native.Mathlib.Omega.{arith}
 use Rattle.names.specs.Numbers.{reach}
 use Rattle.words.specs.Words.{bitOf}
 use Rattle.words.specs.BitLaws.{bit-lt}
-use Rattle.dilate.specs.ByBlocks.{aboveWord, belowWord, Spread}
+use Rattle.dilate.specs.ByBlocks.{aboveWord, belowWord, SpreadTo}
 use Rattle.dilate.specs.BlockLaws.{spread-none, spread-above, spread-below, word-above, word-above-beyond, word-below, word-cut, word-beyond}
 use Rattle.dilate.proofs.inner.dilate_word.Statement.{statement}
 use Rattle.dilate.proofs.inner.dilate_word.Tie as tie
 
 abbrev Inv-loop : tie.InvT-loop
-Inv-loop bits stride m marks₀ down₀ marks down = (down ≤ reach) × Spread stride m down 0 (bitOf bits) (bitOf marks) × ((j : ℕ) → m ≤ j → bitOf marks j ≡ 0)
+Inv-loop bits stride m marks₀ down₀ marks down = (down ≤ reach) × SpreadTo stride m down 0 (bitOf bits) (bitOf marks) × ((j : ℕ) → m ≤ j → bitOf marks j ≡ 0)
 
 abbrev μ-loop : tie.MeasureT-loop
 μ-loop bits stride m marks₀ down₀ marks down = reach - down
 
 abbrev Inv-loop2 : tie.InvT-loop2
-Inv-loop2 bits stride m marks₀ down up₀ marks up = (up ≤ reach) × Spread stride m reach up (bitOf bits) (bitOf marks)
+Inv-loop2 bits stride m marks₀ down up₀ marks up = (up ≤ reach) × SpreadTo stride m reach up (bitOf bits) (bitOf marks)
 
 abbrev μ-loop2 : tie.MeasureT-loop2
 μ-loop2 bits stride m marks₀ down up₀ marks up = reach - up
@@ -49,7 +49,7 @@ loop2-holds c =
     let l = c .before .loop in
     let a = c .before .before .args in
     let e : l .down ≡ reach = omega (arith, l .inv .0) in
-    (omega arith, subst (λ (x : ℕ). Spread (a .stride) (a .m) x 0 (bitOf (a .bits)) (bitOf (l .marks))) e (l .inv .1))
+    (omega arith, subst (λ (x : ℕ). SpreadTo (a .stride) (a .m) x 0 (bitOf (a .bits)) (bitOf (l .marks))) e (l .inv .1))
 
 shl-marks : tie.Need-shl-marks Inv-loop μ-loop Inv-loop2 μ-loop2
 shl-marks c = omega arith
@@ -78,8 +78,8 @@ returns c =
     let l = c .before .before .loop2 in
     let a = c .before .before .before .before .before .args in
     let e : l .up ≡ reach = omega (arith, l .inv .0) in
-    let whole : Spread (a .stride) (a .m) reach reach (bitOf (a .bits)) (bitOf (l .marks)) =
-    subst (λ (x : ℕ). Spread (a .stride) (a .m) reach x (bitOf (a .bits)) (bitOf (l .marks))) e (l .inv .1)
+    let whole : SpreadTo (a .stride) (a .m) reach reach (bitOf (a .bits)) (bitOf (l .marks)) =
+    subst (λ (x : ℕ). SpreadTo (a .stride) (a .m) reach x (bitOf (a .bits)) (bitOf (l .marks))) e (l .inv .1)
     in
     (word-cut (a .stride) (a .m) reach reach (a .bits) (l .marks) whole (c .cut .ensures), word-beyond (a .m) (l .marks) (c .cut .ensures))
 
