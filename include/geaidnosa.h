@@ -315,7 +315,7 @@ GeaidnosaBakeAnswer geaidnosa_bake(
  * spread over threads or machines: masks of which each active voxel stands in exactly one are baked to the end, each with lists of its own and all else
  * alike. A share's unblurred volume is its scratch, or its volume where its mask has no voxel. The other shares are joined one after another onto the
  * first one's, and then geaidnosa_coefficient_blur takes the mean, unless no voxel at all is active: bit for bit the volume of the unbroken bake, and the
- * rays add up. Refuses 1, 3, 13. */
+ * rays add up. What joined holds is not tested. Refuses 1, 3, 13. */
 uint32_t geaidnosa_join(
     GeaidnosaAxes axes,
     const uint64_t *share, size_t share_length,

@@ -84,14 +84,14 @@ def main():
                 if side == "rust" and held(hall, side):
                     sys.exit(f"beside: {name}: the volumes differ: {held(hall, side)}")
         print(f"\n{name} hall, {lists.count(chr(10) + 'triangle ')} triangles, {lists.count(chr(10) + 'lamp ')} lamps")
-        print(f"{'':28}{'masks':>10}{'sun':>10}{'bake':>10}{'processors':>12}")
+        print(f"{'':36}{'masks':>10}{'sun':>10}{'bake':>10}{'processors':>12}")
         medians = {side: [statistics.median(column) for column in zip(*times)] for side, times in sides.items()}
         words = {"plate": "plate", "rust": "the Rust, list order", "rust-tree": "the Rust, stand-in's tree"}
         for side, row in medians.items():
-            print(f"{words[side]:28}{row[0]:10.4f}{row[1]:10.4f}{row[2]:10.3f}{row[3]:12.2f}")
+            print(f"{words[side]:36}{row[0]:10.4f}{row[1]:10.4f}{row[2]:10.3f}{row[3]:12.2f}")
         for side in ("rust", "rust-tree"):
             ratios = [mine / theirs for mine, theirs in zip(medians["plate"], medians[side])]
-            print(f"{'plate / ' + words[side]:28}{ratios[0]:10.2f}{ratios[1]:10.2f}{ratios[2]:10.2f}{ratios[3]:12.2f}")
+            print(f"{'plate / ' + words[side]:36}{ratios[0]:10.2f}{ratios[1]:10.2f}{ratios[2]:10.2f}{ratios[3]:12.2f}")
         print("list order: the same volume bit for bit; the tree: " + (held(hall, "rust-tree").replace("\n", ", ") or "the same volume bit for bit"))
 
 
