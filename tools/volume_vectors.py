@@ -57,6 +57,11 @@ def good():
     yield assemble([1, 2, 3], parts((1, 2, 3)))
     full = assemble([1, 1, 1], five + [(140, b"")])
     yield assemble([1, 1, 1], five + [(140, bytes(65536 - len(full)))])
+    # masks about a word's end: 63, 64, 65 and 128 voxels
+    for axes in ((7, 9, 1), (4, 4, 4), (5, 13, 1), (8, 4, 4)):
+        n = axes[0] * axes[1] * axes[2]
+        ends = [1 if i % 64 in (0, 1, 62, 63) else 0 for i in range(n)]
+        yield assemble(list(axes), parts(axes, occupied=ends, active=[1 if (i * i) % 7 < 3 else 0 for i in range(n)]))
 
 
 def bad():

@@ -23,7 +23,7 @@ const USAGE: &str = "usage: oracle COMMAND ..
   stream MODULE FIRST COUNT     the records of seeds FIRST.. for a module's program, on standard output
   bad MODULE FIRST COUNT        the same for bad inputs
   every MODULE SEED [PLACE]     the same for bad inputs with each number broken at every place of its list; PLACE: what that one record holds
-  record FOLDER                 writes each module's recorded answers to FOLDER/replay_MODULE/stdin, and to stdout beside it
+  record FOLDER                 writes each program's recorded answers to FOLDER/replay_PROGRAM/stdin, and to stdout beside it
                                 how many records and comparisons its program then says
   compare FOLDER                makes them again and compares
   count FIRST COUNT             how many scenes, triangles, lamps and voxels those seeds hold
@@ -245,22 +245,30 @@ fn recorded(name: &str) -> (Vec<Item>, Vec<Item>) {
     (out, bad)
 }
 
-/// Writes or compares each module's records and what its program says of them.
+/// The program that replays a module's records: the bake's also has the rays that it fires.
+fn program(module: &str) -> &str {
+    if module == "fired" { "bake" } else { module }
+}
+
+/// Writes or compares each program's records and what it says of them.
 fn record(folder: &str, compare: bool) -> Result<bool, String> {
     let mut good = true;
-    for name in MODULES {
+    for name in MODULES.into_iter().filter(|name| program(name) == *name) {
         let parent = format!("{folder}/replay_{name}");
-        let (inside, bad) = recorded(name);
-        let (mut bytes, mut comparisons) = (Vec::new(), 0);
-        for (place, item) in inside.iter().chain(&bad).enumerate() {
-            let record = item.record();
-            if place < inside.len() {
-                good &= accepted(&record, &format!("{name}: record {place}"))?;
+        let (mut bytes, mut records, mut comparisons) = (Vec::new(), 0, 0);
+        for module in MODULES.into_iter().filter(|module| program(module) == name) {
+            let (inside, bad) = recorded(module);
+            for (place, item) in inside.iter().chain(&bad).enumerate() {
+                let record = item.record();
+                if place < inside.len() {
+                    good &= accepted(&record, &format!("{module}: record {place}"))?;
+                }
+                bytes.extend(record.bytes);
+                records += 1;
+                comparisons += record.comparisons;
             }
-            bytes.extend(record.bytes);
-            comparisons += record.comparisons;
         }
-        let said = format!("{} records, {comparisons} comparisons, all the same\n", inside.len() + bad.len());
+        let said = format!("{records} records, {comparisons} comparisons, all the same\n");
         if !compare {
             fs::create_dir_all(&parent).map_err(|e| format!("{parent}: {e}"))?;
         }

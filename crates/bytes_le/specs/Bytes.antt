@@ -1,8 +1,10 @@
 -- Little-endian numbers in a list of bytes: a u16 is two bytes, a u32 four, an f32 the four of its bit pattern. Assumes nothing.
+use mathlib.Core.Path.{_≡_}
+use mathlib.Core.Bool.{false}
 use mathlib.Core.List.{List, [], _∷_, _++_}
-use Prim.Native.Nat.{ℕ, _+_, _*_, _/_, _%_}
+use Prim.Native.Nat.{ℕ, _+_, _*_, _/_, _%_, _<_}
 use lib.ListN.{length, getD, take, drop}
-use lib.Ieee.{Float, binary32, toBits}
+use lib.Ieee.{Float, nan, isNan, binary32, toBits}
 use Rattle.names.specs.Bits.{lit}
 use Rattle.lists.specs.Fold.{tab}
 
@@ -40,3 +42,7 @@ bytes4 n = n % 256 ∷ n / 256 % 256 ∷ n / 65536 % 256 ∷ n / 16777216 % 256 
 unfoldable pub encode : List Float → List ℕ
 encode [] = []
 encode (x ∷ xs) = bytes4 (toBits binary32 x) ++ encode xs
+
+-- no NaN among them
+abbrev pub NoneNan : List Float → Type 0
+NoneNan xs = (i : ℕ) → i < length xs → isNan (getD xs i nan) ≡ false

@@ -1,11 +1,12 @@
 // What the crates above read and write of a list of bytes. Each call's places lie within the list.
 ghost use mathlib.Core.Path.{_≡_};
+ghost use mathlib.Core.Bool.{false};
 ghost use Prim.Native.Nat.{_+_, _*_, _<_, _≤_};
 ghost use lib.ListN.{length, getD};
 ghost use lib.Seq.{sets};
-ghost use lib.Ieee.{binary32, toBits};
+ghost use lib.Ieee.{binary32, toBits, isNan};
 ghost use Rattle.names.specs.Bits.{lit};
-ghost use Rattle.bytes_le.specs.Bytes.{u16At, u32At, f32At, floatsAt, bytesAt, bytes2, bytes4, encode};
+ghost use Rattle.bytes_le.specs.Bytes.{u16At, u32At, f32At, floatsAt, bytes2, bytes4, encode, NoneNan};
 
 // With the sign taken off, the patterns above an infinity's are the NaNs'.
 const INFINITY: u32 = 0x7f80_0000;
@@ -50,18 +51,6 @@ pub fn floats_into(s: &[u8], at: usize, out: &mut [f32])
     }
 }
 
-// Fills `out` with the bytes from `at` on.
-pub fn bytes_into(s: &[u8], at: usize, out: &mut [u8])
-    requires { ⌜ at + length (now out) ≤ length (now s) ⌝ }
-    ensures { λ _. ⌜ now (out .exit) ≡ bytesAt (now (s .entry)) at (length (now (out .entry))) ⌝ }
-{
-    let mut i: usize = 0;
-    while i < out.len() {
-        out[i] = s[at + i];
-        i += 1;
-    }
-}
-
 // ---- numbers into bytes
 
 pub fn put_u16(s: &mut [u8], at: usize, n: u32)
@@ -89,28 +78,24 @@ pub fn put_f32(s: &mut [u8], at: usize, x: f32)
     put_u32(s, at, bits_of(x));
 }
 
-// Writes all numbers of `xs` from `at` on.
+// Writes all numbers of `xs`, none of them NaN, from `at` on.
 pub fn put_floats(s: &mut [u8], at: usize, xs: &[f32])
-    requires { ⌜ at + length (now xs) * 4 ≤ length (now s) ⌝ }
+    requires { ⌜ (at + length (now xs) * 4 ≤ length (now s)) × NoneNan (now xs) ⌝ }
     ensures { λ _. ⌜ now (s .exit) ≡ sets (now (s .entry)) at (encode (now (xs .entry))) ⌝ }
 {
     let mut i: usize = 0;
     while i < xs.len() {
-        put_f32(s, at + i * 4, xs[i]);
+        put_number(s, at + i * 4, xs[i]);
         i += 1;
     }
 }
 
-// Writes all bytes of `xs` from `at` on.
-pub fn put_bytes(s: &mut [u8], at: usize, xs: &[u8])
-    requires { ⌜ at + length (now xs) ≤ length (now s) ⌝ }
-    ensures { λ _. ⌜ now (s .exit) ≡ sets (now (s .entry)) at (now (xs .entry)) ⌝ }
+// An f32 that is not NaN: its pattern needs no test.
+fn put_number(s: &mut [u8], at: usize, x: f32)
+    requires { ⌜ (at + 4 ≤ length (now s)) × (isNan x ≡ false) ⌝ }
+    ensures { λ _. ⌜ now (s .exit) ≡ sets (now (s .entry)) at (bytes4 (toBits binary32 x)) ⌝ }
 {
-    let mut i: usize = 0;
-    while i < xs.len() {
-        s[at + i] = xs[i];
-        i += 1;
-    }
+    put_u32(s, at, f32::to_bits(x));
 }
 
 // ---- a float and its pattern

@@ -1,5 +1,5 @@
--- A block, dilated: each of four steps widens by one place what a mark reaches; the code's two ways are those four steps; and blocks dilated one after the
--- other are the grid dilated along its middle axis.
+-- A block, dilated: each step widens by one place what a mark reaches, in one word and in many; and blocks dilated one after the other are the grid dilated
+-- along its middle axis.
 use mathlib.Core.Path.{_≡_, refl, sym, ap, ap₂, _∙_, subst}
 use mathlib.Core.Logic.{_⊎_, inl, inr}
 use mathlib.Core.Bool.{Bool, true, cond}
@@ -7,7 +7,6 @@ use mathlib.Core.List.{List}
 use Prim.Native.Nat.{ℕ, zero, suc, _+_, _-_, _*_, _/_, _%_, _^_, _≤_, _<_, max}
 use native.Mathlib.Omega.{arith}
 use native.Mathlib.Nat.{zero-mul, suc-mul, mul-le-mul-right, max-zero, add-mul, mul-assoc, le-refl}
-use lib.Bits.{bitOr}
 use lib.Dec.{eqb}
 use lib.ListN.{length, getD}
 use lib.Seq.{ext-getD}
@@ -18,28 +17,28 @@ use Rattle.grid.specs.declared.Axes.{Axes}
 use Rattle.grid.specs.Grid.{voxels, indexOf, xOf, yOf, zOf}
 use Rattle.grid.specs.GridLaws.{index-within, index-of-coordinates, x-within, y-within, z-within}
 use Rattle.words.specs.Words.{bitOf, bitAt, entriesOf, Tidy, Holds}
-use Rattle.words.specs.BitLaws.{alike, below-or-from, bit-lt, bit-shifted}
+use Rattle.words.specs.BitLaws.{alike, below-or-from, bit-shifted}
 use Rattle.words.specs.WordsLaws.{bit-says, bit-at-lt, entries-length, entries-at, clean-bits, bits-clean}
 use Rattle.dilate.specs.Active.{activeOf}
 use Rattle.dilate.specs.ActiveLaws.{near-out, near-in}
 use Rattle.dilate.specs.ByAxes.{lineHas, dilateMiddle, middleX, middleZ, dilateByAxes}
 use Rattle.dilate.specs.ByAxesLaws.{middle-length, middle-entry, voxels-x, voxels-z, dilated-mask}
-use Rattle.dilate.specs.ByBlocks.{Run, Ored, Merged, FromAbove, FromBelow, Near, Spread, BlockDilated, BlocksDilated}
+use Rattle.dilate.specs.ByBlocks.{aboveWord, belowWord, Run, Ored, Merged, FromAbove, FromBelow, MarkedNear, SpreadTo, BlockSpread, BlockDilated, BlocksDilated}
 use Rattle.dilate.specs.RunLaws.{max-one-left, max-one-right, one-of-max, or-bit, low-bit, no-high-bit, up-bit, up-none}
 
 -- ---- what a mark reaches
 
 module _ (s m : ℕ) (f : ℕ → ℕ) where
-  pub spread-none : Spread s m 0 0 f f
+  pub spread-none : SpreadTo s m 0 0 f f
   spread-none =
       record {
         marked-near = λ r c hr hc e. (c, hc, omega arith, omega arith, e);
         near-marked = λ r c hr hc n. let k : n .0 ≡ c = omega (arith, n .2, n .3) in sym (ap (λ (x : ℕ). f (x * s + r)) k) ∙ n .4;
       }
 
-  module _ (a b : ℕ) (g h : ℕ → ℕ) (bits : (j : ℕ) → g j < 2) (old : Spread s m a b f g) where
+  module _ (a b : ℕ) (g h : ℕ → ℕ) (bits : (j : ℕ) → g j < 2) (old : SpreadTo s m a b f g) where
     -- one place further down
-    pub spread-above : FromAbove s m g h → Spread s m (a + 1) b f h
+    pub spread-above : FromAbove s m g h → SpreadTo s m (a + 1) b f h
     spread-above step =
         record {
           marked-near = λ r c hr hc e. go r c hr hc e (below-or-from (c * s + r + s) m);
@@ -49,17 +48,17 @@ module _ (s m : ℕ) (f : ℕ → ℕ) where
         up : (r c : ℕ) → c * s + r + s ≡ suc c * s + r
         up r c = omega (arith, suc-mul c s)
 
-        wider : (r c : ℕ) → Near f s m a b r c → Near f s m (a + 1) b r c
+        wider : (r c : ℕ) → MarkedNear f s m a b r c → MarkedNear f s m (a + 1) b r c
         wider r c n = (n .0, n .1, omega (arith, n .2), n .3, n .4)
 
-        go : (r c : ℕ) → r < s → c * s + r < m → h (c * s + r) ≡ 1 → (c * s + r + s < m) ⊎ (m ≤ c * s + r + s) → Near f s m (a + 1) b r c
+        go : (r c : ℕ) → r < s → c * s + r < m → h (c * s + r) ≡ 1 → (c * s + r + s < m) ⊎ (m ≤ c * s + r + s) → MarkedNear f s m (a + 1) b r c
         go r c hr hc e (inr p) = wider r c (old .marked-near r c hr hc (sym (step .last (c * s + r) hc p) ∙ e))
         go r c hr hc e (inl p) = which (one-of-max (g (c * s + r)) (g (c * s + r + s)) (bits (c * s + r)) (sym (step .taken (c * s + r) p) ∙ e))
           where
-            which : (g (c * s + r) ≡ 1) ⊎ (g (c * s + r + s) ≡ 1) → Near f s m (a + 1) b r c
+            which : (g (c * s + r) ≡ 1) ⊎ (g (c * s + r + s) ≡ 1) → MarkedNear f s m (a + 1) b r c
             which (inl q) = wider r c (old .marked-near r c hr hc q)
             which (inr q) =
-                let n : Near f s m a b r (suc c) = old .marked-near r (suc c) hr (omega (arith, up r c)) (sym (ap g (up r c)) ∙ q) in
+                let n : MarkedNear f s m a b r (suc c) = old .marked-near r (suc c) hr (omega (arith, up r c)) (sym (ap g (up r c)) ∙ q) in
                 (n .0, n .1, omega (arith, n .2), omega (arith, n .3), n .4)
 
         -- marked here, marked after
@@ -67,7 +66,7 @@ module _ (s m : ℕ) (f : ℕ → ℕ) where
         stays r c hc q (inr p) = step .last (c * s + r) hc p ∙ q
         stays r c hc q (inl p) = step .taken (c * s + r) p ∙ max-one-left (g (c * s + r)) (g (c * s + r + s)) (bits (c * s + r + s)) q
 
-        back : (r c : ℕ) → r < s → c * s + r < m → (n : Near f s m (a + 1) b r c) → (c + a < n .0) ⊎ (n .0 ≤ c + a) → h (c * s + r) ≡ 1
+        back : (r c : ℕ) → r < s → c * s + r < m → (n : MarkedNear f s m (a + 1) b r c) → (c + a < n .0) ⊎ (n .0 ≤ c + a) → h (c * s + r) ≡ 1
         back r c hr hc n (inr p) = stays r c hc (old .near-marked r c hr hc (n .0, n .1, p, n .3, n .4)) (below-or-from (c * s + r + s) m)
         back r c hr hc n (inl p) =
             let le : suc c ≤ n .0 = omega arith in
@@ -76,7 +75,7 @@ module _ (s m : ℕ) (f : ℕ → ℕ) where
             step .taken (c * s + r) (omega (arith, up r c)) ∙ max-one-right (g (c * s + r)) (g (c * s + r + s)) (bits (c * s + r)) (ap g (up r c) ∙ q)
 
     -- one place further up
-    pub spread-below : FromBelow s m g h → Spread s m a (b + 1) f h
+    pub spread-below : FromBelow s m g h → SpreadTo s m a (b + 1) f h
     spread-below step = record { marked-near = go; near-marked = λ r c hr hc n. back r c hr hc n (below-or-from (n .0 + b) c) }
       where
         up : (r c : ℕ) → suc c * s + r ≡ c * s + r + s
@@ -85,17 +84,17 @@ module _ (s m : ℕ) (f : ℕ → ℕ) where
         low : (r : ℕ) → r < s → 0 * s + r < s
         low r h = omega (arith, zero-mul s)
 
-        wider : (r c : ℕ) → Near f s m a b r c → Near f s m a (b + 1) r c
+        wider : (r c : ℕ) → MarkedNear f s m a b r c → MarkedNear f s m a (b + 1) r c
         wider r c n = (n .0, n .1, n .2, omega (arith, n .3), n .4)
 
-        go : (r c : ℕ) → r < s → c * s + r < m → h (c * s + r) ≡ 1 → Near f s m a (b + 1) r c
+        go : (r c : ℕ) → r < s → c * s + r < m → h (c * s + r) ≡ 1 → MarkedNear f s m a (b + 1) r c
         go r zero hr hc e = wider r 0 (old .marked-near r 0 hr hc (sym (step .first (0 * s + r) hc (low r hr)) ∙ e))
         go r (suc c) hr hc e = which (one-of-max (g (c * s + r + s)) (g (c * s + r)) (bits (c * s + r + s)) (sym (step .taken (c * s + r) (omega (arith, up r c))) ∙ sym (ap h (up r c)) ∙ e))
           where
-            which : (g (c * s + r + s) ≡ 1) ⊎ (g (c * s + r) ≡ 1) → Near f s m a (b + 1) r (suc c)
+            which : (g (c * s + r + s) ≡ 1) ⊎ (g (c * s + r) ≡ 1) → MarkedNear f s m a (b + 1) r (suc c)
             which (inl q) = wider r (suc c) (old .marked-near r (suc c) hr hc (ap g (up r c) ∙ q))
             which (inr q) =
-                let n : Near f s m a b r c = old .marked-near r c hr (omega (arith, up r c)) q in
+                let n : MarkedNear f s m a b r c = old .marked-near r c hr (omega (arith, up r c)) q in
                 (n .0, n .1, omega (arith, n .2), omega (arith, n .3), n .4)
 
         stays : (r c : ℕ) → r < s → c * s + r < m → g (c * s + r) ≡ 1 → h (c * s + r) ≡ 1
@@ -103,24 +102,15 @@ module _ (s m : ℕ) (f : ℕ → ℕ) where
         stays r (suc c) hr hc q =
             ap h (up r c) ∙ step .taken (c * s + r) (omega (arith, up r c)) ∙ max-one-left (g (c * s + r + s)) (g (c * s + r)) (bits (c * s + r)) (sym (ap g (up r c)) ∙ q)
 
-        back : (r c : ℕ) → r < s → c * s + r < m → (n : Near f s m a (b + 1) r c) → (n .0 + b < c) ⊎ (c ≤ n .0 + b) → h (c * s + r) ≡ 1
+        back : (r c : ℕ) → r < s → c * s + r < m → (n : MarkedNear f s m a (b + 1) r c) → (n .0 + b < c) ⊎ (c ≤ n .0 + b) → h (c * s + r) ≡ 1
         back r c hr hc n (inr p) = stays r c hr hc (old .near-marked r c hr hc (n .0, n .1, n .2, p, n .4))
         back r zero hr hc n (inl p) = absurd (omega arith)
         back r (suc c) hr hc n (inl p) =
             let q : g (c * s + r) ≡ 1 = old .near-marked r c hr (omega (arith, up r c)) (n .0, n .1, omega arith, omega (arith, n .3), n .4) in
             ap h (up r c) ∙ step .taken (c * s + r) (omega (arith, up r c)) ∙ max-one-right (g (c * s + r + s)) (g (c * s + r)) (bits (c * s + r + s)) q
 
--- the four steps
-module _ (s m : ℕ) (f f1 f2 f3 f4 : ℕ → ℕ) (b0 : (j : ℕ) → f j < 2) (b1 : (j : ℕ) → f1 j < 2) (b2 : (j : ℕ) → f2 j < 2) (b3 : (j : ℕ) → f3 j < 2) where
-  pub spread-four : FromAbove s m f f1 → FromAbove s m f1 f2 → FromBelow s m f2 f3 → FromBelow s m f3 f4 → Spread s m 2 2 f f4
-  spread-four p q r t =
-      let d1 : Spread s m 1 0 f f1 = spread-above s m f 0 0 f f1 b0 (spread-none s m f) p in
-      let d2 : Spread s m 2 0 f f2 = spread-above s m f 1 0 f1 f2 b1 d1 q in
-      let d3 : Spread s m 2 1 f f3 = spread-below s m f 2 0 f2 f3 b2 d2 r in
-      spread-below s m f 2 1 f3 f4 b3 d3 t
-
 -- of the same bits
-pub spread-same : (s m a b : ℕ) (f g f′ g′ : ℕ → ℕ) → ((j : ℕ) → j < m → f j ≡ f′ j) → ((j : ℕ) → j < m → g j ≡ g′ j) → Spread s m a b f g → Spread s m a b f′ g′
+pub spread-same : (s m a b : ℕ) (f g f′ g′ : ℕ → ℕ) → ((j : ℕ) → j < m → f j ≡ f′ j) → ((j : ℕ) → j < m → g j ≡ g′ j) → SpreadTo s m a b f g → SpreadTo s m a b f′ g′
 spread-same s m a b f g f′ g′ p q old =
     record {
       marked-near = λ r c hr hc e. let n = old .marked-near r c hr hc (q (c * s + r) hc ∙ e) in (n .0, n .1, n .2, n .3, sym (p (n .0 * s + r) (n .1)) ∙ n .4);
@@ -130,21 +120,21 @@ spread-same s m a b f g f′ g′ p q old =
 -- ---- a block of one word's bits
 
 module _ (s m v : ℕ) (z : (j : ℕ) → m ≤ j → bitOf v j ≡ 0) where
-  shifted-down : (j : ℕ) → bitOf (bitOr v (v / 2 ^ s)) j ≡ max (bitOf v j) (bitOf v (j + s))
+  shifted-down : (j : ℕ) → bitOf (aboveWord s v) j ≡ max (bitOf v j) (bitOf v (j + s))
   shifted-down j = let e : s + j ≡ j + s = omega arith in or-bit v (v / 2 ^ s) j ∙ ap (max (bitOf v j)) (bit-shifted v s j ∙ ap (bitOf v) e)
 
-  pub word-above : FromAbove s m (bitOf v) (bitOf (bitOr v (v / 2 ^ s)))
+  pub word-above : FromAbove s m (bitOf v) (bitOf (aboveWord s v))
   word-above =
       record {
         taken = λ j h. shifted-down j;
         last = λ j h k. shifted-down j ∙ ap (max (bitOf v j)) (z (j + s) k) ∙ max-zero (bitOf v j);
       }
 
-  pub word-above-beyond : (j : ℕ) → m ≤ j → bitOf (bitOr v (v / 2 ^ s)) j ≡ 0
+  pub word-above-beyond : (j : ℕ) → m ≤ j → bitOf (aboveWord s v) j ≡ 0
   word-above-beyond j h = shifted-down j ∙ ap₂ max (z j h) (z (j + s) (omega arith))
 
 -- with any bits from m on
-pub word-below : (s m v : ℕ) → m ≤ 64 → FromBelow s m (bitOf v) (bitOf (bitOr v (v * 2 ^ s % 2 ^ 64)))
+pub word-below : (s m v : ℕ) → m ≤ 64 → FromBelow s m (bitOf v) (bitOf (belowWord s v))
 word-below s m v l =
     record {
       taken = λ j h.
@@ -154,36 +144,16 @@ word-below s m v l =
       first = λ j h k. or-bit v (v * 2 ^ s % 2 ^ 64) j ∙ ap (max (bitOf v j)) (up-none v s j k) ∙ max-zero (bitOf v j);
     }
 
-abbrev pub aboveWord : ℕ → ℕ → ℕ
-aboveWord s v = bitOr v (v / 2 ^ s)
+-- and cut to the block
+pub word-cut : (s m a b v w : ℕ) {r : ℕ} → SpreadTo s m a b (bitOf v) (bitOf w) → r ≡ w % 2 ^ m → SpreadTo s m a b (bitOf v) (bitOf r)
+word-cut s m a b v w {r} old e =
+    spread-same s m a b (bitOf v) (bitOf w) (bitOf v) (bitOf r) (λ j h. refl) (λ j h. sym (ap (λ (x : ℕ). bitOf x j) e ∙ low-bit w m j h)) old
 
-abbrev pub belowWord : ℕ → ℕ → ℕ
-belowWord s v = bitOr v (v * 2 ^ s % 2 ^ 64)
-
-module _ (s m v : ℕ) (l : m ≤ 64) (z : (j : ℕ) → m ≤ j → bitOf v j ≡ 0) {r : ℕ} (e : r ≡ belowWord s (belowWord s (aboveWord s (aboveWord s v))) % 2 ^ m) where
-  abbrev v1 : ℕ
-  v1 = aboveWord s v
-
-  abbrev v2 : ℕ
-  v2 = aboveWord s v1
-
-  abbrev v3 : ℕ
-  v3 = belowWord s v2
-
-  abbrev v4 : ℕ
-  v4 = belowWord s v3
-
-  pub word-spread : Spread s m 2 2 (bitOf v) (bitOf r)
-  word-spread =
-      spread-same s m 2 2 (bitOf v) (bitOf v4) (bitOf v) (bitOf r) (λ j h. refl) (λ j h. sym (ap (λ (x : ℕ). bitOf x j) e ∙ low-bit v4 m j h))
-      (spread-four s m (bitOf v) (bitOf v1) (bitOf v2) (bitOf v3) (bitOf v4) (bit-lt v) (bit-lt v1) (bit-lt v2) (bit-lt v3)
-      (word-above s m v z) (word-above s m v1 (word-above-beyond s m v z)) (word-below s m v2 l) (word-below s m v3 l))
-
-  pub word-beyond : (j : ℕ) → m ≤ j → bitOf r j ≡ 0
-  word-beyond j h = ap (λ (x : ℕ). bitOf x j) e ∙ no-high-bit v4 m j h
+pub word-beyond : (m w : ℕ) {r : ℕ} → r ≡ w % 2 ^ m → (j : ℕ) → m ≤ j → bitOf r j ≡ 0
+word-beyond m w e j h = ap (λ (x : ℕ). bitOf x j) e ∙ no-high-bit w m j h
 
 -- in the words
-pub block-by-word : (before after : List ℕ) (o s m bits marks : ℕ) → Run before o m bits → Spread s m 2 2 (bitOf bits) (bitOf marks) → ((j : ℕ) → m ≤ j → bitOf marks j ≡ 0)
+pub block-by-word : (before after : List ℕ) (o s m bits marks : ℕ) → Run before o m bits → SpreadTo s m 2 2 (bitOf bits) (bitOf marks) → ((j : ℕ) → m ≤ j → bitOf marks j ≡ 0)
     → Ored before after o marks → BlockDilated before after o s m
 block-by-word before after o s m bits marks run old z set =
     record {
@@ -201,7 +171,7 @@ block-by-word before after o s m bits marks run old z set =
           sym (ap (bitAt after) d) ∙ set .there (x - o) ∙ ap₂ max (ap (bitAt before) d) (z (x - o) (omega arith)) ∙ max-zero (bitAt before x);
     }
   where
-    go : (r c : ℕ) → r < s → c * s + r < m → (bitAt before (o + (c * s + r)) ≡ 1) ⊎ (bitOf marks (c * s + r) ≡ 1) → Near (λ j. bitAt before (o + j)) s m 2 2 r c
+    go : (r c : ℕ) → r < s → c * s + r < m → (bitAt before (o + (c * s + r)) ≡ 1) ⊎ (bitOf marks (c * s + r) ≡ 1) → MarkedNear (λ j. bitAt before (o + j)) s m 2 2 r c
     go r c hr hc (inl e) = (c, hc, omega arith, omega arith, e)
     go r c hr hc (inr e) = let n = old .marked-near r c hr hc e in (n .0, n .1, n .2, n .3, sym (run .there (n .0 * s + r) (n .1)) ∙ n .4)
 
@@ -224,17 +194,29 @@ module _ (before after : List ℕ) (o s n : ℕ) where
         first = λ j h k. m .below (o + j) (omega arith);
       }
 
-pub block-by-merges : (w w1 w2 w3 w4 : List ℕ) (o s n : ℕ)
-    → Merged w w1 o (o + s) 0 n → Merged w1 w2 o (o + s) 0 n → Merged w2 w3 (o + s) o 0 n → Merged w3 w4 (o + s) o 0 n → BlockDilated w w4 o s (s + n)
-block-by-merges w w1 w2 w3 w4 o s n p q r t =
-    record {
-      spread =
-          spread-four s (s + n) (λ j. bitAt w (o + j)) (λ j. bitAt w1 (o + j)) (λ j. bitAt w2 (o + j)) (λ j. bitAt w3 (o + j)) (λ j. bitAt w4 (o + j))
-          (λ j. bit-at-lt w (o + j)) (λ j. bit-at-lt w1 (o + j)) (λ j. bit-at-lt w2 (o + j)) (λ j. bit-at-lt w3 (o + j))
-          (merged-above w w1 o s n p) (merged-above w1 w2 o s n q) (merged-below w2 w3 o s n r) (merged-below w3 w4 o s n t);
-      below = λ x h. t .below x (omega arith) ∙ r .below x (omega arith) ∙ q .below x (omega arith) ∙ p .below x (omega arith);
-      above = λ x h. t .above x (omega arith) ∙ r .above x (omega arith) ∙ q .above x (omega arith) ∙ p .above x (omega arith);
-    }
+pub block-none : (words : List ℕ) (o s m : ℕ) → BlockSpread words words o s m 0 0
+block-none words o s m = record { spread = spread-none s m (λ j. bitAt words (o + j)); below = λ x h. refl; above = λ x h. refl }
+
+module _ (before now after : List ℕ) (o s n a b : ℕ) (old : BlockSpread before now o s (s + n) a b) where
+  pub block-above : Merged now after o (o + s) 0 n → BlockSpread before after o s (s + n) (a + 1) b
+  block-above m =
+      record {
+        spread =
+            spread-above s (s + n) (λ j. bitAt before (o + j)) a b (λ j. bitAt now (o + j)) (λ j. bitAt after (o + j)) (λ j. bit-at-lt now (o + j)) (old .spread)
+            (merged-above now after o s n m);
+        below = λ x h. m .below x (omega arith) ∙ old .below x h;
+        above = λ x h. m .above x (omega arith) ∙ old .above x h;
+      }
+
+  pub block-below : Merged now after (o + s) o 0 n → BlockSpread before after o s (s + n) a (b + 1)
+  block-below m =
+      record {
+        spread =
+            spread-below s (s + n) (λ j. bitAt before (o + j)) a b (λ j. bitAt now (o + j)) (λ j. bitAt after (o + j)) (λ j. bit-at-lt now (o + j)) (old .spread)
+            (merged-below now after o s n m);
+        below = λ x h. m .below x (omega arith) ∙ old .below x h;
+        above = λ x h. m .above x (omega arith) ∙ old .above x h;
+      }
 
 -- ---- one block after the other
 
@@ -251,7 +233,7 @@ blocks-next before now after s m k old new =
     next : (k + 1) * m ≡ k * m + m
     next = let e : k + 1 ≡ suc k = omega arith in ap (λ (x : ℕ). x * m) e ∙ suc-mul k m
 
-    go : (b : ℕ) → b < k + 1 → (b < k) ⊎ (k ≤ b) → Spread s m 2 2 (λ j. bitAt before (b * m + j)) (λ j. bitAt after (b * m + j))
+    go : (b : ℕ) → b < k + 1 → (b < k) ⊎ (k ≤ b) → SpreadTo s m 2 2 (λ j. bitAt before (b * m + j)) (λ j. bitAt after (b * m + j))
     go b h (inl p) =
         spread-same s m 2 2 (λ j. bitAt before (b * m + j)) (λ j. bitAt now (b * m + j)) (λ j. bitAt before (b * m + j)) (λ j. bitAt after (b * m + j))
         (λ j q. refl) (λ j q. sym (new .below (b * m + j) (omega (arith, suc-mul b m, mul-le-mul-right m p)))) (old .spread b p)

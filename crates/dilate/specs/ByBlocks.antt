@@ -3,9 +3,26 @@
 -- A block is dilated so four times: twice from above, which marks what lies up to 2 below a mark, and twice from below. Assumes nothing.
 use mathlib.Core.Path.{_≡_}
 use mathlib.Core.List.{List}
-use Prim.Native.Nat.{ℕ, _+_, _*_, _≤_, _<_, max}
+use Prim.Native.Nat.{ℕ, _+_, _*_, _/_, _%_, _^_, _≤_, _<_, max}
+use lib.Bits.{bitOr}
+use lib.ListN.{getD, set}
 use Rattle.names.specs.Numbers.{reach}
 use Rattle.words.specs.Words.{bitOf, bitAt}
+
+-- ---- words
+
+-- word k with the bits of v set
+abbrev pub orWord : List ℕ → ℕ → ℕ → List ℕ
+orWord words k v = set words k (bitOr (getD words k 0) v)
+
+-- a word's bits taken together with those s places above, and with those s places below
+abbrev pub aboveWord : ℕ → ℕ → ℕ
+aboveWord s v = bitOr v (v / 2 ^ s)
+
+abbrev pub belowWord : ℕ → ℕ → ℕ
+belowWord s v = bitOr v (v * 2 ^ s % 2 ^ 64)
+
+-- ---- runs of bits
 
 -- v has the bits of words from o on, len of them
 pub record Run (words : List ℕ) (o len v : ℕ) : Type 0 where
@@ -36,21 +53,25 @@ pub record FromBelow (s m : ℕ) (f g : ℕ → ℕ) : Type 0 where
   pub first : (j : ℕ) → j < m → j < s → g j ≡ f j
 
 -- line r has a mark at most a places above its place c and at most b below
-abbrev pub Near : (ℕ → ℕ) → ℕ → ℕ → ℕ → ℕ → ℕ → ℕ → Type 0
-Near f s m a b r c = (k : ℕ) × (k * s + r < m) × (k ≤ c + a) × (c ≤ k + b) × (f (k * s + r) ≡ 1)
+abbrev pub MarkedNear : (ℕ → ℕ) → ℕ → ℕ → ℕ → ℕ → ℕ → ℕ → Type 0
+MarkedNear f s m a b r c = (k : ℕ) × (k * s + r < m) × (k ≤ c + a) × (c ≤ k + b) × (f (k * s + r) ≡ 1)
 
 -- the marks are those near a mark
-pub record Spread (s m a b : ℕ) (f g : ℕ → ℕ) : Type 0 where
-  pub marked-near : (r c : ℕ) → r < s → c * s + r < m → g (c * s + r) ≡ 1 → Near f s m a b r c
-  pub near-marked : (r c : ℕ) → r < s → c * s + r < m → Near f s m a b r c → g (c * s + r) ≡ 1
+pub record SpreadTo (s m a b : ℕ) (f g : ℕ → ℕ) : Type 0 where
+  pub marked-near : (r c : ℕ) → r < s → c * s + r < m → g (c * s + r) ≡ 1 → MarkedNear f s m a b r c
+  pub near-marked : (r c : ℕ) → r < s → c * s + r < m → MarkedNear f s m a b r c → g (c * s + r) ≡ 1
 
--- the block from o on is dilated, and no other bit changes
-pub record BlockDilated (before after : List ℕ) (o s m : ℕ) : Type 0 where
-  pub spread : Spread s m reach reach (λ j. bitAt before (o + j)) (λ j. bitAt after (o + j))
+-- so far in the block from o on, and no other bit changes
+pub record BlockSpread (before after : List ℕ) (o s m a b : ℕ) : Type 0 where
+  pub spread : SpreadTo s m a b (λ j. bitAt before (o + j)) (λ j. bitAt after (o + j))
   pub below : (x : ℕ) → x < o → bitAt after x ≡ bitAt before x
   pub above : (x : ℕ) → o + m ≤ x → bitAt after x ≡ bitAt before x
 
+-- the block is dilated
+abbrev pub BlockDilated : List ℕ → List ℕ → ℕ → ℕ → ℕ → Type 0
+BlockDilated before after o s m = BlockSpread before after o s m reach reach
+
 -- the first k blocks are dilated, and no other bit changes
 pub record BlocksDilated (before after : List ℕ) (s m k : ℕ) : Type 0 where
-  pub spread : (b : ℕ) → b < k → Spread s m reach reach (λ j. bitAt before (b * m + j)) (λ j. bitAt after (b * m + j))
+  pub spread : (b : ℕ) → b < k → SpreadTo s m reach reach (λ j. bitAt before (b * m + j)) (λ j. bitAt after (b * m + j))
   pub above : (x : ℕ) → k * m ≤ x → bitAt after x ≡ bitAt before x

@@ -11,7 +11,7 @@ use lib.ListN.{length, getD, set, length-set}
 use lib.Seq.{getD-set-same, getD-set-other}
 use Rattle.words.specs.Words.{bitOf, bitAt, AreWords}
 use Rattle.words.specs.BitLaws.{below-or-from, same-or-not, bit-suc, bit-zero, zero-bits, bit-shifted, bit-beyond}
-use Rattle.dilate.specs.ByBlocks.{Run, Ored, Merged}
+use Rattle.dilate.specs.ByBlocks.{orWord, Run, Ored, Merged}
 
 -- ---- one of two bits
 
@@ -141,10 +141,6 @@ module _ (words : List ℕ) (o len : ℕ) where
           ap₂ max z (u ∙ next j p (omega arith)) ∙ zero-max (bitAt words (o + j))
 
 -- ---- a run that is set
-
--- word k with the bits of v set
-abbrev pub orWord : List ℕ → ℕ → ℕ → List ℕ
-orWord words k v = set words k (bitOr (getD words k 0) v)
 
 or-word-there : (words : List ℕ) (k v x : ℕ) → k < length words → x / 64 ≡ k → bitAt (orWord words k v) x ≡ max (bitAt words x) (bitOf v (x % 64))
 or-word-there words k v x h e =

@@ -7,8 +7,9 @@ ghost use Rattle.words.specs.Words.{bitOf, entriesOf, Tidy, Holds};
 ghost use Rattle.names.specs.Numbers.{reach};
 ghost use Rattle.dilate.specs.Active.{activeOf};
 ghost use Rattle.dilate.specs.ByAxes.{dilateMiddle, dilateByAxes};
-ghost use Rattle.dilate.specs.ByBlocks.{Run, Ored, Merged, Spread, BlockDilated};
+ghost use Rattle.dilate.specs.ByBlocks.{Run, Ored, Merged, SpreadTo, BlockDilated};
 use grid::Axes;
+use names::REACH;
 
 // The active mask of occupied, in active.
 pub fn dilate(axes: Axes, occupied: &[u64], active: &mut [u64])
@@ -78,22 +79,43 @@ fn dilate_block(mask: &mut [u64], o: usize, stride: usize, rest: usize)
         or_bits(mask, o, stride + rest, marks);
         return;
     }
-    merge_above(mask, o, o + stride, rest);
-    merge_above(mask, o, o + stride, rest);
-    merge_below(mask, o + stride, o, rest);
-    merge_below(mask, o + stride, o, rest);
+    dilate_long(mask, o, stride, rest);
 }
 
-// A block of one word's bits.
+// A block of more than a word's bits: what each mark reaches below it, and then above.
+fn dilate_long(mask: &mut [u64], o: usize, stride: usize, rest: usize)
+    requires { ⌜ (o + (stride + rest) ≤ length (now mask) * 64) × (o + (stride + rest) < 9223372036854775808) ⌝ }
+    ensures { λ r. ⌜ BlockDilated (now (mask .entry)) (now (mask .exit)) o stride (stride + rest) ⌝ }
+{
+    let mut down = 0;
+    while down < REACH {
+        merge_above(mask, o, o + stride, rest);
+        down += 1;
+    }
+    let mut up = 0;
+    while up < REACH {
+        merge_below(mask, o + stride, o, rest);
+        up += 1;
+    }
+}
+
+// A block of at most a word's bits, in the same way.
 fn dilate_word(bits: u64, stride: usize, m: usize) -> u64
     requires { ⌜ (0 < stride) × (stride < m) × (m ≤ 64) × ((j : ℕ) → m ≤ j → bitOf bits j ≡ 0) ⌝ }
-    ensures { λ r. ⌜ Spread stride m reach reach (bitOf bits) (bitOf r) × ((j : ℕ) → m ≤ j → bitOf r j ≡ 0) ⌝ }
+    ensures { λ r. ⌜ SpreadTo stride m reach reach (bitOf bits) (bitOf r) × ((j : ℕ) → m ≤ j → bitOf r j ≡ 0) ⌝ }
 {
-    let above = bits | (bits >> stride);
-    let above2 = above | (above >> stride);
-    let below = above2 | (above2 << stride);
-    let below2 = below | (below << stride);
-    cut(below2, m)
+    let mut marks = bits;
+    let mut down = 0;
+    while down < REACH {
+        marks = marks | (marks >> stride);
+        down += 1;
+    }
+    let mut up = 0;
+    while up < REACH {
+        marks = marks | (marks << stride);
+        up += 1;
+    }
+    cut(marks, m)
 }
 
 // Sets n bits from `at` on where those from `from` on, further up, are set.

@@ -34,6 +34,7 @@ use Rattle.samples.specs.Samples.{densityOf, countOf, sampleCount, sideFrom, si
 use Rattle.occupy.specs.Occupied.{sampledIn, touches, occupiedIn, occupiedEntry, occupiedOf}
 use Rattle.dilate.specs.Active.{activeIn, activeEntry, activeOf}
 use Rattle.marks.specs.Marks.{markedCount}
+use Rattle.words.specs.Words.{packed, wordsOf}
 use Rattle.masks.specs.Masks.{wrongMasks, masksRefusal, activeMaskOf, markedOf}
 use Rattle.lookup.specs.Place.{clamped, clampedCell, betweenOf, cellsFrom, cellsOf, blendOf, blendedOf}
 use Rattle.lookup.specs.Lookup.{badLightCells, lightAtOf}
@@ -95,16 +96,16 @@ sampled =
     let p = pointOf triangleQ u u (Ieee.sub binary32 (Ieee.sub binary32 one32 u) u) in
     sampleCount triangleQ one32 ∷ n ∷ bits (p .x ∷ p .y ∷ p .z ∷ [])
 
--- refusal, both counts, occupied and active after the call, on a grid of 6×1×1 voxels of edge 1 with Q in the first
+-- refusal, both counts, and the word of each mask after the call, on a grid of 6×1×1 voxels of edge 1 with Q in the first
 unfoldable pub masked : List ℕ
 masked =
     let axes = axesOf 6 1 1 in
     let corners = upToCorner (lit 0x40c00000) one32 one32 in
-    let held : List ℕ = replicate 6 9 in
+    let held : List ℕ = 9 ∷ [] in
     let r = masksRefusal axes corners pointsQ held held in
     let a = markedOf r axes corners pointsQ in
     a .refusal ∷ a .occupied ∷ a .active
-    ∷ (unlessRefused r (occupiedOf axes corners pointsQ) held ++ unlessRefused r (activeMaskOf axes corners pointsQ) held)
+    ∷ (unlessRefused r (wordsOf (occupiedOf axes corners pointsQ)) held ++ unlessRefused r (wordsOf (activeMaskOf axes corners pointsQ)) held)
 
 -- ---- light blur: refusal, then the light after the call
 
@@ -148,7 +149,7 @@ computed =
     ∷ figure (passing 13) (0 ∷ 0x39000000 ∷ [])
     ∷ figure (passing 14) (0 ∷ 0 ∷ [])
     ∷ figure sampled (1 ∷ 1 ∷ 0x3f000000 ∷ 0x3f000000 ∷ 0 ∷ [])
-    ∷ figure masked (0 ∷ 1 ∷ 3 ∷ 1 ∷ 0 ∷ 0 ∷ 0 ∷ 0 ∷ 0 ∷ 1 ∷ 1 ∷ 1 ∷ 0 ∷ 0 ∷ 0 ∷ [])
+    ∷ figure masked (0 ∷ 1 ∷ 3 ∷ 1 ∷ 7 ∷ [])
     ∷ figure (blurAnswer (axesOf 1 1 1) (half32 ∷ []) (zero32 ∷ [])) (0 ∷ 0x3e800000 ∷ [])
     ∷ figure (blurAnswer (axesOf 2 1 1) (one32 ∷ zero32 ∷ []) (zero32 ∷ zero32 ∷ [])) (0 ∷ 0x3e800000 ∷ 0x3e800000 ∷ [])
     ∷ figure (looked (lit 0xbe800000)) (0 ∷ 0x3f400000 ∷ [])
@@ -171,7 +172,7 @@ abbrev givens : List Figure → List (List ℕ)
 givens l = map (λ (f : Figure). f .given) l
 
 computed-figures : answers computed ≡ givens computed
-unfolding computed meetAnswer passing sampled masked blurAnswer looked triangleQ pointsQ downFrom stacked sheets upToCorner firstOf unlessRefused fold tab any magnitudeOf largerOf smallerOf toward rootOf addV subV scaleV dotV crossV lengthV edgesOf within upTo outsideV badAxes badCorners badEdges wrongShare wrongScene tooMany badPoints badTriangle badKinds badFrom badUses badMaterials badRay badLights some absentOf solvedOf judgedOf meetOf triangleAt before insertOf withMeet hitsOf passOf transmittanceOf meetRefusal valuesOfTest meetValues wrongScratch transmittanceRefusal lightBlurOf squareAt meanAt meanIn around along wrongBlurLists lightBlurRefusal smallestEdgeOf densityOf countOf sideFrom sideOf shareOf pointOf cellOn indexWithin cellOf sampleCell sampledIn touches occupiedIn occupiedEntry occupiedOf activeIn activeEntry activeOf markedCount wrongMasks masksRefusal clamped clampedCell betweenOf cellsFrom cellsOf blendOf blendedOf badLightCells lightAtOf Ieee.ofBits Ieee.ofFields Ieee.odd Ieee.toBits Ieee.neg Ieee.le Ieee.lt Ieee.eq Ieee.isNan Ieee.add Ieee.sub Ieee.mul Ieee.div Ieee.ofInt Ieee.toUnsigned Ieee.round Ieee.sum Ieee.units Ieee.size Ieee.span Ieee.climb
+unfolding computed meetAnswer passing sampled masked blurAnswer looked triangleQ pointsQ downFrom stacked sheets upToCorner firstOf unlessRefused fold tab any magnitudeOf largerOf smallerOf toward rootOf addV subV scaleV dotV crossV lengthV edgesOf within upTo outsideV badAxes badCorners badEdges wrongShare wrongScene tooMany badPoints badTriangle badKinds badFrom badUses badMaterials badRay badLights some absentOf solvedOf judgedOf meetOf triangleAt before insertOf withMeet hitsOf passOf transmittanceOf meetRefusal valuesOfTest meetValues wrongScratch transmittanceRefusal lightBlurOf squareAt meanAt meanIn around along wrongBlurLists lightBlurRefusal smallestEdgeOf densityOf countOf sideFrom sideOf shareOf pointOf cellOn indexWithin cellOf sampleCell sampledIn touches occupiedIn occupiedEntry occupiedOf activeIn activeEntry activeOf markedCount packed wordsOf wrongMasks masksRefusal clamped clampedCell betweenOf cellsFrom cellsOf blendOf blendedOf badLightCells lightAtOf Ieee.ofBits Ieee.ofFields Ieee.odd Ieee.toBits Ieee.neg Ieee.le Ieee.lt Ieee.eq Ieee.isNan Ieee.add Ieee.sub Ieee.mul Ieee.div Ieee.ofInt Ieee.toUnsigned Ieee.round Ieee.sum Ieee.units Ieee.size Ieee.span Ieee.climb
 computed-figures = refl
 
 bake-figures : answers bakes ≡ givens bakes

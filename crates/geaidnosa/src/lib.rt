@@ -17,6 +17,7 @@ ghost use Rattle.sun.specs.Sun.{SunAnswered};
 ghost use Rattle.spread.specs.Spread.{stage};
 ghost use Rattle.intake.specs.Intake.{inputOf};
 ghost use Rattle.bake.specs.Baked.{Baked};
+ghost use Rattle.join.specs.Join.{Joined};
 ghost use Rattle.lookup.specs.Lookup.{LightLookedUp, CoefficientsLookedUp, PartJudged};
 ghost use Rattle.frames.specs.Frames.{LightsFramed, CoefficientsFramed};
 ghost use Rattle.volume.specs.Volume.{FileAxes, VolumeBytes, VolumeRead, VolumeWritten, FileFigures};
@@ -240,6 +241,18 @@ pub extern "C" fn geaidnosa_bake(
         progress,
         allowance,
     )
+}
+
+#[no_mangle]
+pub extern "C" fn geaidnosa_join(
+    axes: Axes,
+    share: &[u64],
+    unblurred: &[f32],
+    joined: &mut [f32],
+) -> u32
+    ensures { λ r. ⌜ Joined axes (now (share .entry)) (now (unblurred .entry)) (now (joined .entry)) r (now (joined .exit)) ⌝ }
+{
+    join::join(axes, share, unblurred, joined)
 }
 
 // ---- lookups

@@ -52,7 +52,7 @@ exactly : (x y : ℕ) → wrongLength x y ≡ false → x ≡ y
 exactly x y e = eqb-true x y (not-false _ e)
 
 -- the lent lists of n voxels and t triangles are as long as they have to be
-pub record Long (n t skyLength lampsLength activeLength lightsLength volumeLength scratchLength distancesLength placesLength : ℕ) : Type 0 where
+pub record FittingLengths (n t skyLength lampsLength activeLength lightsLength volumeLength scratchLength distancesLength placesLength : ℕ) : Type 0 where
   pub sky : skyLength ≡ skyNumbers
   pub lamps : wrongLamps lampsLength ≡ false
   pub active : activeLength ≡ wordCount n
@@ -63,7 +63,7 @@ pub record Long (n t skyLength lampsLength activeLength lightsLength volumeLengt
   pub places : t ≤ placesLength
 
 pub long : {n t sky lamps active lights volume scratch distances places : ℕ} → wrongLengths n t sky lamps active lights volume scratch distances places ≡ false
-    → Long n t sky lamps active lights volume scratch distances places
+    → FittingLengths n t sky lamps active lights volume scratch distances places
 unfolding wrongLengths
 long h =
     let whole = either _ _ .0 h in

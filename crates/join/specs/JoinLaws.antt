@@ -26,7 +26,7 @@ use Rattle.marks.specs.Marks.{isMarked}
 use Rattle.words.specs.Words.{wordCount, entriesOf, unusedSet, Tidy}
 use Rattle.words.specs.ByWords.{nextFrom}
 use Rattle.words.specs.NextLaws.{next-carries, next-there}
-use Rattle.shares.specs.LaidBelow.{part-long, laid-parts, replaced-below}
+use Rattle.shares.specs.LaidBelow.{voxel-long, laid-parts, replaced-below}
 use Rattle.shares.specs.Shares.{joinedBy}
 use Rattle.shares.specs.SharesLaws.{joined-voxel, length-joined}
 use Rattle.join.specs.Join.{wrongJoinLists, badShare, joinRows, joinRefusal, joinedOf, Joined}
@@ -167,8 +167,8 @@ module _ (n : ℕ) (has : ℕ → Bool) (from to : List Float) where
     chosen-long i j h = go (below i j)
       where
         go : (x : Bool) → length (cond x (voxelPart 16 j from) (voxelPart 16 j to)) ≡ 16
-        go true = part-long 16 n from e j h
-        go false = part-long 16 n to f j h
+        go true = voxel-long 16 n from e j h
+        go false = voxel-long 16 n to f j h
 
     -- whether j lies below i and whether it lies below i + 1 differ at i alone
     below-other : (i j : ℕ) → (j ≡ i → ⊥) → ltb j i ≡ ltb j (i + 1)

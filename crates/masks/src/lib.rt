@@ -13,14 +13,15 @@ pub struct Marked {
     pub active: u64,
 }
 
-// Fills both masks, an entry of 0 or 1 for each voxel whatever stood there, from triangles of nine numbers each, and counts both.
+// Fills both masks, voxel i in bit i % 64 of word i / 64 and every other bit 0 whatever stood there, from triangles of nine numbers each, and counts
+// the marked voxels of both.
 // Answers 0, or 1, 2, 3, 4 or 5, and then writes nothing and counts 0.
 pub fn masks(
     axes: Axes,
     corners: Corners,
     points: &[f32],
-    occupied: &mut [u8],
-    active: &mut [u8],
+    occupied: &mut [u64],
+    active: &mut [u64],
 ) -> Marked
     ensures { λ r. ⌜ MasksFilled axes corners (now (points .entry)) (now (occupied .entry)) (now (active .entry)) r (now (occupied .exit)) (now (active .exit)) ⌝ }
 {
@@ -28,8 +29,9 @@ pub fn masks(
     if refusal == 0 {
         occupy::inner::occupy(axes, corners, points, occupied);
         dilate::inner::dilate(axes, occupied, active);
-        let o = marks::inner::count(occupied);
-        let a = marks::inner::count(active);
+        let n = grid::inner::voxel_count(axes);
+        let o = words::inner::count(occupied, n);
+        let a = words::inner::count(active, n);
         return Marked {
             refusal: 0,
             occupied: o,
@@ -47,8 +49,8 @@ fn masks_refusal(
     axes: Axes,
     corners: Corners,
     points: &[f32],
-    occupied: &[u8],
-    active: &[u8],
+    occupied: &[u64],
+    active: &[u64],
 ) -> u32
     ensures { λ r. ⌜ r ≡ masksRefusal axes corners (now (points .entry)) (now (occupied .entry)) (now (active .entry)) ⌝ }
 {
@@ -70,11 +72,11 @@ fn masks_refusal(
     0
 }
 
-// Whether the points are no multiple of nine, or a mask has not exactly one entry a voxel.
-fn wrong_masks(axes: Axes, points: &[f32], occupied: &[u8], active: &[u8]) -> bool
+// Whether the points are no multiple of nine, or a mask has not exactly as many words as its voxels take.
+fn wrong_masks(axes: Axes, points: &[f32], occupied: &[u64], active: &[u64]) -> bool
     requires { ⌜ AxesWithin axes ⌝ }
     ensures { λ r. ⌜ r ≡ wrongMasks axes (now (points .entry)) (now (occupied .entry)) (now (active .entry)) ⌝ }
 {
-    let n = grid::inner::voxel_count(axes);
-    (points.len() % 9 != 0) | (occupied.len() != n) | (active.len() != n)
+    let count = (grid::inner::voxel_count(axes) + 63) / 64;
+    (points.len() % 9 != 0) | (occupied.len() != count) | (active.len() != count)
 }

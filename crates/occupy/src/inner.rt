@@ -1,40 +1,30 @@
 // The occupied mask: cleared, and then marked at the voxel of every sample of every triangle that is not absent.
 ghost use mathlib.Core.Path.{_≡_};
 ghost use Prim.Native.Nat.{_-_, _/_, _<_, _≤_};
-ghost use lib.ListN.{length, set};
-ghost use Rattle.lists.specs.Fold.{tab};
+ghost use lib.ListN.{length};
 ghost use Rattle.grid.specs.Grid.{voxels, AxesWithin};
+ghost use Rattle.words.specs.Words.{entriesOf, wordCount, Tidy, Holds};
 ghost use Rattle.occupy.specs.Occupied.{occupiedOf};
-ghost use Rattle.occupy.specs.Marking.{unmarked, markRow, markRows, markTriangle, markAll};
+ghost use Rattle.occupy.specs.Marking.{markRow, markRows, markTriangle, markAll};
 use grid::Axes;
 use grid::Corners;
 use vectors::Triangle;
 use vectors::Vec3;
 
 // The occupied mask of the triangles of points, nine numbers each, in occupied.
-pub fn occupy(axes: Axes, corners: Corners, points: &[f32], occupied: &mut [u8])
-    requires { ⌜ AxesWithin axes × (length (now occupied) ≡ voxels axes) ⌝ }
-    ensures { λ r. ⌜ now (occupied .exit) ≡ occupiedOf axes corners (now (points .entry)) ⌝ }
+pub fn occupy(axes: Axes, corners: Corners, points: &[f32], occupied: &mut [u64])
+    requires { ⌜ AxesWithin axes × (length (now occupied) ≡ wordCount (voxels axes)) ⌝ }
+    ensures { λ r. ⌜ Holds (now (occupied .exit)) (voxels axes) (occupiedOf axes corners (now (points .entry))) ⌝ }
 {
-    clear(occupied);
+    words::inner::clear(occupied);
     let edges = grid::inner::edges(corners, axes);
     let e = grid::inner::smallest_edge(edges);
     mark_all(axes, corners.min, edges, e, points, occupied);
 }
 
-fn clear(mask: &mut [u8])
-    ensures { λ r. ⌜ now (mask .exit) ≡ tab unmarked (length (now (mask .entry))) 0 ⌝ }
-{
-    let mut i = 0;
-    while i < mask.len() {
-        mask[i] = 0;
-        i += 1;
-    }
-}
-
-fn mark_all(axes: Axes, low: Vec3, edges: Vec3, e: f32, points: &[f32], occupied: &mut [u8])
-    requires { ⌜ AxesWithin axes ⌝ }
-    ensures { λ r. ⌜ now (occupied .exit) ≡ markAll axes low edges e (now (points .entry)) (now (occupied .entry)) ⌝ }
+fn mark_all(axes: Axes, low: Vec3, edges: Vec3, e: f32, points: &[f32], occupied: &mut [u64])
+    requires { ⌜ AxesWithin axes × Tidy (now occupied) (voxels axes) ⌝ }
+    ensures { λ r. ⌜ Holds (now (occupied .exit)) (voxels axes) (markAll axes low edges e (now (points .entry)) (entriesOf (now (occupied .entry)) (voxels axes))) ⌝ }
 {
     let count = points.len() / 9;
     let mut k = 0;
@@ -51,9 +41,9 @@ fn mark_all(axes: Axes, low: Vec3, edges: Vec3, e: f32, points: &[f32], occupied
     }
 }
 
-fn mark_triangle(axes: Axes, low: Vec3, edges: Vec3, e: f32, t: Triangle, occupied: &mut [u8])
-    requires { ⌜ AxesWithin axes ⌝ }
-    ensures { λ r. ⌜ now (occupied .exit) ≡ markTriangle axes low edges e t (now (occupied .entry)) ⌝ }
+fn mark_triangle(axes: Axes, low: Vec3, edges: Vec3, e: f32, t: Triangle, occupied: &mut [u64])
+    requires { ⌜ AxesWithin axes × Tidy (now occupied) (voxels axes) ⌝ }
+    ensures { λ r. ⌜ Holds (now (occupied .exit)) (voxels axes) (markTriangle axes low edges e t (entriesOf (now (occupied .entry)) (voxels axes))) ⌝ }
 {
     if triangle::inner::absent(t) {
         return;
@@ -62,9 +52,9 @@ fn mark_triangle(axes: Axes, low: Vec3, edges: Vec3, e: f32, t: Triangle, occupi
     mark_rows(axes, low, edges, t, n, occupied);
 }
 
-fn mark_rows(axes: Axes, low: Vec3, edges: Vec3, t: Triangle, n: usize, occupied: &mut [u8])
-    requires { ⌜ AxesWithin axes × (n ≤ 64) ⌝ }
-    ensures { λ r. ⌜ now (occupied .exit) ≡ markRows axes low edges t n (now (occupied .entry)) ⌝ }
+fn mark_rows(axes: Axes, low: Vec3, edges: Vec3, t: Triangle, n: usize, occupied: &mut [u64])
+    requires { ⌜ AxesWithin axes × (n ≤ 64) × Tidy (now occupied) (voxels axes) ⌝ }
+    ensures { λ r. ⌜ Holds (now (occupied .exit)) (voxels axes) (markRows axes low edges t n (entriesOf (now (occupied .entry)) (voxels axes))) ⌝ }
 {
     let mut iu = 0;
     while iu < n {
@@ -80,27 +70,19 @@ fn mark_row(
     t: Triangle,
     n: usize,
     iu: usize,
-    occupied: &mut [u8],
+    occupied: &mut [u64],
 )
-    requires { ⌜ AxesWithin axes × (n ≤ 64) × (iu < n) ⌝ }
-    ensures { λ r. ⌜ now (occupied .exit) ≡ markRow axes low edges t n iu (now (occupied .entry)) ⌝ }
+    requires { ⌜ AxesWithin axes × (n ≤ 64) × (iu < n) × Tidy (now occupied) (voxels axes) ⌝ }
+    ensures { λ r. ⌜ Holds (now (occupied .exit)) (voxels axes) (markRow axes low edges t n iu (entriesOf (now (occupied .entry)) (voxels axes))) ⌝ }
 {
+    let count = grid::inner::voxel_count(axes);
     let mut iv = 0;
     while iv < n - iu {
-        mark(
+        words::inner::mark(
             occupied,
+            count,
             samples::inner::sample_cell(axes, low, edges, t, n, iu, iv),
         );
         iv += 1;
     }
-}
-
-// A 1 at place i, if the mask has that place.
-fn mark(mask: &mut [u8], i: usize)
-    ensures { λ r. ⌜ now (mask .exit) ≡ set (now (mask .entry)) i 1 ⌝ }
-{
-    if mask.len() <= i {
-        return;
-    }
-    mask[i] = 1;
 }

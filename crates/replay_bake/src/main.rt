@@ -391,7 +391,7 @@ fn fits(s: &[u8]) -> bool {
         & replay::fits(s, replay::nth(s, FROM, 3), 1820)
         & replay::fits(s, replay::nth(s, FROM, 4), 1740)
         & replay::fits(s, replay::nth(s, FROM, 5), 80)
-        & replay::fits(s, replay::nth(s, FROM, 6), 520)
+        & replay::fits(s, replay::nth(s, FROM, 6), 32960)
         & replay::fits(s, replay::nth(s, FROM, 7), 520)
         & replay::fits(s, replay::nth(s, FROM, 8), 8320)
         & replay::fits(s, replay::nth(s, FROM, 9), 8320)

@@ -159,11 +159,16 @@ fn fits(s: &[u8]) -> bool {
         & replay::fits(s, replay::nth(s, FROM, 1), 4100)
         & replay::fits(s, replay::nth(s, FROM, 2), 260)
         & replay::fits(s, replay::nth(s, FROM, 3), 1820)
-        & replay::fits(s, replay::nth(s, FROM, 4), 520)
-        & replay::fits(s, replay::nth(s, FROM, 5), 520)
-        & replay::fits(s, replay::nth(s, FROM, 6), 520)
+        & replay::fits(s, replay::nth(s, FROM, 4), 32960)
+        & replay::fits(s, replay::nth(s, FROM, 5), 32900)
+        & replay::fits(s, replay::nth(s, FROM, 6), 32900)
         & replay::fits(s, replay::nth(s, FROM, 7), 4100)
         & replay::fits(s, replay::nth(s, FROM, 8), 8200)
+}
+
+// As many as a grid can have, and some more.
+fn room_for_lights() -> [f32; 32900] {
+    [0.0f32; 32900]
 }
 
 // The arrays are lent in three steps: the scene's first three, the next three, and the rest.
@@ -177,10 +182,10 @@ fn rest(
     active: &mut [u64],
     light: &mut [f32],
 ) -> Tally {
-    let mut scratch = replay::room_for_light();
+    let mut scratch = room_for_lights();
     let mut distances = replay::room_for_distances();
     let mut places = replay::room_for_places();
-    let g = replay::fit(s, replay::nth(s, FROM, 6), 520);
+    let g = replay::fit(s, replay::nth(s, FROM, 6), 32900);
     let h = replay::fit(s, replay::nth(s, FROM, 7), 4100);
     let i = replay::pairs(s, replay::nth(s, FROM, 8), 4100);
     sun(
@@ -201,10 +206,10 @@ fn rest(
 fn middle(s: &[u8], t: Tally, points: &mut [f32], uses: &mut [u32], kinds: &mut [u8]) -> Tally {
     let mut numbers = replay::room_for_numbers();
     let mut active = replay::room_for_mask();
-    let mut light = replay::room_for_light();
+    let mut light = room_for_lights();
     let d = replay::fit(s, replay::nth(s, FROM, 3), 1820);
     let e = replay::mask_words(s, replay::nth(s, FROM, 4), 515);
-    let f = replay::fit(s, replay::nth(s, FROM, 5), 520);
+    let f = replay::fit(s, replay::nth(s, FROM, 5), 32900);
     rest(
         s,
         t,

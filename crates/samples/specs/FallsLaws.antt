@@ -1,17 +1,17 @@
 -- Into which voxel a sample falls, in document 01's words, and that this is what `sampleCell` computes: it gives voxel i exactly when the sample is not
 -- skipped and i's coordinates are the three floors. Assumes nothing.
 use mathlib.Core.Path.{_≡_, refl, sym, ap, _∙_}
-use mathlib.Core.Bool.{Bool, true, false, cond, false≢true}
+use mathlib.Core.Bool.{Bool, true, false, cond, not, false≢true}
 use mathlib.Core.Logic.{_↔_}
 use Prim.Native.Nat.{ℕ, _+_, _-_, _*_, _/_, _^_, _≤_, _<_, min}
 use native.Mathlib.Omega.{arith}
 use native.Mathlib.Nat.{le-mul-of-pos-right, div-mul-le-self, le-div-iff-mul-le, div-lt-iff-lt-mul}
-use lib.Dec.{leb}
+use lib.Dec.{T, leb}
 use lib.IntN.{pos}
 use lib.Ieee as Ieee
 use lib.Ieee.{Float, nan, inf, fin, up, down, toUnsigned, ofBits}
 use lib.Ieee.Fits.{down-pos}
-use borrow.Author.Tests.{ltb-true, ltb-false, lt-ltb, le-ltb, leb-false, lt-leb}
+use borrow.Author.Tests.{ltb-true, ltb-false, lt-ltb, le-ltb, leb-false, le-leb, lt-leb}
 use Rattle.names.specs.Bits.{zero32}
 use Rattle.floats.specs.OrderLaws.{le-not-lt, not-lt-le, le-transitive}
 use Rattle.vectors.specs.declared.Vec3.{Vec3}
@@ -20,6 +20,7 @@ use Rattle.grid.specs.declared.Axes.{Axes}
 use Rattle.grid.specs.Grid.{voxels, indexOf, xOf, yOf, zOf, floatOf, AxesWithin}
 use Rattle.grid.specs.GridLaws.{x-of-index, y-of-index, z-of-index, index-of-coordinates, x-within, y-within, z-within}
 use Rattle.samples.specs.Samples.{sampleRest, samplePoint, edgesAbove, cellOn, indexWithin, cellOf, sampleCell}
+use Rattle.samples.specs.CastLaws.{power, minusOne, below-power, above-minus-one, far-cast}
 use Rattle.samples.specs.WholeOrder.{float-value, value-number, not-infinite, below-whole, above-whole}
 
 -- The floor of f is k: k ≤ f < k + 1
@@ -70,21 +71,32 @@ from-zero f k h p =
     le-transitive zero32 (floatOf k) f
     (not-lt-le zero32 (floatOf k) refl (value-number (floatOf k) k v) (above-whole false 0 (pos 0) (floatOf k) k v ∙ le-ltb (k * 1) (0 * 1) (omega arith))) p
 
-between-cast : (f : Float) (k : ℕ) → k < 2 ^ 24 → Ieee.le zero32 f ≡ true → Ieee.lt f (floatOf k) ≡ false → Ieee.lt f (floatOf (k + 1)) ≡ true → toUnsigned 64 f ≡ k
+-- below a whole number: so is the cast
+below-cast : (f : Float) (n : ℕ) → 1 ≤ n → n ≤ 2 ^ 24 → Ieee.le zero32 f ≡ true → Ieee.lt f (floatOf n) ≡ true → toUnsigned 64 f < n
 unfolding toUnsigned ofBits Ieee.le Ieee.lt Ieee.eq
-between-cast nan k h z l u = absurd (false≢true z)
-between-cast (inf true) k h z l u = absurd (false≢true z)
-between-cast (inf false) k h z l u =
-    absurd (false≢true (sym (not-infinite (floatOf (k + 1)) (k + 1) (float-value (k + 1) (omega arith)) .0) ∙ u))
-between-cast (fin true m e) k h z l u =
-    let a : m * up e + k * down e ≤ 0 = ltb-false _ _ (sym (below-whole true m e (floatOf k) k (float-value k (omega arith))) ∙ l) in
-    omega (arith, le-mul-of-pos-right k (down-pos e))
-between-cast (fin false m e) k h z l u =
-    let a : k * down e ≤ m * up e = ltb-false _ _ (sym (below-whole false m e (floatOf k) k (float-value k (omega arith))) ∙ l) in
-    let b : m * up e < (k + 1) * down e =
-    ltb-true _ _ (sym (below-whole false m e (floatOf (k + 1)) (k + 1) (float-value (k + 1) (omega arith))) ∙ u)
-    in
-    omega (arith, le-div-iff-mul-le (down-pos e) .1 a, div-lt-iff-lt-mul (down-pos e) .1 b)
+below-cast nan n o h z u = absurd (false≢true z)
+below-cast (inf true) n o h z u = absurd (false≢true z)
+below-cast (inf false) n o h z u = absurd (false≢true (sym (not-infinite (floatOf n) n (float-value n h) .0) ∙ u))
+below-cast (fin true m e) n o h z u = omega arith
+below-cast (fin false m e) n o h z u =
+    let b : m * up e < n * down e = ltb-true _ _ (sym (below-whole false m e (floatOf n) n (float-value n h)) ∙ u) in
+    omega (arith, div-lt-iff-lt-mul (down-pos e) .1 b)
+
+-- and where it is not below, nor is the cast
+above-cast : (f : Float) (n : ℕ) → n ≤ 2 ^ 24 → Ieee.le zero32 f ≡ true → Ieee.lt f (floatOf n) ≡ false → n ≤ toUnsigned 64 f
+unfolding toUnsigned ofBits Ieee.le Ieee.lt Ieee.eq
+above-cast nan n h z l = absurd (false≢true z)
+above-cast (inf true) n h z l = absurd (false≢true z)
+above-cast (inf false) n h z l = omega arith
+above-cast (fin true m e) n h z l =
+    let a : m * up e + n * down e ≤ 0 = ltb-false _ _ (sym (below-whole true m e (floatOf n) n (float-value n h)) ∙ l) in
+    omega (arith, le-mul-of-pos-right n (down-pos e))
+above-cast (fin false m e) n h z l =
+    let a : n * down e ≤ m * up e = ltb-false _ _ (sym (below-whole false m e (floatOf n) n (float-value n h)) ∙ l) in
+    omega (arith, le-div-iff-mul-le (down-pos e) .1 a)
+
+between-cast : (f : Float) (k : ℕ) → k < 2 ^ 24 → Ieee.le zero32 f ≡ true → Ieee.lt f (floatOf k) ≡ false → Ieee.lt f (floatOf (k + 1)) ≡ true → toUnsigned 64 f ≡ k
+between-cast f k h z l u = omega (arith, above-cast f k (omega arith) z l, below-cast f (k + 1) (omega arith) (omega arith) z u)
 
 floored-cast : (f : Float) (k : ℕ) → k < 2 ^ 24 → Floored f k → toUnsigned 64 f ≡ k
 floored-cast f k h r = between-cast f k h (from-zero f k (omega arith) (r .least)) (le-not-lt (floatOf k) f (r .least)) (r .most)
@@ -102,6 +114,41 @@ cell-floored f n h l = go (Ieee.le zero32 f) refl l
 floored-cell : (f : Float) (n k : ℕ) → n ≤ 2 ^ 24 → k < n → Floored f k → cellOn f n ≡ k
 unfolding cellOn
 floored-cell f n k h l r = rw (from-zero f k (omega arith) (r .least)) (omega (arith, floored-cast f k (omega arith) r))
+
+-- ---- and to test whether it does, the number need not be cast
+
+pub off-axis : (f : Float) (n : ℕ) → 1 ≤ n → n ≤ 2 ^ 24 → Ieee.le zero32 f ≡ true → leb n (cellOn f n) ≡ not (Ieee.lt f (floatOf n))
+unfolding cellOn
+off-axis f n o h z = rw z (go (Ieee.lt f (floatOf n)) refl)
+  where
+    go : (b : Bool) → Ieee.lt f (floatOf n) ≡ b → leb n (min (toUnsigned 64 f) n) ≡ not b
+    go true e = lt-leb n (min (toUnsigned 64 f) n) (omega (arith, below-cast f n o h z e))
+    go false e = le-leb n (min (toUnsigned 64 f) n) (omega (arith, above-cast f n h z e))
+
+pub off-below : (f : Float) (n : ℕ) → Ieee.le zero32 f ≡ false → leb n (cellOn f n) ≡ true
+unfolding cellOn
+off-below f n z = rw z (le-leb n n (omega arith))
+
+-- a number on an axis: its cast is its cell, and may be taken
+pub record OnAxis (f : Float) (n : ℕ) : Type 0 where
+  pub cell : cellOn f n ≡ toUnsigned 64 f
+  pub within : toUnsigned 64 f < n
+  pub above : T (Ieee.lt minusOne f)
+  pub below : T (Ieee.lt f (power 64))
+
+pub on-axis : (f : Float) (n : ℕ) → n ≤ 2 ^ 24 → leb n (cellOn f n) ≡ false → OnAxis f n
+unfolding cellOn ofBits
+on-axis f n h e = go (Ieee.le zero32 f) refl (leb-false _ _ e)
+  where
+    near : toUnsigned 64 f < n → Ieee.le zero32 f ≡ true → (b : Bool) → Ieee.lt f (power 32) ≡ b → T (Ieee.lt f (power 64))
+    near l z true p = below-power 32 64 (omega arith) f p
+    near l z false p = absurd (omega (arith, far-cast f z p))
+
+    go : (b : Bool) → Ieee.le zero32 f ≡ b → cond b (min (toUnsigned 64 f) n) n < n → OnAxis f n
+    go true z l =
+        let w : toUnsigned 64 f < n = omega arith in
+        record { cell = rw z (omega arith); within = w; above = above-minus-one f z; below = near w z (Ieee.lt f (power 32)) refl }
+    go false z l = absurd (omega arith)
 
 -- ---- and a sample's cell is a voxel's
 

@@ -1,17 +1,17 @@
 // How many samples a triangle has, where they lie, and into which voxel each falls.
 ghost use mathlib.Core.Path.{_≡_};
-ghost use Prim.Native.Nat.{_<_, _≤_, min};
+ghost use Prim.Native.Nat.{_<_, _≤_};
+ghost use lib.Dec.{T, leb};
+ghost use lib.Ieee as Ieee;
 ghost use Rattle.floats.specs.Whole.{ceilingOf};
 ghost use Rattle.grid.specs.Grid.{AxesWithin};
-ghost use Rattle.samples.specs.Samples.{densityOf, countOf, sampleCount, sideOf, shareOf, restOf, pointOf, cellOn, indexWithin, cellOf, sampleCell};
+ghost use Rattle.samples.specs.Samples.{densityOf, countOf, sampleCount, sideOf, shareOf, restOf, pointOf, cellOn, cellOf, sampleCell};
+ghost use Rattle.samples.specs.CastLaws.{power, minusOne};
 use grid::Axes;
 use names::MOST_SAMPLES;
 use names::MOST_TARGET;
 use vectors::Triangle;
 use vectors::Vec3;
-
-// 2^32: whatever is not below it lies past every axis
-const FAR: f32 = 4294967296.0;
 
 // How many samples a triangle has over an edge of e.
 pub fn sample_count(t: Triangle, e: f32) -> usize
@@ -106,53 +106,40 @@ fn point(t: Triangle, u: f32, v: f32, w: f32) -> Vec3
     vectors::add(vectors::add(a, b), c)
 }
 
-// The voxel of a point; the number of voxels where it lies outside the grid.
+// The voxel of a point; the number of voxels where it lies outside the grid. A number is cast only where all three lie on their axes.
 fn cell(axes: Axes, low: Vec3, edges: Vec3, p: Vec3) -> usize
     requires { ⌜ AxesWithin axes ⌝ }
     ensures { λ r. ⌜ r ≡ cellOf axes low edges p ⌝ }
 {
-    let x = cell_on((p.x - low.x) / edges.x, axes.width);
-    let y = cell_on((p.y - low.y) / edges.y, axes.height);
-    let z = cell_on((p.z - low.z) / edges.z, axes.depth);
-    index_within(axes, x, y, z)
+    let x = (p.x - low.x) / edges.x;
+    if off_axis(x, axes.width) {
+        return grid::inner::voxel_count(axes);
+    }
+    let y = (p.y - low.y) / edges.y;
+    if off_axis(y, axes.height) {
+        return grid::inner::voxel_count(axes);
+    }
+    let z = (p.z - low.z) / edges.z;
+    if off_axis(z, axes.depth) {
+        return grid::inner::voxel_count(axes);
+    }
+    grid::inner::index(axes, floored(x), floored(y), floored(z))
 }
 
-fn index_within(axes: Axes, x: usize, y: usize, z: usize) -> usize
-    requires { ⌜ AxesWithin axes ⌝ }
-    ensures { λ r. ⌜ r ≡ indexWithin axes x y z ⌝ }
-{
-    let n = grid::inner::voxel_count(axes);
-    if axes.width <= x {
-        return n;
-    }
-    if axes.height <= y {
-        return n;
-    }
-    if axes.depth <= z {
-        return n;
-    }
-    grid::inner::index(axes, x, y, z)
-}
-
-// The floored cell on an axis of n, or n where that lies outside.
-fn cell_on(f: f32, n: usize) -> usize
-    requires { ⌜ n ≤ 4294967296 ⌝ }
-    ensures { λ r. ⌜ r ≡ cellOn f n ⌝ }
+// Whether f has no cell on an axis of n.
+fn off_axis(f: f32, n: usize) -> bool
+    requires { ⌜ (1 ≤ n) × (n < 65536) ⌝ }
+    ensures { λ r. ⌜ r ≡ leb n (cellOn f n) ⌝ }
 {
     if 0.0 <= f {
-        if f < FAR {
-            return least(std::num::truncating_f32_to_u64(f) as usize, n);
-        }
-        return n;
+        return !(f < grid::inner::float(n));
     }
-    n
+    true
 }
 
-fn least(a: usize, b: usize) -> usize
-    ensures { λ r. ⌜ r ≡ min a b ⌝ }
+fn floored(f: f32) -> usize
+    requires { ⌜ T (Ieee.lt minusOne f) × T (Ieee.lt f (power 64)) ⌝ }
+    ensures { λ r. ⌜ r ≡ Ieee.toUnsigned 64 f ⌝ }
 {
-    if a <= b {
-        return a;
-    }
-    b
+    std::num::truncating_f32_to_u64(f) as usize
 }

@@ -14,7 +14,7 @@ use Rattle.spread.specs.Spread.{Stage, stage, anyActive, unblurred, unbroken, s
 use Rattle.shares.specs.Shares.{Share, Parted}
 use Rattle.join.specs.Join.{Joined}
 use Rattle.blurs.specs.Blurs.{CoefficientsBlurred}
-use Rattle.intake.specs.Intake.{BakeInput, inputOf, voxelNumbers, voxelCount, bakeRefusal}
+use Rattle.intake.specs.Intake.{BakeInput, inputOf, voxelNumbers, voxelCount, activeEntries, bakeRefusal}
 use Rattle.demand.specs.Bake.{bakeOf}
 use Rattle.bake.specs.Results.{Result, lending, Successive, leftBy, refusalsOf, reportedBy, raysBelow}
 
@@ -53,12 +53,16 @@ EachBaked b [] = Unit
 EachBaked b (s ∷ rest) = BakedToEnd b s × EachBaked b rest
 
 module _ (b : BakeInput) where
+  -- whether any voxel is active
+  abbrev pub someActive : Bool
+  someActive = anyActive (isMarked (activeEntries b)) (voxelCount b)
+
   -- whether a share has voxel i
   abbrev pub shareHas : ShareBake → ℕ → Bool
   shareHas s = isMarked (entriesOf (s .mask) (voxelCount b))
 
-  abbrev pub shareOf : ShareBake → Share Float
-  shareOf s = record { has = shareHas s; refusal = bakeRefusal (lending (sharing b (s .mask)) (s .distances) (s .places)) }
+  abbrev pub asShare : ShareBake → Share Float
+  asShare s = record { has = shareHas s; refusal = bakeRefusal (lending (sharing b (s .mask)) (s .distances) (s .places)) }
 
   -- its unblurred volume: scratch has it, and where the share has no voxel the volume, which no mean was taken of
   abbrev pub unblurredOf : ShareBake → List Float
@@ -91,15 +95,13 @@ sharesOf first rest = first ∷ map (λ (j : JoinedShare). j .share) rest
 module _ (b : BakeInput) (first : ShareBake) (rest : List JoinedShare) where
   -- shares of the active voxels of b, baked, and joined onto the first one's unblurred volume
   pub record Shared : Type 0 where
-    pub parted : Parted (bakeOf b) (map (shareOf b) (sharesOf first rest))
+    -- each active voxel stands in exactly one of them, and none has another
+    pub parted : Parted (bakeOf b) (map (asShare b) (sharesOf first rest))
     pub baked : EachBaked b (sharesOf first rest)
     pub joins : JoinedOnto b (unblurredOf b first) rest
 
   abbrev pub allJoined : List Float
   allJoined = lastJoined (unblurredOf b first) rest
-
-  abbrev pub someActive : Bool
-  someActive = anyActive (isMarked (entriesOf (b .active) (voxelCount b))) (voxelCount b)
 
   -- what all calls of all shares reported, added
   abbrev pub allReported : ℕ
@@ -112,18 +114,18 @@ module _ (b : BakeInput) (first : ShareBake) (rest : List JoinedShare) where
     -- what they leave is the unblurred volume of the unbroken bake
     pub joined : allJoined ≡ unblurred (bakeOf b)
     -- where any voxel is active: the blur of that, lent a scratch of its length, is not refused, and volume and scratch are bit for bit the unbroken bake's
-    pub blurred : someActive ≡ true → (scratch : List Float) → length scratch ≡ voxelCount b * voxelNumbers → (r : ℕ) (volume' scratch' : List Float)
+    pub blurred : someActive b ≡ true → (scratch : List Float) → length scratch ≡ voxelCount b * voxelNumbers → (r : ℕ) (volume' scratch' : List Float)
         → CoefficientsBlurred (b .axes) allJoined scratch r volume' scratch'
         → (r ≡ 0) × (stage (voxelCount b) volume' scratch' ≡ unbroken (bakeOf b) scratch)
     -- where none is: what is joined is the unbroken bake's volume, of which no mean is taken, and scratch stays
-    pub unblurred-end : someActive ≡ false → (scratch : List Float) → stage (voxelCount b) allJoined scratch ≡ unbroken (bakeOf b) scratch
+    pub unblurred-end : someActive b ≡ false → (scratch : List Float) → stage (voxelCount b) allJoined scratch ≡ unbroken (bakeOf b) scratch
     -- what all calls of all shares reported adds up to the rays that the definition fires
     pub rays : allReported ≡ raysBelow b (voxelCount b)
 
   -- and so it is bit for bit what results of calls with the whole mask leave, which report as many rays
   pub record AsOne (whole : ShareBake) : Type 0 where
-    pub blurred : someActive ≡ true → (scratch : List Float) → length scratch ≡ voxelCount b * voxelNumbers → (r : ℕ) (volume' scratch' : List Float)
+    pub blurred : someActive b ≡ true → (scratch : List Float) → length scratch ≡ voxelCount b * voxelNumbers → (r : ℕ) (volume' scratch' : List Float)
         → CoefficientsBlurred (b .axes) allJoined scratch r volume' scratch'
         → (volume' ≡ endOf whole .volume) × (scratch' ≡ endOf whole .scratch)
-    pub unblurred-end : someActive ≡ false → allJoined ≡ endOf whole .volume
+    pub unblurred-end : someActive b ≡ false → allJoined ≡ endOf whole .volume
     pub rays : allReported ≡ sum (reportedBy (callsOf whole))

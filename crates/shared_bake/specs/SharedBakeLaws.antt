@@ -32,7 +32,7 @@ use Rattle.bake.specs.Baked.{Baked}
 use Rattle.bake.specs.GoesOn.{accepted-unblurred}
 use Rattle.bake.specs.Results.{Result, handedOn, lending, Successive, allowancesOf, refusalsOf, reportedBy, DemandOfResults}
 use Rattle.bake.specs.ResultsLaws.{demand-of-results}
-use Rattle.shared_bake.specs.SharedBake.{sharing, ShareBake, callsOf, endOf, BakedToEnd, EachBaked, shareHas, shareOf, unblurredOf, JoinedShare, JoinedOnto, lastJoined, sharesOf, Shared, allJoined, someActive, DemandOfShares, AsOne}
+use Rattle.shared_bake.specs.SharedBake.{sharing, ShareBake, callsOf, endOf, BakedToEnd, EachBaked, shareHas, asShare, unblurredOf, JoinedShare, JoinedOnto, lastJoined, sharesOf, Shared, allJoined, someActive, DemandOfShares, AsOne}
 
 -- the sum of one number
 alone : (n : ℕ) → sum (n ∷ []) ≡ n
@@ -80,7 +80,7 @@ share-accepted b mask s a t e =
 
 module _ (b : BakeInput) where
   abbrev overShare : ShareBake → Bake Float
-  overShare s = bakeBy (bakeOf b) (shareOf b s)
+  overShare s = bakeBy (bakeOf b) (asShare b s)
 
   abbrev inputBy : ShareBake → BakeInput
   inputBy s = lending (sharing b (s .mask)) (s .distances) (s .places)
@@ -123,9 +123,9 @@ module _ (b : BakeInput) where
         (record {
           axes-within = axes-within;
           share-tidy = fits (inputBy s) (s .begun) (s .first .allowance) begins .active;
-          unblurred-fits = ap length unblurred-left ∙ length-unblurred (bakeOf b) sized (shareOf b s);
+          unblurred-fits = ap length unblurred-left ∙ length-unblurred (bakeOf b) sized (asShare b s);
           joined-fits = e;
-          unblurred-good = ap badCoefficients unblurred-left ∙ good (shareOf b s);
+          unblurred-good = ap badCoefficients unblurred-left ∙ good (asShare b s);
         })
 
   -- ---- all shares
@@ -135,7 +135,7 @@ module _ (b : BakeInput) where
       → EachBaked b (map (λ (j : JoinedShare). j .share) rest)
       → JoinedOnto b joined rest
       → NoneRefused (map (λ (j : JoinedShare). j .answer) rest)
-      × (lastJoined joined rest ≡ joinedAll (bakeOf b) (map (shareOf b) (map (λ (j : JoinedShare). j .share) rest)) x)
+      × (lastJoined joined rest ≡ joinedAll (bakeOf b) (map (asShare b) (map (λ (j : JoinedShare). j .share) rest)) x)
   unfolding joinedAll
   joins-all joined x e l [] h k = (tt, e)
   joins-all joined x e l (j ∷ rest) h k =
@@ -144,12 +144,12 @@ module _ (b : BakeInput) where
       let has = shareHas b s in
       let left : j .joined ≡ joinedBy voxelNumbers (voxelCount b) has (unblurred (overShare s)) x
       = k .0 .joined-after ∙ sym (given (j .answer) _ joined z) ∙ ap₂ (joinedBy voxelNumbers (voxelCount b) has) (unblurred-left s (h .0)) e in
-      let long = length-joined voxelNumbers (voxelCount b) has (unblurred (overShare s)) x (length-unblurred (bakeOf b) (sized s (h .0)) (shareOf b s)) l in
+      let long = length-joined voxelNumbers (voxelCount b) has (unblurred (overShare s)) x (length-unblurred (bakeOf b) (sized s (h .0)) (asShare b s)) l in
       let r = joins-all (j .joined) _ left long rest (h .1) (k .1) in
       ((z, r .0), r .1)
 
   reported-all : (shares : List ShareBake) → EachBaked b shares
-      → sum (map (λ (s : ShareBake). sum (reportedBy (callsOf s))) shares) ≡ addedOver (λ t. costs (bakeBy (bakeOf b) t) (voxelCount b) 0) (map (shareOf b) shares)
+      → sum (map (λ (s : ShareBake). sum (reportedBy (callsOf s))) shares) ≡ addedOver (λ t. costs (bakeBy (bakeOf b) t) (voxelCount b) 0) (map (asShare b) shares)
   unfolding sum
   reported-all [] h = refl
   reported-all (s ∷ rest) h = ap₂ (λ (x y : ℕ). x + y) (reported s (h .0)) (reported-all rest (h .1))
@@ -171,20 +171,21 @@ module _ (b : BakeInput) (first : ShareBake) (rest : List JoinedShare) (h : Shar
   joined-all : NoneRefused (map (λ (j : JoinedShare). j .answer) rest) × (allJoined b first rest ≡ unblurred (bakeOf b))
   joined-all =
       let z = sized b first one in
-      let r = joins-all b (unblurredOf b first) (unblurred (overShare b first)) (unblurred-left b first one) (length-unblurred (bakeOf b) z (shareOf b first)) rest (h .baked .1) (h .joins) in
-      (r .0, r .1 ∙ all-joined (bakeOf b) z (shareOf b first) (map (shareOf b) (map (λ (j : JoinedShare). j .share) rest)) (h .parted))
+      let r = joins-all b (unblurredOf b first) (unblurred (overShare b first)) (unblurred-left b first one) (length-unblurred (bakeOf b) z (asShare b first)) rest
+      (h .baked .1) (h .joins) in
+      (r .0, r .1 ∙ all-joined (bakeOf b) z (asShare b first) (map (asShare b) (map (λ (j : JoinedShare). j .share) rest)) (h .parted))
 
   -- the bake over all active voxels, as a share
   abbrev everyVoxel : Share Float
   everyVoxel = record { has = bakeOf b .active; refusal = bakeOf b .refusal }
 
   -- how the unbroken bake ends, where any voxel is active and where none is
-  ends-blurred : (scratch : List Float) → someActive b first rest ≡ true
+  ends-blurred : (scratch : List Float) → someActive b ≡ true
       → unbroken (bakeOf b) scratch ≡ stage (voxelCount b) (meanOver (b .axes) (unblurred (bakeOf b))) (unblurred (bakeOf b))
   unfolding unbroken
   ends-blurred scratch t = rw t refl
 
-  ends-unblurred : (scratch : List Float) → someActive b first rest ≡ false → unbroken (bakeOf b) scratch ≡ stage (voxelCount b) (unblurred (bakeOf b)) scratch
+  ends-unblurred : (scratch : List Float) → someActive b ≡ false → unbroken (bakeOf b) scratch ≡ stage (voxelCount b) (unblurred (bakeOf b)) scratch
   unfolding unbroken
   ends-unblurred scratch t = rw t refl
 
@@ -203,18 +204,18 @@ module _ (b : BakeInput) (first : ShareBake) (rest : List JoinedShare) (h : Shar
             let s : scratch' ≡ unblurred (bakeOf b) = p .scratch-after ∙ sym (given r _ _ n) ∙ e in
             (n, ap₂ (stage (voxelCount b)) v s ∙ sym (ends-blurred scratch t));
         unblurred-end = λ t scratch. ap (λ (v : List Float). stage (voxelCount b) v scratch) e ∙ sym (ends-unblurred scratch t);
-        rays = reported-all b (sharesOf first rest) (h .baked) ∙ rays-add-up (bakeOf b) (map (shareOf b) (sharesOf first rest)) (h .parted);
+        rays = reported-all b (sharesOf first rest) (h .baked) ∙ rays-add-up (bakeOf b) (map (asShare b) (sharesOf first rest)) (h .parted);
       }
 
   -- a share of every active voxel is parted
-  whole-parted : (whole : ShareBake) → whole .mask ≡ b .active → Parted (bakeOf b) (shareOf b whole ∷ [])
+  whole-parted : (whole : ShareBake) → whole .mask ≡ b .active → Parted (bakeOf b) (asShare b whole ∷ [])
   unfolding holders
   whole-parted whole e i l = add-zero _ ∙ ap (λ (m : List ℕ). cond {A = ℕ} (isMarked (entriesOf m (voxelCount b)) i) 1 0) e
 
   whole-ended : (whole : ShareBake) → whole .mask ≡ b .active → BakedToEnd b whole → endOf whole ≡ unbroken (bakeOf b) (whole .begun .scratch)
   whole-ended whole e w =
       ended b whole w
-      ∙ same-unbroken (bakeOf b) (sized b first one) (shareOf b whole) (whole .begun .scratch) (λ i l. ap (λ (m : List ℕ). isMarked (entriesOf m (voxelCount b)) i) e)
+      ∙ same-unbroken (bakeOf b) (sized b first one) (asShare b whole) (whole .begun .scratch) (λ i l. ap (λ (m : List ℕ). isMarked (entriesOf m (voxelCount b)) i) e)
 
   pub as-one : (whole : ShareBake) → whole .mask ≡ b .active → BakedToEnd b whole → AsOne b first rest whole
   as-one whole e w =
@@ -226,5 +227,9 @@ module _ (b : BakeInput) (first : ShareBake) (rest : List JoinedShare) (h : Shar
             = d .blurred t scratch l r volume' scratch' p .1 ∙ ends-blurred scratch t ∙ sym (ends-blurred (whole .begun .scratch) t) ∙ sym end in
             (ap (λ (x : Stage Float). x .volume) same, ap (λ (x : Stage Float). x .scratch) same);
         unblurred-end = λ t. ap (λ (x : Stage Float). x .volume) (d .unblurred-end t (whole .begun .scratch) ∙ sym end);
-        rays = d .rays ∙ sym (rays-add-up (bakeOf b) (shareOf b whole ∷ []) (whole-parted whole e)) ∙ sym (reported-all b (whole ∷ []) (w, tt)) ∙ alone (sum (reportedBy (callsOf whole)));
+        rays =
+            d .rays
+            ∙ sym (rays-add-up (bakeOf b) (asShare b whole ∷ []) (whole-parted whole e))
+            ∙ sym (reported-all b (whole ∷ []) (w, tt))
+            ∙ alone (sum (reportedBy (callsOf whole)));
       }

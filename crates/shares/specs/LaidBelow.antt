@@ -57,8 +57,8 @@ module _ {A : Type 0} (size n : ℕ) where
 
   module _ (l : List A) (e : length l ≡ n * size) where
     -- a list of n voxels has each of them
-    pub part-long : (i : ℕ) → i < n → length (voxelPart size i l) ≡ size
-    part-long i h = simp (length-take, length-drop) (omega (arith, suc-mul i size, mul-le-mul-right size h))
+    pub voxel-long : (i : ℕ) → i < n → length (voxelPart size i l) ≡ size
+    voxel-long i h = simp (length-take, length-drop) (omega (arith, suc-mul i size, mul-le-mul-right size h))
 
     parts-from : (k i : ℕ) → i + k ≡ n → laid (λ j. voxelPart size j l) k i ≡ drop (i * size) l
     unfolding laid

@@ -11,7 +11,7 @@ use Rattle.lists.specs.Any.{any-same}
 use Rattle.lists.specs.Laid.{voxelPart, laid-same, length-laid, part-of-laid}
 use Rattle.spread.specs.Spread.{stage, Bake, anyActive, blurred, unblurred, unbroken, actives, costs, sum}
 use Rattle.spread.specs.Demand.{Sized}
-use Rattle.shares.specs.LaidBelow.{part-long, part-below, length-below}
+use Rattle.shares.specs.LaidBelow.{voxel-long, part-below, length-below}
 use Rattle.shares.specs.Shares.{Share, bakeBy, holders, Parted, joinedBy, unblurredIn, joinedAll, addedOver}
 
 -- ---- a join, voxel by voxel, of two lists that have all their voxels
@@ -21,8 +21,8 @@ module _ {A : Type 0} (size count : ℕ) (has : ℕ → Bool) (numbers joined : 
   either-long i h = go (has i)
     where
       go : (x : Bool) → length (cond x (voxelPart size i numbers) (voxelPart size i joined)) ≡ size
-      go true = part-long size count numbers e i h
-      go false = part-long size count joined f i h
+      go true = voxel-long size count numbers e i h
+      go false = voxel-long size count joined f i h
 
   pub joined-voxel : (i : ℕ) → i < count
       → voxelPart size i (joinedBy size count has numbers joined) ≡ cond (has i) (voxelPart size i numbers) (voxelPart size i joined)

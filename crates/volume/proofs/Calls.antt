@@ -13,10 +13,11 @@ use Rattle.grid.specs.declared.Corners.{Corners}
 use Rattle.grid.specs.Grid.{voxels, AxesWithin}
 use Rattle.grid.specs.GridLaws.{voxels-most}
 use Rattle.names.specs.Numbers.{voxelLimit, figuresLimit}
-use Rattle.bytes_le.specs.Bytes.{floatsAt, bytesAt}
-use Rattle.limits.specs.Limits.{badAxes, badGrid}
-use Rattle.limits.specs.LimitsLaws.{axes-row}
+use Rattle.bytes_le.specs.Bytes.{floatsAt, bytesAt, NoneNan}
+use Rattle.limits.specs.Limits.{badAxes, badGrid, badLights, badCoefficients}
+use Rattle.limits.specs.LimitsLaws.{axes-row, either, any-of-three}
 use Rattle.marks.specs.Marks.{markedCount}
+use Rattle.words.specs.Words.{wordCount, entriesOf, wordsOf, unusedSet}
 use Rattle.contents.specs.Contents.{axesAt, offsetAt}
 use Rattle.volume_file.specs.VolumeFile.{voxelsAt, faulty}
 use Rattle.volume_file.specs.VolumeFileLaws.{Accepted, accepted-row, accepted-axes, accepted-laid}
@@ -25,7 +26,7 @@ use Rattle.volume.specs.declared.Head.{Head}
 use Rattle.volume.specs.declared.Needed.{Needed}
 use Rattle.volume.specs.declared.Figures.{Figures}
 use Rattle.volume.specs.Volume.{noHead, headAnswer, fileRefusal, FileAxes, neededRefusal, VolumeBytes, wrongVolumeLists, readRefusal, VolumeRead, wrongBytes, badLists, writeRefusal, VolumeWritten, zeroCount, noFigures, figuresAnswer, figuresRefusal, FileFigures}
-use Rattle.volume.specs.VolumeLaws.{lists-row, BodiesRead}
+use Rattle.volume.specs.VolumeLaws.{lists-row, lights-numbers, coefficients-numbers, BodiesRead}
 use borrow.Author.Tests.{eqb-true, not-false}
 
 -- ---- the judge's word
@@ -67,10 +68,14 @@ read-12 s l v m o f r p q e =
     let h : faulty s ≡ true = sym p ∙ q in
     record { answer = e ∙ rw h refl; light = rw h refl; volume = rw h refl; active = rw h refl; occupied = rw h refl }
 
--- the lengths, by the file's own count
+-- the file's own count
+pub read-count : (s : List ℕ) (a : Axes) (n : ℕ) → a ≡ axesAt s → n ≡ voxels a → n ≡ voxelsAt s
+read-count s a n x y = rw x at y
+
+-- the lengths by it
 counted : (s : List ℕ) (a : Axes) (n : ℕ) (l v : List Float) (m o : List ℕ) (g w : Bool) → a ≡ axesAt s → n ≡ voxels a
     → g ≡ wrongVolumeLists n (length l) (length v) (length m) (length o) → g ≡ w → wrongVolumeLists (voxelsAt s) (length l) (length v) (length m) (length o) ≡ w
-counted s a n l v m o g w x y p q = let z : n ≡ voxelsAt s = rw x at y in rw z at (sym p ∙ q)
+counted s a n l v m o g w x y p q = rw (read-count s a n x y) at (sym p ∙ q)
 
 pub read-3 : (s : List ℕ) (a : Axes) (n : ℕ) (l v : List Float) (m o : List ℕ) (f g : Bool) (r : Head) → f ≡ faulty s → f ≡ false → a ≡ axesAt s → n ≡ voxels a
     → g ≡ wrongVolumeLists n (length l) (length v) (length m) (length o) → g ≡ true → r ≡ noHead 3 → VolumeRead s l v m o r l v m o
@@ -96,15 +101,15 @@ read-0 s a n l v m o f g r l′ v′ m′ o′ p q x y t u e b =
 
 pub read-lengths : (s : List ℕ) (a : Axes) (n : ℕ) (l v : List Float) (m o : List ℕ) (g : Bool) → a ≡ axesAt s → n ≡ voxels a
     → g ≡ wrongVolumeLists n (length l) (length v) (length m) (length o) → g ≡ false
-    → (length l ≡ voxelsAt s) × (length v ≡ voxelsAt s * 16) × (length m ≡ voxelsAt s) × (length o ≡ voxelsAt s)
+    → (length l ≡ voxelsAt s) × (length v ≡ voxelsAt s * 16) × (length m ≡ wordCount (voxelsAt s)) × (length o ≡ wordCount (voxelsAt s))
 read-lengths s a n l v m o g x y p q = lists-row (voxelsAt s) (length l) (length v) (length m) (length o) (counted s a n l v m o g false x y p q)
 
 -- a run that is read, at the place and of the length that are meant
 pub placed-floats : (s : List ℕ) (out : List Float) (off at n m : ℕ) → out ≡ floatsAt s off n → off ≡ at → n ≡ m → out ≡ floatsAt s at m
 placed-floats s out off at n m e f g = e ∙ rw (f, g) refl
 
-pub placed-bytes : (s out : List ℕ) (off at n m : ℕ) → out ≡ bytesAt s off n → off ≡ at → n ≡ m → out ≡ bytesAt s at m
-placed-bytes s out off at n m e f g = e ∙ rw (f, g) refl
+pub placed-mask : (s out : List ℕ) (off at n m : ℕ) → out ≡ wordsOf (bytesAt s off n) → off ≡ at → n ≡ m → out ≡ wordsOf (bytesAt s at m)
+placed-mask s out off at n m e f g = e ∙ rw (f, g) refl
 
 -- ---- the writer
 
@@ -132,16 +137,29 @@ module _ (a : Axes) (c : Corners) (l v : List Float) (m o b : List ℕ) where
   write-bytes h g k w = record { answer = rw (h, g, k, w) refl; bytes = rw (h, g, k, w) refl }
 
   pub write-13 : badAxes a ≡ false → badGrid c a ≡ false → wrongVolumeLists (voxels a) (length l) (length v) (length m) (length o) ≡ false → wrongBytes (voxels a) (length b) ≡ false
-      → badLists l v m o ≡ true → VolumeWritten a c l v m o b 13 b
+      → badLists (voxels a) l v m o ≡ true → VolumeWritten a c l v m o b 13 b
   unfolding writeRefusal firstOf unlessRefused
   write-13 h g k w x = record { answer = rw (h, g, k, w, x) refl; bytes = rw (h, g, k, w, x) refl }
 
   pub write-0 : (b′ : List ℕ) → badAxes a ≡ false → badGrid c a ≡ false → wrongVolumeLists (voxels a) (length l) (length v) (length m) (length o) ≡ false → wrongBytes (voxels a) (length b) ≡ false
-      → badLists l v m o ≡ false → b′ ≡ fileBytes a c l v m o → VolumeWritten a c l v m o b 0 b′
+      → badLists (voxels a) l v m o ≡ false → b′ ≡ fileBytes a c l v (entriesOf m (voxels a)) (entriesOf o (voxels a)) → VolumeWritten a c l v m o b 0 b′
   unfolding writeRefusal firstOf unlessRefused
   write-0 b′ h g k w x e = record { answer = rw (h, g, k, w, x) refl; bytes = e ∙ rw (h, g, k, w, x) refl }
 
+pub of-words : (n l v m o : ℕ) (g : Bool) → g ≡ wrongVolumeLists n l v m o → g ≡ false → (m ≡ wordCount n) × (o ≡ wordCount n)
+of-words n l v m o g p q = let r = lists-row n l v m o (sym p ∙ q) in (r .2, r .3)
+
 -- what the writer's tests leave known
+pub numbers : (n : ℕ) (l v : List Float) (m o : List ℕ) (g : Bool) → g ≡ badLists n l v m o → g ≡ false → NoneNan l × NoneNan v
+unfolding badLists
+numbers n l v m o g p q =
+    let e = either _ (unusedSet o n) .0 (sym p ∙ q) in
+    let t = any-of-three (badLights l) (badCoefficients v) (unusedSet m n) .0 (e .0) in
+    (lights-numbers l (t .0), coefficients-numbers v (t .1))
+
+pub of-written : (a : Axes) (n : ℕ) (l v : List Float) (m o : List ℕ) (g w : Bool) → n ≡ voxels a → g ≡ badLists n l v m o → g ≡ w → badLists (voxels a) l v m o ≡ w
+of-written a n l v m o g w e p q = rw e at (sym p ∙ q)
+
 pub lent : (a : Axes) (n l v m o b : ℕ) → badAxes a ≡ false → n ≡ voxels a → wrongVolumeLists n l v m o ≡ false → wrongBytes n b ≡ false → Lent a n l v m o b
 unfolding wrongBytes
 lent a n l v m o b h e k w =
@@ -160,7 +178,7 @@ lent a n l v m o b h e k w =
 
 module _ (s : List ℕ) (k : Accepted s) (a : Axes) (n : ℕ) (x : a ≡ axesAt s) (y : n ≡ voxels a) where
   count : n ≡ voxelsAt s
-  count = rw x at y
+  count = read-count s a n x y
 
   pub room-light : (off : ℕ) → off ≡ offsetAt s 0 → off + n * 4 ≤ length s
   room-light off e = let d = accepted-laid s k in omega (arith, e, count, d .light, d .within)

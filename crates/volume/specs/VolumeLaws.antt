@@ -1,17 +1,23 @@
 -- What the public calls' records say: two results of one call are equal; and the places that an accepted file has room for.
 use mathlib.Core.Path.{_≡_, refl, sym, _∙_}
-use mathlib.Core.Bool.{false, not}
+use mathlib.Core.Bool.{true, false, not}
 use mathlib.Core.List.{List}
-use Prim.Native.Nat.{ℕ, _+_, _*_, _≤_}
+use Prim.Native.Nat.{ℕ, _+_, _*_, _<_, _≤_}
 use native.Mathlib.Omega.{arith}
 use borrow.Author.Tests.{eqb-true, not-false}
 use lib.Dec.{eqb}
-use lib.ListN.{length}
-use lib.Ieee.{Float}
+use lib.ListN.{length, getD}
+use lib.Ieee as Ieee
+use lib.Ieee.Scale.{finite}
+use lib.Ieee.{Float, nan}
+use Rattle.names.specs.Numbers.{lightLimit, coefficientLimit}
+use Rattle.floats.specs.FiniteLaws.{finite-number}
 use Rattle.grid.specs.declared.Axes.{Axes}
 use Rattle.grid.specs.declared.Corners.{Corners}
-use Rattle.limits.specs.Limits.{wrongLength}
-use Rattle.limits.specs.LimitsLaws.{either, any-of-three}
+use Rattle.limits.specs.Limits.{within, wrongLength, badLights, badCoefficients}
+use Rattle.limits.specs.LimitsLaws.{either, any-of-three, limit-finite, lights-row, coefficients-row}
+use Rattle.words.specs.Words.{wordCount, wordsOf}
+use Rattle.bytes_le.specs.Bytes.{NoneNan}
 use Rattle.contents.specs.Contents.{offsetAt}
 use Rattle.contents.specs.ContentsLaws.{Laid}
 use Rattle.volume_file.specs.VolumeFile.{voxelsAt, lightAt, volumeAt, activeAt, occupiedAt}
@@ -44,35 +50,56 @@ volume-written-one a c l v m o b r t b₁ b₂ p q = (p .answer ∙ sym (q .answ
 
 -- ---- what row 3 means
 
-pub lists-row : (n l v m o : ℕ) → wrongVolumeLists n l v m o ≡ false → (l ≡ n) × (v ≡ n * 16) × (m ≡ n) × (o ≡ n)
+pub lists-row : (n l v m o : ℕ) → wrongVolumeLists n l v m o ≡ false → (l ≡ n) × (v ≡ n * 16) × (m ≡ wordCount n) × (o ≡ wordCount n)
 unfolding wrongVolumeLists
 lists-row n l v m o e =
-    let p = either _ (wrongLength o n) .0 e in
-    let q = any-of-three (wrongLength l n) (wrongLength v (n * 16)) (wrongLength m n) .0 (p .0) in
-    (exact l n (q .0), exact v (n * 16) (q .1), exact m n (q .2), exact o n (p .1))
+    let p = either _ (wrongLength o (wordCount n)) .0 e in
+    let q = any-of-three (wrongLength l n) (wrongLength v (n * 16)) (wrongLength m (wordCount n)) .0 (p .0) in
+    (exact l n (q .0), exact v (n * 16) (q .1), exact m (wordCount n) (q .2), exact o (wordCount n) (p .1))
   where
     exact : (x y : ℕ) → not (eqb x y) ≡ false → x ≡ y
     exact x y f = eqb-true x y (not-false _ f)
 
+-- ---- what row 13 means for the writer: no NaN
+
+pub light-limit-finite : finite lightLimit ≡ true
+unfolding Ieee.ofBits
+light-limit-finite = refl
+
+pub coefficient-limit-finite : finite coefficientLimit ≡ true
+unfolding Ieee.ofBits
+coefficient-limit-finite = refl
+
+-- numbers within a finite bound are no NaN
+pub within-numbers : (b : Float) → finite b ≡ true → (l : List Float) → ((i : ℕ) → i < length l → within b (getD l i nan) ≡ true) → NoneNan l
+within-numbers b f l w i h = finite-number (getD l i nan) (limit-finite b (getD l i nan) f (w i h))
+
+pub lights-numbers : (l : List Float) → badLights l ≡ false → NoneNan l
+lights-numbers l e = within-numbers lightLimit light-limit-finite l (lights-row l .0 e)
+
+pub coefficients-numbers : (v : List Float) → badCoefficients v ≡ false → NoneNan v
+coefficients-numbers v e = within-numbers coefficientLimit coefficient-limit-finite v (coefficients-row v .0 e)
+
 -- ---- room for the lists that are read
 
 -- lists of these lengths are read from within the file
-pub record Room (s : List ℕ) (l v m o : ℕ) : Type 0 where
+pub record Room (s : List ℕ) (n l v m o : ℕ) : Type 0 where
+  pub count : n ≡ voxelsAt s
   pub contents : 72 ≤ length s
   pub lights : l ≡ voxelsAt s
   pub light : offsetAt s 0 + l * 4 ≤ length s
   pub coefficients : v ≡ voxelsAt s * 16
   pub volume : offsetAt s 1 + v * 4 ≤ length s
-  pub actives : m ≡ voxelsAt s
-  pub active : offsetAt s 2 + m ≤ length s
-  pub occupieds : o ≡ voxelsAt s
-  pub occupied : offsetAt s 3 + o ≤ length s
+  pub actives : m ≡ wordCount (voxelsAt s)
+  pub active : offsetAt s 2 + voxelsAt s ≤ length s
+  pub occupieds : o ≡ wordCount (voxelsAt s)
+  pub occupied : offsetAt s 3 + voxelsAt s ≤ length s
 
-pub accepted-room : (s : List ℕ) → Accepted s → (l v m o : ℕ) → l ≡ voxelsAt s → v ≡ voxelsAt s * 16 → m ≡ voxelsAt s → o ≡ voxelsAt s → Room s l v m o
-accepted-room s a l v m o p q r t =
-    let n : ℕ = voxelsAt s in
-    let d : Laid s n = accepted-laid s a in
+pub accepted-room : (s : List ℕ) → Accepted s → (n l v m o : ℕ) → n ≡ voxelsAt s → l ≡ voxelsAt s → v ≡ voxelsAt s * 16 → m ≡ wordCount (voxelsAt s) → o ≡ wordCount (voxelsAt s) → Room s n l v m o
+accepted-room s a n l v m o c p q r t =
+    let d : Laid s (voxelsAt s) = accepted-laid s a in
     record {
+      count = c;
       contents = omega (arith, a .headed .contents, a .headed .least);
       lights = p;
       light = omega (arith, d .light, d .within);
@@ -87,5 +114,5 @@ accepted-room s a l v m o p q r t =
 pub record BodiesRead (s : List ℕ) (l v : List Float) (m o : List ℕ) : Type 0 where
   pub light : l ≡ lightAt s
   pub volume : v ≡ volumeAt s
-  pub active : m ≡ activeAt s
-  pub occupied : o ≡ occupiedAt s
+  pub active : m ≡ wordsOf (activeAt s)
+  pub occupied : o ≡ wordsOf (occupiedAt s)

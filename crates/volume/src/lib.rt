@@ -7,6 +7,7 @@ ghost use lib.ListN.{length};
 ghost use Rattle.names.specs.Numbers.{voxelLimit};
 ghost use Rattle.bytes_le.specs.Bytes.{f32At, floatsAt, bytesAt};
 ghost use Rattle.marks.specs.Marks.{markedCount};
+ghost use Rattle.words.specs.Words.{wordCount, wordsOf};
 ghost use Rattle.volume_file.specs.VolumeFile.{lightAt, volumeAt, activeAt, occupiedAt};
 ghost use Rattle.volume_file.specs.VolumeFileLaws.{Accepted};
 ghost use Rattle.volume.specs.Volume.{noHead, headAnswer, noFigures, figuresAnswer, zeroCount, isZero, wrongVolumeLists, wrongBytes, badLists, FileAxes, VolumeBytes, VolumeRead, VolumeWritten, FileFigures};
@@ -75,8 +76,8 @@ pub fn read_volume(
     bytes: &[u8],
     light: &mut [f32],
     volume: &mut [f32],
-    occupied: &mut [u8],
-    active: &mut [u8],
+    occupied: &mut [u64],
+    active: &mut [u64],
 ) -> Head
     ensures { λ r. ⌜ VolumeRead (now (bytes .entry)) (now (light .entry)) (now (volume .entry)) (now (active .entry)) (now (occupied .entry)) r (now (light .exit)) (now (volume .exit)) (now (active .exit)) (now (occupied .exit)) ⌝ }
 {
@@ -87,7 +88,7 @@ pub fn read_volume(
     if wrong_lists(n, light.len(), volume.len(), active.len(), occupied.len()) {
         return no_head(3);
     }
-    read_bodies(bytes, light, volume, active, occupied);
+    read_bodies(bytes, n, light, volume, active, occupied);
     head_of(bytes)
 }
 
@@ -97,8 +98,8 @@ pub fn write_volume(
     corners: Corners,
     light: &[f32],
     volume: &[f32],
-    occupied: &[u8],
-    active: &[u8],
+    occupied: &[u64],
+    active: &[u64],
     bytes: &mut [u8],
 ) -> u32
     ensures { λ r. ⌜ VolumeWritten axes corners (now (light .entry)) (now (volume .entry)) (now (active .entry)) (now (occupied .entry)) (now (bytes .entry)) r (now (bytes .exit)) ⌝ }
@@ -116,7 +117,7 @@ pub fn write_volume(
     if wrong_bytes(n, bytes.len()) {
         return 3;
     }
-    if bad_lists(light, volume, active, occupied) {
+    if bad_lists(n, light, volume, active, occupied) {
         return 13;
     }
     volume_write::inner::put_file(bytes, axes, n, corners, light, volume, active, occupied);
@@ -153,18 +154,28 @@ fn head_of(bytes: &[u8]) -> Head
 
 fn read_bodies(
     bytes: &[u8],
+    n: usize,
     light: &mut [f32],
     volume: &mut [f32],
-    active: &mut [u8],
-    occupied: &mut [u8],
+    active: &mut [u64],
+    occupied: &mut [u64],
 )
-    requires { ⌜ Room (now bytes) (length (now light)) (length (now volume)) (length (now active)) (length (now occupied)) ⌝ }
+    requires { ⌜ Room (now bytes) n (length (now light)) (length (now volume)) (length (now active)) (length (now occupied)) ⌝ }
     ensures { λ _. ⌜ BodiesRead (now (bytes .entry)) (now (light .exit)) (now (volume .exit)) (now (active .exit)) (now (occupied .exit)) ⌝ }
 {
     bytes_le::inner::floats_into(bytes, volume_file::inner::offset_at(bytes, 0), light);
     bytes_le::inner::floats_into(bytes, volume_file::inner::offset_at(bytes, 1), volume);
-    bytes_le::inner::bytes_into(bytes, volume_file::inner::offset_at(bytes, 2), active);
-    bytes_le::inner::bytes_into(bytes, volume_file::inner::offset_at(bytes, 3), occupied);
+    mask_into(bytes, volume_file::inner::offset_at(bytes, 2), n, active);
+    mask_into(bytes, volume_file::inner::offset_at(bytes, 3), n, occupied);
+}
+
+// Fills `words` with the mask that has the n bytes from `at` on for its entries.
+fn mask_into(bytes: &[u8], at: usize, n: usize, words: &mut [u64])
+    requires { ⌜ (at + n ≤ length (now bytes)) × (length (now words) ≡ wordCount n) ⌝ }
+    ensures { λ _. ⌜ now (words .exit) ≡ wordsOf (bytesAt (now (bytes .entry)) at n) ⌝ }
+{
+    let end = at + n;
+    words::inner::pack(&bytes[at..end], words);
 }
 
 fn figures_of(bytes: &[u8]) -> Figures
@@ -225,7 +236,8 @@ fn wrong_lists(n: usize, light: usize, volume: usize, active: usize, occupied: u
     requires { ⌜ n ≤ voxelLimit ⌝ }
     ensures { λ r. ⌜ r ≡ wrongVolumeLists n light volume active occupied ⌝ }
 {
-    (light != n) | (volume != n * 16) | (active != n) | (occupied != n)
+    let words = (n + 63) / 64;
+    (light != n) | (volume != n * 16) | (active != words) | (occupied != words)
 }
 
 fn wrong_bytes(n: usize, bytes: usize) -> bool
@@ -235,13 +247,14 @@ fn wrong_bytes(n: usize, bytes: usize) -> bool
     bytes != 96 + n * 70
 }
 
-fn bad_lists(light: &[f32], volume: &[f32], active: &[u8], occupied: &[u8]) -> bool
-    ensures { λ r. ⌜ r ≡ badLists (now (light .entry)) (now (volume .entry)) (now (active .entry)) (now (occupied .entry)) ⌝ }
+fn bad_lists(n: usize, light: &[f32], volume: &[f32], active: &[u64], occupied: &[u64]) -> bool
+    requires { ⌜ (length (now active) ≡ wordCount n) × (length (now occupied) ≡ wordCount n) ⌝ }
+    ensures { λ r. ⌜ r ≡ badLists n (now (light .entry)) (now (volume .entry)) (now (active .entry)) (now (occupied .entry)) ⌝ }
 {
     let l = limits::inner::bad_lights(light);
     let v = limits::inner::bad_coefficients(volume);
-    let a = limits::inner::bad_mask(active);
-    let o = limits::inner::bad_mask(occupied);
+    let a = words::inner::unused_set(active, n);
+    let o = words::inner::unused_set(occupied, n);
     l | v | a | o
 }
 

@@ -1,6 +1,6 @@
--- A scan of numbers for one that lies outside ±b: what is left at i, by what is left at i + 1.
+-- A scan of numbers for one that lies outside ±b: what was found, or what is left at i.
 use Prim.Native.Nat.{ℕ, _+_, _-_, _<_, _≤_}
-use mathlib.Core.Path.{_≡_, refl, sym, _∙_}
+use mathlib.Core.Path.{_≡_, refl, _∙_}
 use mathlib.Core.Bool.{Bool, true, false, _||_}
 use native.Mathlib.Omega.{arith}
 use lib.Ieee.{Float}
@@ -8,22 +8,20 @@ use Rattle.lists.specs.Fold.{ahead, tab}
 use Rattle.lists.specs.Some.{some}
 use Rattle.limits.specs.Limits.{outside}
 
-module _ (f : ℕ → Float) (b : Float) (n i : ℕ) (whole : Bool) where
-  step : i < n → some (outside b) (tab f (n - i) i) ≡ outside b (f i) || some (outside b) (tab f (n - (i + 1)) (i + 1))
+regroup : (a b c : Bool) → a || (b || c) ≡ (a || b) || c
+regroup true b c = refl
+regroup false b c = refl
+
+module _ (f : ℕ → Float) (b : Float) (n i : ℕ) (any : Bool) where
+  pub more : (x : Float) (r : Bool) → i < n → x ≡ f i → r ≡ outside b x
+      → any || some (outside b) (tab f (n - i) i) ≡ (any || r) || some (outside b) (tab f (n - (i + 1)) (i + 1))
   unfolding some tab
-  step h = rw (ahead i n h) refl
+  more x r h e p = rw (ahead i n h, p, e) (regroup any (outside b (f i)) (some (outside b) (tab f (n - (i + 1)) (i + 1))))
 
-  pub found : (x : Float) (r : Bool) → i < n → x ≡ f i → r ≡ outside b x → r ≡ true → some (outside b) (tab f (n - i) i) ≡ whole → true ≡ whole
-  found x r h e p q w =
-      let o : outside b (f i) ≡ true = rw e at (sym p ∙ q) in
-      sym (step h ∙ rw o refl) ∙ w
-
-  pub next : (x : Float) (r : Bool) → i < n → x ≡ f i → r ≡ outside b x → r ≡ false → some (outside b) (tab f (n - i) i) ≡ whole
-      → some (outside b) (tab f (n - (i + 1)) (i + 1)) ≡ whole
-  next x r h e p q w =
-      let o : outside b (f i) ≡ false = rw e at (sym p ∙ q) in
-      sym (step h ∙ rw o refl) ∙ w
-
-  pub none : n ≤ i → some (outside b) (tab f (n - i) i) ≡ whole → false ≡ whole
+  pub all : n ≤ i → any || some (outside b) (tab f (n - i) i) ≡ any
   unfolding some tab
-  none h w = let z : n - i ≡ 0 = omega arith in rw z at w
+  all h = let z : n - i ≡ 0 = omega arith in rw z (none any)
+    where
+      none : (a : Bool) → a || false ≡ a
+      none true = refl
+      none false = refl

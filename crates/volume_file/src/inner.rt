@@ -70,19 +70,18 @@ fn bad_bodies(s: &[u8], axes: Axes, n: usize) -> bool
     grid | light | volume | active | occupied
 }
 
-// Whether one of the n numbers from `at` on is not finite or beyond ±b.
+// Whether one of the n numbers from `at` on is not finite or beyond ±b. It goes to the end, so that several are tested at once.
 fn bad_floats(s: &[u8], at: usize, n: usize, b: f32) -> bool
     requires { ⌜ at + n * 4 ≤ length (now s) ⌝ }
     ensures { λ r. ⌜ r ≡ some (outside b) (floatsAt (now (s .entry)) at n) ⌝ }
 {
+    let mut any = false;
     let mut i: usize = 0;
     while i < n {
-        if limits::inner::out_of(b, bytes_le::inner::f32_at(s, at + i * 4)) {
-            return true;
-        }
+        any = any | limits::inner::out_of(b, bytes_le::inner::f32_at(s, at + i * 4));
         i += 1;
     }
-    false
+    any
 }
 
 // Whether one of the n bytes from `at` on is not 0 or 1.

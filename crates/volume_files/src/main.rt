@@ -69,17 +69,18 @@ fn again(bytes: &[u8]) {
         io::write_all(1, b"too many\n");
         return;
     }
+    let words = (n + 63) / 64;
     let mut light = [0.0f32; 1024];
     let mut volume = [0.0f32; 16384];
-    let mut occupied = [0u8; 1024];
-    let mut active = [0u8; 1024];
+    let mut occupied = [0u64; 16];
+    let mut active = [0u64; 16];
     let mut out = [0u8; 71845];
     rewrite(
         bytes,
         &mut light[..n],
         &mut volume[..n * 16],
-        &mut occupied[..n],
-        &mut active[..n],
+        &mut occupied[..words],
+        &mut active[..words],
         &mut out[..long],
     );
 }
@@ -88,8 +89,8 @@ fn rewrite(
     bytes: &[u8],
     light: &mut [f32],
     volume: &mut [f32],
-    occupied: &mut [u8],
-    active: &mut [u8],
+    occupied: &mut [u64],
+    active: &mut [u64],
     out: &mut [u8],
 ) {
     let head = volume::read_volume(bytes, light, volume, occupied, active);

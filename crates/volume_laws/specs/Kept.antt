@@ -14,19 +14,20 @@ use lib.Ieee as Ieee
 use lib.Ieee.Scale.{finite}
 use lib.Ieee.{Float, nan, isNan}
 use Rattle.floats.specs.FiniteLaws.{finite-number}
-use Rattle.names.specs.Numbers.{lightLimit, coefficientLimit, pointLimit}
+use Rattle.names.specs.Numbers.{pointLimit}
 use Rattle.lists.specs.Fold.{tab, length-tab, getD-tab}
 use Rattle.grid.specs.Grid.{voxels}
-use Rattle.bytes_le.specs.Bytes.{word, u16At, u32At, f32At, floatsAt, bytesAt, bytes2, bytes4, encode}
+use Rattle.bytes_le.specs.Bytes.{word, u16At, u32At, f32At, floatsAt, bytesAt, bytes2, bytes4, encode, NoneNan}
 use Rattle.bytes_le.specs.BytesLaws.{half-bytes, word-bytes}
 use Rattle.bytes_le.specs.RoundTrip.{AllBytes, one-cons, floats-kept}
 use Rattle.limits.specs.Limits.{within}
-use Rattle.limits.specs.LimitsLaws.{limit-finite, lights-row, coefficients-row, grid-row, vector-row}
+use Rattle.limits.specs.LimitsLaws.{limit-finite, grid-row, vector-row}
 use Rattle.contents.specs.Contents.{mark, marked, axesAt, entriesAt, entryKindAt, offsetAt, lengthAt, contentsFrom, headOf, entryOf, bodiesFrom}
 use Rattle.contents.specs.ContentsLaws.{Laid}
 use Rattle.volume_file.specs.VolumeFile.{voxelsAt, lightAt, volumeAt, activeAt, occupiedAt, cornersAt}
 use Rattle.volume_file.specs.VolumeFileLaws.{Accepted, accepted-laid}
 use Rattle.volume_write.specs.FileBytes.{contentsOf, cornersList, fileBytes}
+use Rattle.volume.specs.VolumeLaws.{lights-numbers, coefficients-numbers}
 
 -- ---- parts of a list, one after another
 
@@ -106,27 +107,17 @@ contents-at s n h l e d =
 
 -- ---- the bodies
 
-light-finite : finite lightLimit ≡ true
-unfolding Ieee.ofBits
-light-finite = refl
-
-coefficient-finite : finite coefficientLimit ≡ true
-unfolding Ieee.ofBits
-coefficient-finite = refl
-
 point-finite : finite pointLimit ≡ true
 unfolding Ieee.ofBits
 point-finite = refl
 
--- numbers within a finite bound are no NaN
-run-numbers : (s : List ℕ) (at n : ℕ) (b : Float) → finite b ≡ true
-    → ((i : ℕ) → i < length (floatsAt s at n) → within b (getD (floatsAt s at n) i nan) ≡ true)
-    → (i : ℕ) → i < n → isNan (f32At s (at + i * 4)) ≡ false
-run-numbers s at n b f w i h =
+-- a run without NaN
+run-numbers : (s : List ℕ) (at n : ℕ) → NoneNan (floatsAt s at n) → (i : ℕ) → i < n → isNan (f32At s (at + i * 4)) ≡ false
+run-numbers s at n w i h =
     let l : i < length (floatsAt s at n) = rw (length-tab (λ j. f32At s (at + j * 4)) n 0) h in
     let e : getD (floatsAt s at n) i nan ≡ f32At s (at + i * 4) =
     getD-tab (λ j. f32At s (at + j * 4)) n 0 i nan h ∙ ap (λ (j : ℕ). f32At s (at + j * 4)) (zero-add i) in
-    finite-number (f32At s (at + i * 4)) (limit-finite b (f32At s (at + i * 4)) f (rw e at (w i l)))
+    rw e at (w i l)
 
 below-six : (P : ℕ → Type 0) → P 0 → P 1 → P 2 → P 3 → P 4 → P 5 → (i : ℕ) → i < 6 → P i
 below-six P a b c d e f zero h = a
@@ -191,10 +182,10 @@ kept-back s h a e =
     let o₄ : offsetAt s 4 ≡ 72 + n * 70 = d .corners ∙ ap (λ (x : ℕ). x + n * 70) b in
     let m : n * 16 * 4 ≡ n * 64 = omega arith in
     let light : encode (lightAt s) ≡ bytesAt s 72 (n * 4) =
-    floats-kept s h n (offsetAt s 0) (omega (arith, o₀, len)) (run-numbers s (offsetAt s 0) n lightLimit light-finite (lights-row (lightAt s) .0 (a .lights)))
+    floats-kept s h n (offsetAt s 0) (omega (arith, o₀, len)) (run-numbers s (offsetAt s 0) n (lights-numbers (lightAt s) (a .lights)))
     ∙ ap (λ (x : ℕ). bytesAt s x (n * 4)) o₀ in
     let volume : encode (volumeAt s) ≡ bytesAt s (72 + n * 4) (n * 64) =
-    floats-kept s h (n * 16) (offsetAt s 1) (omega (arith, o₁, len)) (run-numbers s (offsetAt s 1) (n * 16) coefficientLimit coefficient-finite (coefficients-row (volumeAt s) .0 (a .coefficients)))
+    floats-kept s h (n * 16) (offsetAt s 1) (omega (arith, o₁, len)) (run-numbers s (offsetAt s 1) (n * 16) (coefficients-numbers (volumeAt s) (a .coefficients)))
     ∙ rw (o₁, m) refl in
     let active : activeAt s ≡ bytesAt s (72 + n * 68) n = rw o₂ refl in
     let occupied : occupiedAt s ≡ bytesAt s (72 + n * 69) n = rw o₃ refl in

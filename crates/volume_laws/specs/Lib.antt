@@ -1,4 +1,4 @@
--- What is written is read back, every bit, and a file of kinds 1 to 5 that is read is written back, every byte.
+-- What is written is read back, every bit, and a file of kinds 1 to 5 that is read is written back, every byte; masks that are read have no unused bit set.
 -- Each call refuses by its own rows, and document 01's file of 166 bytes is accepted.
 pub mod Written
 pub mod Kept

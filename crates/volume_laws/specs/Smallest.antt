@@ -1,4 +1,4 @@
--- Document 01's file of 166 bytes: 1 by 1 by 1, light .25, zero coefficients, masks 1, corners 0,0,0 and 1,1,1. Each call that
+-- Document 01's file of 166 bytes: 1 by 1 by 1, light .25, zero coefficients, masks 1, corners 0,0,0 and 1,1,1. In words each mask is the one word 1. Each call that
 -- reads a file accepts it, its figures are 1 1 1 1 1 0, the writer accepts what it holds, asks for 166 bytes and writes it. The empty input is
 -- refused 12. All by computation.
 use mathlib.Core.Path.{_≡_, refl, ap}
@@ -18,8 +18,10 @@ use Rattle.grid.specs.declared.Axes.{Axes}
 use Rattle.grid.specs.declared.Corners.{Corners}
 use Rattle.grid.specs.Grid.{voxels, edgesOf}
 use Rattle.lists.specs.Some.{some}
+use Rattle.lists.specs.Any.{any}
 use Rattle.limits.specs.Limits.{within, outsideV, badAxes, badCorners, badEdges, badMask, badLights, badCoefficients}
 use Rattle.marks.specs.Marks.{markedCount}
+use Rattle.words.specs.Words.{entriesOf, packed, wordsOf, unusedSet}
 use Rattle.bytes_le.specs.Bytes.{f32At, encode}
 use Rattle.contents.specs.Contents.{marked, headed, kindOf, bodyFits, entryGood, contentsFrom, offsetAt}
 use Rattle.volume_file.specs.VolumeFile.{voxelsAt, lightAt, volumeAt, activeAt, occupiedAt, cornersAt, badBodies, faulty}
@@ -69,6 +71,10 @@ pub smallest-read : (lightAt smallest ≡ quarter ∷ []) × (volumeAt smallest 
 unfolding smallest quarter tab f32At Ieee.ofBits
 smallest-read = (refl, refl, refl, refl)
 
+pub smallest-masks : (wordsOf (activeAt smallest) ≡ 1 ∷ []) × (wordsOf (occupiedAt smallest) ≡ 1 ∷ [])
+unfolding smallest wordsOf packed tab
+smallest-masks = (refl, refl)
+
 pub smallest-figures : figuresAnswer smallest ≡ record { refusal = 0; width = 1; height = 1; depth = 1; occupied = 1; active = 1; zeros = 0 }
 unfolding smallest figuresAnswer zeroCount markedCount fold tab f32At Ieee.ofBits Ieee.eq
 smallest-figures = refl
@@ -78,13 +84,18 @@ pub smallest-needed : (neededRefusal one-voxel ≡ 0) × (bytesFor (voxels one-v
 unfolding one-voxel neededRefusal firstOf badAxes
 smallest-needed = (refl, refl)
 
-pub smallest-written : fileBytes one-voxel unit-cube (quarter ∷ []) (replicate 16 zero32) (1 ∷ []) (1 ∷ []) ≡ smallest
-unfolding smallest one-voxel unit-cube quarter fileBytes contentsOf encode Ieee.toBits Ieee.ofBits
+pub smallest-written : fileBytes one-voxel unit-cube (quarter ∷ []) (replicate 16 zero32) (entriesOf (1 ∷ []) (voxels one-voxel)) (entriesOf (1 ∷ []) (voxels one-voxel)) ≡ smallest
+unfolding smallest one-voxel unit-cube quarter fileBytes contentsOf entriesOf tab encode Ieee.toBits Ieee.ofBits
 smallest-written = refl
 
 pub smallest-writable : writeRefusal one-voxel unit-cube (quarter ∷ []) (replicate 16 zero32) (1 ∷ []) (1 ∷ []) (replicate 166 0) ≡ 0
-unfolding one-voxel unit-cube quarter writeRefusal firstOf badAxes wrongVolumeLists wrongBytes badLists some within outsideV badCorners badEdges edgesOf badMask badLights badCoefficients Ieee.ofBits Ieee.neg Ieee.le Ieee.lt Ieee.eq Ieee.sub Ieee.div Ieee.add Ieee.ofInt
+unfolding one-voxel unit-cube quarter writeRefusal firstOf badAxes wrongVolumeLists wrongBytes badLists unusedSet any some within outsideV badCorners badEdges edgesOf badLights badCoefficients Ieee.ofBits Ieee.neg Ieee.le Ieee.lt Ieee.eq Ieee.sub Ieee.div Ieee.add Ieee.ofInt
 smallest-writable = refl
+
+-- with the bit of a second voxel set, which there is not, it is refused 13
+pub unused-refused : writeRefusal one-voxel unit-cube (quarter ∷ []) (replicate 16 zero32) (1 ∷ []) (2 ∷ []) (replicate 166 0) ≡ 13
+unfolding one-voxel unit-cube quarter writeRefusal firstOf badAxes wrongVolumeLists wrongBytes badLists unusedSet any some within outsideV badCorners badEdges edgesOf badLights badCoefficients Ieee.ofBits Ieee.neg Ieee.le Ieee.lt Ieee.eq Ieee.sub Ieee.div Ieee.add Ieee.ofInt
+unused-refused = refl
 
 pub empty-refused : figuresRefusal [] ≡ 12
 unfolding figuresRefusal firstOf faulty headed

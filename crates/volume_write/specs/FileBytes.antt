@@ -7,6 +7,7 @@ use lib.Ieee.{Float}
 use Rattle.grid.specs.declared.Axes.{Axes}
 use Rattle.grid.specs.declared.Corners.{Corners}
 use Rattle.grid.specs.Grid.{voxels, AxesWithin}
+use Rattle.words.specs.Words.{wordCount}
 use Rattle.bytes_le.specs.Bytes.{encode}
 use Rattle.contents.specs.Contents.{headOf, entryOf}
 
@@ -31,12 +32,12 @@ unfoldable pub fileBytes : Axes → Corners → List Float → List Float → Li
 fileBytes axes corners light volume active occupied =
     headOf axes ++ contentsOf (voxels axes) ++ encode light ++ encode volume ++ active ++ occupied ++ encode (cornersList corners)
 
--- axes within the limits, and lists of the lengths that they ask for
+-- axes within the limits, and lists of the lengths that they ask for, the masks in words
 pub record Lent (a : Axes) (n l v m o b : ℕ) : Type 0 where
   pub axes : AxesWithin a
   pub count : n ≡ voxels a
   pub light : l ≡ n
   pub volume : v ≡ n * 16
-  pub active : m ≡ n
-  pub occupied : o ≡ n
+  pub active : m ≡ wordCount n
+  pub occupied : o ≡ wordCount n
   pub bytes : b ≡ bytesFor n

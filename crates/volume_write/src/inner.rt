@@ -5,7 +5,9 @@ ghost use Prim.Native.Nat.{_+_, _*_, _≤_};
 ghost use lib.ListN.{length};
 ghost use lib.Seq.{sets};
 ghost use Rattle.names.specs.Numbers.{voxelLimit};
-ghost use Rattle.bytes_le.specs.Bytes.{encode};
+ghost use Rattle.grid.specs.Grid.{voxels};
+ghost use Rattle.words.specs.Words.{wordCount, entriesOf};
+ghost use Rattle.bytes_le.specs.Bytes.{encode, NoneNan};
 ghost use Rattle.volume_write.specs.FileBytes.{contentsOf, cornersList, fileBytes, Lent};
 use grid::Axes;
 use grid::Corners;
@@ -19,18 +21,18 @@ pub fn put_file(
     corners: Corners,
     light: &[f32],
     volume: &[f32],
-    active: &[u8],
-    occupied: &[u8],
+    active: &[u64],
+    occupied: &[u64],
 )
-    requires { ⌜ Lent axes n (length (now light)) (length (now volume)) (length (now active)) (length (now occupied)) (length (now bytes)) ⌝ }
-    ensures { λ _. ⌜ now (bytes .exit) ≡ fileBytes axes corners (now (light .entry)) (now (volume .entry)) (now (active .entry)) (now (occupied .entry)) ⌝ }
+    requires { ⌜ Lent axes n (length (now light)) (length (now volume)) (length (now active)) (length (now occupied)) (length (now bytes)) × NoneNan (now light) × NoneNan (now volume) ⌝ }
+    ensures { λ _. ⌜ now (bytes .exit) ≡ fileBytes axes corners (now (light .entry)) (now (volume .entry)) (entriesOf (now (active .entry)) (voxels axes)) (entriesOf (now (occupied .entry)) (voxels axes)) ⌝ }
 {
     contents::inner::put_head(bytes, axes);
     put_contents(bytes, n);
     bytes_le::inner::put_floats(bytes, 72, light);
     bytes_le::inner::put_floats(bytes, 72 + n * 4, volume);
-    bytes_le::inner::put_bytes(bytes, 72 + n * 68, active);
-    bytes_le::inner::put_bytes(bytes, 72 + n * 69, occupied);
+    put_mask(bytes, 72 + n * 68, active, n);
+    put_mask(bytes, 72 + n * 69, occupied, n);
     put_corners(bytes, 72 + n * 70, corners);
 }
 
@@ -44,6 +46,15 @@ fn put_contents(bytes: &mut [u8], n: usize)
     contents::inner::put_entry(bytes, 36, 3, 72 + n * 68, n);
     contents::inner::put_entry(bytes, 48, 4, 72 + n * 69, n);
     contents::inner::put_entry(bytes, 60, 5, 72 + n * 70, 24);
+}
+
+// Writes the n entries of a mask, a byte each, from `at` on.
+fn put_mask(bytes: &mut [u8], at: usize, words: &[u64], n: usize)
+    requires { ⌜ (length (now words) ≡ wordCount n) × (at + n ≤ length (now bytes)) ⌝ }
+    ensures { λ _. ⌜ now (bytes .exit) ≡ sets (now (bytes .entry)) at (entriesOf (now (words .entry)) n) ⌝ }
+{
+    let end = at + n;
+    words::inner::unpack(words, &mut bytes[at..end]);
 }
 
 // Writes the six corner floats from `at` on.

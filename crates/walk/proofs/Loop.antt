@@ -1,9 +1,9 @@
--- The loop's invariant: with r rays fired and the active voxel i next, or none left, the whole walk is the rest of it, from the volume as it is, with
--- r rays more. And how each way through the loop keeps it or ends it, by the walk's own steps.
+-- The loop's invariant: with r rays fired and voxel i next, the whole walk is the rest of it, from the volume as it is, with r rays more. And how
+-- each way through the loop keeps it or ends it, by the walk's own steps.
 use mathlib.Core.Path.{_≡_, refl, sym, ap, _∙_}
-use mathlib.Core.Bool.{true}
+use mathlib.Core.Bool.{Bool, true, false}
 use mathlib.Core.List.{List}
-use Prim.Native.Nat.{ℕ, _+_, _-_, _≤_, _<_}
+use Prim.Native.Nat.{ℕ, _+_, _-_, _/_, _≤_, _<_}
 use native.Mathlib.Omega.{arith}
 use native.Mathlib.Nat.{sub-zero, zero-add}
 use lib.ListN.{length}
@@ -14,16 +14,15 @@ use Rattle.words.specs.Words.{entriesOf, Tidy}
 use Rattle.words.specs.ByWords.{nextFrom}
 use Rattle.grid.specs.GridLaws.{voxels-most}
 use Rattle.spread.specs.Spread.{Walked, walked, more, walk}
-use Rattle.spread.specs.Walks.{so-far-stop, so-far-end, so-far-take}
+use Rattle.spread.specs.Walks.{so-far-stop, so-far-end, so-far-skip, so-far-take}
 use Rattle.gather.specs.Gather.{gatheredOf}
 use Rattle.gather.specs.GatherLaws.{length-gathered, cost-least, cost-most}
 use Rattle.intake.specs.Intake.{BakeInput, voxelNumbers, voxelCount, activeEntries, bakeCost}
 use Rattle.demand.specs.Bake.{gatherInput, bakeOf}
-use Rattle.walk.specs.Next.{Next, next, so-far-next}
+use Rattle.walk.specs.Next.{next-from, so-far-next}
 use Rattle.walk.specs.Reports.{Takeable, Taken, Walkable, Unhit, Reports}
 
 pub record SoFar (b : BakeInput) (v₀ d₀ : List Float) (p₀ : List ℕ) (progress allowance : ℕ) (v d : List Float) (p : List ℕ) (i r : ℕ) : Type 0 where
-  pub active : i < voxelCount b → isMarked (activeEntries b) i ≡ true
   pub within : r ≤ allowance
   pub volume : length v ≡ length v₀
   pub distances : length d ≡ length d₀
@@ -42,47 +41,43 @@ reports e h =
       hits = h;
     }
 
--- t is the next active voxel from i on as the code finds it, of as many voxels as there are lights
+pub begins : {b : BakeInput} {v₀ d₀ : List Float} {p₀ : List ℕ} {progress allowance : ℕ} → SoFar b v₀ d₀ p₀ progress allowance v₀ d₀ p₀ progress 0
+begins =
+    record {
+      within = omega arith;
+      volume = refl;
+      distances = refl;
+      places = refl;
+      hits = record { distances = λ z. refl; places = λ z. refl };
+      goes = rw (sub-zero, zero-add) refl;
+    }
+
+-- x says whether voxel i is active, and t is the next active voxel from i on, as the code finds them: the latter of as many voxels as there are lights
+abbrev pub Says : BakeInput → ℕ → Bool → Type 0
+Says b i x = (n : ℕ) → i < n → x ≡ isMarked (entriesOf (b .active) n) i
+
 abbrev pub Found : BakeInput → ℕ → ℕ → Type 0
 Found b i t = t ≡ nextFrom (isMarked (entriesOf (b .active) (length (b .lights)))) (length (b .lights)) (length (b .lights) - i) i
 
 module _ {b : BakeInput} {m progress : ℕ} (f : Walkable b m progress) where
-  -- what the search for it asks, and where it leads
+  -- what the code asks to find them
+  pub readable : {i : ℕ} → i < length (b .lights) → i / 64 < length (b .active)
+  readable h = omega (arith, f .lights, f .active .long)
+
   pub searchable : Tidy (b .active) (length (b .lights)) × (length (b .lights) < 9223372036854775808)
   searchable = (rw (f .lights) (f .active), omega (arith, f .lights, voxels-most (b .axes) (f .axes)))
 
   of-voxels : (i : ℕ) {t : ℕ} → Found b i t → t ≡ nextFrom (bakeOf b .active) (voxelCount b) (voxelCount b - i) i
   of-voxels i e = e ∙ ap (λ (n : ℕ). nextFrom (isMarked (entriesOf (b .active) n)) n (n - i) i) (f .lights)
 
-  found : {i t : ℕ} → i ≤ voxelCount b → Found b i t → Next (bakeOf b .active) (voxelCount b) i t
-  found {i} h e = rw (of-voxels i e) (next (bakeOf b .active) (voxelCount b) (voxelCount b - i) i (omega arith))
-
-  -- after voxel i it lies further on
+  -- the next one lies further on
   pub further : {i t : ℕ} → i < length (b .lights) → Found b (i + 1) t → length (b .lights) - t < length (b .lights) - i
-  further h e = let n = found (omega (arith, f .lights)) e in omega (arith, n .from)
-
-  goes-next : (allowance i r : ℕ) (v : List Float) {w : Walked Float} {t : ℕ} → i ≤ voxelCount b → Found b i t
-      → w ≡ more r (walk (bakeOf b) (voxelCount b - i) i (allowance - r) v) → w ≡ more r (walk (bakeOf b) (voxelCount b - t) t (allowance - r) v)
-  goes-next allowance i r v h e g = rw (of-voxels i e) (so-far-next (bakeOf b) r allowance (voxelCount b) v (voxelCount b - i) i (omega arith) g)
+  further {i} h e =
+      let l : i + 1 ≤ voxelCount b = omega (arith, f .lights) in
+      omega (arith, of-voxels (i + 1) e, next-from (bakeOf b .active) (voxelCount b) (voxelCount b - (i + 1)) (i + 1) (omega arith))
 
 module _ {b : BakeInput} {v₀ d₀ : List Float} {p₀ : List ℕ} {progress allowance : ℕ} (f : Walkable b (length v₀) progress) where
-  pub begins : {t : ℕ} → Found b progress t → SoFar b v₀ d₀ p₀ progress allowance v₀ d₀ p₀ t 0
-  begins e =
-      record {
-        active = found f (f .within) e .there;
-        within = omega arith;
-        volume = refl;
-        distances = refl;
-        places = refl;
-        hits = record { distances = λ z. refl; places = λ z. refl };
-        goes = goes-next f allowance progress 0 v₀ (f .within) e (rw (sub-zero, zero-add) refl);
-      }
-
   module _ {v d : List Float} {p : List ℕ} {i r : ℕ} (s : SoFar b v₀ d₀ p₀ progress allowance v d p i r) where
-    pub stops : i < length (b .lights) → allowance - r < bakeCost b
-        → Reports (walk (bakeOf b) (voxelCount b - progress) progress allowance v₀) (record { progress = i; rays = r }) v d₀ d p₀ p
-    stops h g = let l : i < voxelCount b = omega (arith, f .lights) in reports (so-far-stop (bakeOf b) i r allowance (voxelCount b) v (s .goes) l (s .active l) g) (s .hits)
-
     pub ends : length (b .lights) ≤ i
         → Reports (walk (bakeOf b) (voxelCount b - progress) progress allowance v₀) (record { progress = i; rays = r }) v d₀ d p₀ p
     ends h = reports (so-far-end (bakeOf b) i r allowance (voxelCount b) v (s .goes) (omega (arith, f .lights))) (s .hits)
@@ -109,21 +104,44 @@ module _ {b : BakeInput} {v₀ d₀ : List Float} {p₀ : List ℕ} {progress al
     pub fits-rays : {c : ℕ} {v' : List Float} → Taken (gatherInput b) i c v v' → bakeCost b ≤ allowance - r → r + c ≤ allowance
     fits-rays t h = omega (arith, t .rays, cost-most (gatherInput b) i, s .within)
 
-    pub takes : {c t : ℕ} {v' d' : List Float} {p' : List ℕ} → i < length (b .lights) → bakeCost b ≤ allowance - r → Taken (gatherInput b) i c v v'
-        → length d' ≡ length d
-        → length p' ≡ length p
-        → Found b (i + 1) t
-        → SoFar b v₀ d₀ p₀ progress allowance v' d' p' t (r + c)
-    takes {c} {t} {v'} {d'} {p'} h g k x y e =
-        let l : i < voxelCount b = omega (arith, f .lights) in
-        let n : 0 < r + c = omega (arith, k .rays, cost-least (gatherInput b) i) in
-        record {
-          active = found f (omega arith) e .there;
-          within = fits-rays k g;
-          volume = ap length (k .volume) ∙ length-replaced voxelNumbers i (gatheredOf (gatherInput b) i) v (length-gathered (gatherInput b) i)
-              (omega (arith, f .inside, s .volume)) ∙ s .volume;
-          distances = x ∙ s .distances;
-          places = y ∙ s .places;
-          hits = record { distances = λ z. absurd (omega arith); places = λ z. absurd (omega arith) };
-          goes = goes-next f allowance (i + 1) (r + c) v' (omega arith) e (so-far-take (bakeOf b) i r allowance (voxelCount b) v (s .goes) l (s .active l) g ∙ rw (k .rays, k .volume) refl);
-        }
+    module _ (h : i < length (b .lights)) {x : Bool} (says : Says b i x) where
+      inside : i < voxelCount b
+      inside = omega (arith, f .lights)
+
+      is-active : isMarked (activeEntries b) i ≡ x
+      is-active = sym (says (voxelCount b) inside)
+
+      pub stops : x ≡ true → allowance - r < bakeCost b
+          → Reports (walk (bakeOf b) (voxelCount b - progress) progress allowance v₀) (record { progress = i; rays = r }) v d₀ d p₀ p
+      stops t g = reports (so-far-stop (bakeOf b) i r allowance (voxelCount b) v (s .goes) inside (is-active ∙ t) g) (s .hits)
+
+      pub passes : {t : ℕ} → x ≡ false → Found b (i + 1) t → SoFar b v₀ d₀ p₀ progress allowance v d p t r
+      passes z e =
+          let l : i + 1 ≤ voxelCount b = omega (arith, inside) in
+          record {
+            within = s .within;
+            volume = s .volume;
+            distances = s .distances;
+            places = s .places;
+            hits = s .hits;
+            goes =
+                rw (of-voxels f (i + 1) e)
+                (so-far-next (bakeOf b) r allowance (voxelCount b) v (voxelCount b - (i + 1)) (i + 1) (omega arith)
+                (so-far-skip (bakeOf b) i r allowance (voxelCount b) v (s .goes) inside (is-active ∙ z)));
+          }
+
+      pub takes : {c : ℕ} {v' d' : List Float} {p' : List ℕ} → x ≡ true → bakeCost b ≤ allowance - r → Taken (gatherInput b) i c v v'
+          → length d' ≡ length d
+          → length p' ≡ length p
+          → SoFar b v₀ d₀ p₀ progress allowance v' d' p' (i + 1) (r + c)
+      takes {c} t g k y z =
+          let n : 0 < r + c = omega (arith, k .rays, cost-least (gatherInput b) i) in
+          record {
+            within = fits-rays k g;
+            volume = ap length (k .volume) ∙ length-replaced voxelNumbers i (gatheredOf (gatherInput b) i) v (length-gathered (gatherInput b) i)
+                (omega (arith, f .inside, inside, s .volume)) ∙ s .volume;
+            distances = y ∙ s .distances;
+            places = z ∙ s .places;
+            hits = record { distances = λ q. absurd (omega arith); places = λ q. absurd (omega arith) };
+            goes = so-far-take (bakeOf b) i r allowance (voxelCount b) v (s .goes) inside (is-active ∙ t) g ∙ rw (k .rays, k .volume) refl;
+          }

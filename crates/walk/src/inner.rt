@@ -16,7 +16,7 @@ use grid::Corners;
 use limits::Ambient;
 use limits::Light;
 
-// Goes from active voxel to active voxel from progress on, in order, while the allowance lasts.
+// Goes through the voxels from progress on, in order, while the allowance lasts; from an inactive one to the next active one.
 pub fn walk(
     axes: Axes,
     corners: Corners,
@@ -52,31 +52,36 @@ pub fn walk(
 {
     let n = lights.len();
     let cost = intake::inner::voxel_cost(lamps);
-    let mut i = words::inner::next_marked(active, n, progress);
+    let mut i = progress;
     let mut rays: u64 = 0;
     while i < n {
-        if allowance - rays < cost {
-            return Reached { progress: i, rays };
+        let at = i;
+        i += 1;
+        if words::inner::is_marked(active, at) {
+            if allowance - rays < cost {
+                return Reached { progress: at, rays };
+            }
+            rays += take(
+                axes,
+                corners,
+                points,
+                uses,
+                kinds,
+                numbers,
+                light,
+                ambient,
+                sky,
+                lamps,
+                table,
+                lights,
+                volume,
+                distances,
+                places,
+                at,
+            );
+        } else {
+            i = words::inner::next_marked(active, n, i);
         }
-        rays += take(
-            axes,
-            corners,
-            points,
-            uses,
-            kinds,
-            numbers,
-            light,
-            ambient,
-            sky,
-            lamps,
-            table,
-            lights,
-            volume,
-            distances,
-            places,
-            i,
-        );
-        i = words::inner::next_marked(active, n, i + 1);
     }
     Reached { progress: i, rays }
 }

@@ -108,6 +108,45 @@ packed-next f first j p q =
 pub packed-room : (f : ℕ → Bool) (first j : ℕ) → 0 < j → packed f (64 - j) (first + j) < 2 ^ 63
 packed-room f first j p = lt-of-lt-of-le (packed-lt f (64 - j) (first + j)) (pow-mono {i = 64 - j} {j = 63} (omega arith))
 
+-- no bit: 0
+pub packed-none : (f : ℕ → Bool) (d i : ℕ) → ((j : ℕ) → i ≤ j → f j ≡ false) → packed f d i ≡ 0
+unfolding packed
+packed-none f zero i e = refl
+packed-none f (suc d) i e = rw (e i (omega arith), packed-none f d (i + 1) (λ j p. e j (omega arith))) refl
+
+-- eight bits, lowest first
+pub packed-eight : (f : ℕ → Bool) (i : ℕ)
+    → cond (f i) 1 0 + cond (f (i + 1)) 1 0 * 2 + cond (f (i + 2)) 1 0 * 4 + cond (f (i + 3)) 1 0 * 8 + cond (f (i + 4)) 1 0 * 16 + cond (f (i + 5)) 1 0 * 32 + cond (f (i + 6)) 1 0 * 64 + cond (f (i + 7)) 1 0 * 128
+    ≡ packed f 8 i
+unfolding packed
+packed-eight f i =
+    let e₂ : i + 2 ≡ i + 1 + 1 = omega arith in
+    let e₃ : i + 3 ≡ i + 1 + 1 + 1 = omega arith in
+    let e₄ : i + 4 ≡ i + 1 + 1 + 1 + 1 = omega arith in
+    let e₅ : i + 5 ≡ i + 1 + 1 + 1 + 1 + 1 = omega arith in
+    let e₆ : i + 6 ≡ i + 1 + 1 + 1 + 1 + 1 + 1 = omega arith in
+    let e₇ : i + 7 ≡ i + 1 + 1 + 1 + 1 + 1 + 1 + 1 = omega arith in
+    rw (e₂, e₃, e₄, e₅, e₆, e₇) (omega arith)
+
+-- and eight more at the low end
+pub packed-eight-more : (f : ℕ → Bool) (d i : ℕ) → packed f 8 i + 256 * packed f d (i + 8) ≡ packed f (8 + d) i
+unfolding packed
+packed-eight-more f d i =
+    let e : i + 8 ≡ i + 1 + 1 + 1 + 1 + 1 + 1 + 1 + 1 = omega arith in
+    let n : 8 + d ≡ suc (suc (suc (suc (suc (suc (suc (suc d))))))) = omega arith in
+    rw (e, n) (omega arith)
+
+-- so where j eights of eight are still to come
+pub packed-eight-next : (f : ℕ → Bool) (first j : ℕ) → 0 < j → j ≤ 8
+    → packed f 8 (first + (j - 1) * 8) + 256 * packed f (64 - j * 8) (first + j * 8) ≡ packed f (64 - (j - 1) * 8) (first + (j - 1) * 8)
+packed-eight-next f first j p q =
+    let e : 64 - (j - 1) * 8 ≡ 8 + (64 - j * 8) = omega arith in
+    let a : first + j * 8 ≡ first + (j - 1) * 8 + 8 = omega arith in
+    rw (e, a) (packed-eight-more f (64 - j * 8) (first + (j - 1) * 8))
+
+pub packed-eight-room : (f : ℕ → Bool) (first j : ℕ) → 0 < j → packed f (64 - j * 8) (first + j * 8) < 2 ^ 56
+packed-eight-room f first j p = lt-of-lt-of-le (packed-lt f (64 - j * 8) (first + j * 8)) (pow-mono {i = 64 - j * 8} {j = 56} (omega arith))
+
 pub packed-same : (f g : ℕ → Bool) (d i : ℕ) → ((j : ℕ) → i ≤ j → j < i + d → f j ≡ g j) → packed f d i ≡ packed g d i
 unfolding packed
 packed-same f g zero i e = refl

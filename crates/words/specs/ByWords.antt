@@ -1,7 +1,8 @@
--- How the code works on words: it counts by whole words, changes one bit, and looks for the next mark. Nothing here is part of what a mask means. Assumes nothing.
+-- How the code works on words: it counts by whole words, changes one bit, looks for the next mark, and takes eight bits at a time apart. Nothing here is part of what a mask means. Assumes nothing.
 use mathlib.Core.Bool.{Bool, cond}
-use mathlib.Core.List.{List}
+use mathlib.Core.List.{List, [], _∷_}
 use Prim.Native.Nat.{ℕ, zero, suc, _+_, _-_, _*_, _/_, _%_, _^_}
+use lib.Bits.{bitAnd}
 use lib.Count.{ones}
 use lib.ListN.{length, getD, set}
 use Rattle.lists.specs.Fold.{fold, tab}
@@ -30,3 +31,20 @@ noBits m = tab (λ k. 0) m 0
 unfoldable pub nextFrom : (ℕ → Bool) → ℕ → ℕ → ℕ → ℕ
 nextFrom f n zero i = n
 nextFrom f n (suc k) i = cond (f i) i (nextFrom f n k (i + 1))
+
+-- the eight bits of b, each in a byte of its own
+unfoldable pub spreadOf : ℕ → ℕ
+spreadOf b = bitAnd ((bitAnd (b * 0x0101010101010101) 0x8040201008040201 + 0x7f7f7f7f7f7f7f7f) / 2 ^ 7) 0x0101010101010101
+
+-- the eight bytes of a number, lowest first
+abbrev pub eightBytes : ℕ → List ℕ
+eightBytes x =
+    x % 256
+    ∷ x / 256 % 256
+    ∷ x / 65536 % 256
+    ∷ x / 16777216 % 256
+    ∷ x / 4294967296 % 256
+    ∷ x / 1099511627776 % 256
+    ∷ x / 281474976710656 % 256
+    ∷ x / 72057594037927936 % 256
+    ∷ []

@@ -4,3 +4,4 @@ pub mod ByWords
 pub mod BitLaws
 pub mod WordsLaws
 pub mod NextLaws
+pub mod EightLaws

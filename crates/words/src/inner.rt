@@ -3,11 +3,13 @@ ghost use mathlib.Core.Path.{_≡_};
 ghost use mathlib.Core.Bool.{cond};
 ghost use Prim.Native.Nat.{ℕ, _+_, _-_, _*_, _/_, _<_, _≤_};
 ghost use lib.Count.{ones, trailingZeros};
+ghost use lib.Dec.{eqb};
 ghost use lib.ListN.{length, set};
+ghost use lib.Seq.{sets};
 ghost use Rattle.lists.specs.Fold.{tab};
 ghost use Rattle.marks.specs.Marks.{isMarked, markedCount};
 ghost use Rattle.words.specs.Words.{bitAt, entriesOf, wordCount, packed, wordsOf, unusedSet, Tidy, Holds};
-ghost use Rattle.words.specs.ByWords.{putAt, noBits, nextFrom};
+ghost use Rattle.words.specs.ByWords.{putAt, noBits, nextFrom, spreadOf, eightBytes};
 
 // Bit i.
 pub fn bit_at(words: &[u64], i: usize) -> u8
@@ -36,8 +38,21 @@ pub fn mark(words: &mut [u64], n: usize, i: usize)
     set_bit(words, i);
 }
 
-// The first marked voxel of n from i on, or n if there is none. Words of 0 are passed over whole.
+// The first marked voxel of n from i on, or n if there is none. Where voxels are marked one after another, the first look finds the next.
 pub fn next_marked(words: &[u64], n: usize, i: usize) -> usize
+    requires { ⌜ Tidy (now words) n × (n < 9223372036854775808) ⌝ }
+    ensures { λ r. ⌜ r ≡ nextFrom (isMarked (entriesOf (now (words .entry)) n)) n (n - i) i ⌝ }
+{
+    if i < n {
+        if is_marked(words, i) {
+            return i;
+        }
+    }
+    search(words, n, i)
+}
+
+// The same by search: words of 0 are passed over whole.
+fn search(words: &[u64], n: usize, i: usize) -> usize
     requires { ⌜ Tidy (now words) n × (n < 9223372036854775808) ⌝ }
     ensures { λ r. ⌜ r ≡ nextFrom (isMarked (entriesOf (now (words .entry)) n)) n (n - i) i ⌝ }
 {
@@ -102,37 +117,103 @@ fn word_of(entries: &[u8], first: usize) -> u64
     requires { ⌜ first ≤ length (now entries) ⌝ }
     ensures { λ r. ⌜ r ≡ packed (isMarked (now (entries .entry))) 64 first ⌝ }
 {
+    if 64 <= entries.len() - first {
+        return full_word(entries, first);
+    }
+    last_word(entries, first)
+}
+
+// The same where there are 64, eight at a time from the last down.
+fn full_word(entries: &[u8], first: usize) -> u64
+    requires { ⌜ first + 64 ≤ length (now entries) ⌝ }
+    ensures { λ r. ⌜ r ≡ packed (isMarked (now (entries .entry))) 64 first ⌝ }
+{
     let mut w: u64 = 0;
-    let mut j = 64;
+    let mut j = 8;
     while 0 < j {
         j -= 1;
-        w = mark_at(entries, first + j) + 2 * w;
+        w = eight_of(entries, first + j * 8) + 256 * w;
     }
     w
 }
 
-// 1 if entry i is marked, else 0.
-fn mark_at(entries: &[u8], i: usize) -> u64
-    ensures { λ r. ⌜ r ≡ cond (isMarked (now (entries .entry)) i) 1 0 ⌝ }
+// The same where there are fewer: from the last one down.
+fn last_word(entries: &[u8], first: usize) -> u64
+    requires { ⌜ (first ≤ length (now entries)) × (length (now entries) < first + 64) ⌝ }
+    ensures { λ r. ⌜ r ≡ packed (isMarked (now (entries .entry))) 64 first ⌝ }
 {
-    if i < entries.len() {
-        if entries[i] == 1 {
-            return 1;
-        }
+    let mut w: u64 = 0;
+    let mut j = entries.len() - first;
+    while 0 < j {
+        j -= 1;
+        w = one_if_marked(entries[first + j]) + 2 * w;
+    }
+    w
+}
+
+// The eight bits of the entries from first on.
+fn eight_of(entries: &[u8], first: usize) -> u64
+    requires { ⌜ first + 8 ≤ length (now entries) ⌝ }
+    ensures { λ r. ⌜ (r ≡ packed (isMarked (now (entries .entry))) 8 first) × (r < 256) ⌝ }
+{
+    one_if_marked(entries[first])
+        + one_if_marked(entries[first + 1]) * 2
+        + one_if_marked(entries[first + 2]) * 4
+        + one_if_marked(entries[first + 3]) * 8
+        + one_if_marked(entries[first + 4]) * 16
+        + one_if_marked(entries[first + 5]) * 32
+        + one_if_marked(entries[first + 6]) * 64
+        + one_if_marked(entries[first + 7]) * 128
+}
+
+fn one_if_marked(entry: u8) -> u64
+    ensures { λ r. ⌜ (r ≡ cond (eqb entry 1) 1 0) × (r < 2) ⌝ }
+{
+    if entry == 1 {
+        return 1;
     }
     0
 }
 
-// The entries of words, in entries.
+// The entries of words, in entries: eight at a time, then the rest.
 pub fn unpack(words: &[u64], entries: &mut [u8])
     requires { ⌜ length (now words) ≡ wordCount (length (now entries)) ⌝ }
     ensures { λ r. ⌜ now (entries .exit) ≡ entriesOf (now (words .entry)) (length (now (entries .entry))) ⌝ }
 {
     let mut i = 0;
+    while 8 <= entries.len() - i {
+        put_eight(entries, i, spread((words[i / 64] >> (i % 64)) % 256));
+        i += 8;
+    }
     while i < entries.len() {
         entries[i] = bit_at(words, i);
         i += 1;
     }
+}
+
+// The eight bits of b, each in a byte of its own. The product has b in every byte, of which the mask leaves byte j its bit j; adding 127 carries what is
+// left to the byte's highest bit.
+fn spread(b: u64) -> u64
+    requires { ⌜ b < 256 ⌝ }
+    ensures { λ r. ⌜ r ≡ spreadOf b ⌝ }
+{
+    let apart = (b * 0x0101_0101_0101_0101) & 0x8040_2010_0804_0201;
+    ((apart + 0x7f7f_7f7f_7f7f_7f7f) >> 7) & 0x0101_0101_0101_0101
+}
+
+// Writes the eight bytes of x from first on.
+fn put_eight(entries: &mut [u8], first: usize, x: u64)
+    requires { ⌜ first + 8 ≤ length (now entries) ⌝ }
+    ensures { λ r. ⌜ now (entries .exit) ≡ sets (now (entries .entry)) first (eightBytes x) ⌝ }
+{
+    entries[first] = (x % 256) as u8;
+    entries[first + 1] = (x / 256 % 256) as u8;
+    entries[first + 2] = (x / 65536 % 256) as u8;
+    entries[first + 3] = (x / 16777216 % 256) as u8;
+    entries[first + 4] = (x / 4294967296 % 256) as u8;
+    entries[first + 5] = (x / 1099511627776 % 256) as u8;
+    entries[first + 6] = (x / 281474976710656 % 256) as u8;
+    entries[first + 7] = (x / 72057594037927936 % 256) as u8;
 }
 
 // How many of n voxels are marked.

@@ -2,7 +2,7 @@
 use native.Mathlib.Omega.{arith}
 use Prim.Native.Nat.{ℕ, _*_}
 use Rattle.contents.specs.Contents.{offsetAt}
-use Rattle.volume.proofs.Calls.{placed-floats, placed-bytes}
+use Rattle.volume.proofs.Calls.{placed-floats, placed-mask}
 use borrow.Author.Needs.{needs}
 use Rattle.volume.proofs.read_bodies.Statement.{statement}
 use Rattle.volume.proofs.read_bodies.Tie as tie
@@ -22,14 +22,14 @@ floats-into-requires-2 c κs = search needs
 offset-at-requires-3 : tie.Need-offset-at-requires-3
 offset-at-requires-3 c κs = search needs
 
-bytes-into-requires : tie.Need-bytes-into-requires
-bytes-into-requires c κs = search needs
+mask-into-requires : tie.Need-mask-into-requires
+mask-into-requires c κs = search needs
 
 offset-at-requires-4 : tie.Need-offset-at-requires-4
 offset-at-requires-4 c κs = search needs
 
-bytes-into-requires-2 : tie.Need-bytes-into-requires-2
-bytes-into-requires-2 c κs = search needs
+mask-into-requires-2 : tie.Need-mask-into-requires-2
+mask-into-requires-2 c κs = search needs
 
 same-length : tie.Need-same-length
 same-length c = search needs
@@ -52,10 +52,10 @@ returns c =
     let offset-at2 = c .before .before .before .before .before .before .before .before .before .before .before .before .before .before .offset-at2 in
     let floats-into2 = c .before .before .before .before .before .before .before .before .before .before .before .before .floats-into2 in
     let offset-at3 = c .before .before .before .before .before .before .before .before .before .offset-at3 in
-    let bytes-into = c .before .before .before .before .before .before .before .bytes-into in
+    let mask-into = c .before .before .before .before .before .before .before .mask-into in
     let offset-at4 = c .before .before .before .before .offset-at4 in
-    let bytes-into2 = c .before .before .bytes-into2 in
-    record { light = placed-floats (args .bytes .now) _ _ (offsetAt (args .bytes .now) 0) _ _ (floats-into .ensures) (offset-at .ensures) (pre .lights); volume = placed-floats (args .bytes .now) _ _ (offsetAt (args .bytes .now) 1) _ _ (floats-into2 .ensures) (offset-at2 .ensures) (pre .coefficients); active = placed-bytes (args .bytes .now) _ _ (offsetAt (args .bytes .now) 2) _ _ (bytes-into .ensures) (offset-at3 .ensures) (pre .actives); occupied = placed-bytes (args .bytes .now) _ _ (offsetAt (args .bytes .now) 3) _ _ (bytes-into2 .ensures) (offset-at4 .ensures) (pre .occupieds) }
+    let mask-into2 = c .before .before .mask-into2 in
+    record { light = placed-floats (args .bytes .now) _ _ (offsetAt (args .bytes .now) 0) _ _ (floats-into .ensures) (offset-at .ensures) (pre .lights); volume = placed-floats (args .bytes .now) _ _ (offsetAt (args .bytes .now) 1) _ _ (floats-into2 .ensures) (offset-at2 .ensures) (pre .coefficients); active = placed-mask (args .bytes .now) _ _ (offsetAt (args .bytes .now) 2) _ _ (mask-into .ensures) (offset-at3 .ensures) (pre .count); occupied = placed-mask (args .bytes .now) _ _ (offsetAt (args .bytes .now) 3) _ _ (mask-into2 .ensures) (offset-at4 .ensures) (pre .count) }
 
 pub read-bodies-spec : {M : Type 1} → statement M
 read-bodies-spec =
@@ -66,9 +66,9 @@ read-bodies-spec =
     offset-at-requires-2
     floats-into-requires-2
     offset-at-requires-3
-    bytes-into-requires
+    mask-into-requires
     offset-at-requires-4
-    bytes-into-requires-2
+    mask-into-requires-2
     same-length
     same-length-2
     same-length-3

@@ -1,6 +1,6 @@
 -- The whole file and the lent lengths are judged first; what is read then is the bodies at their places.
 use native.Mathlib.Omega.{arith}
-use Rattle.volume.proofs.Calls.{accepted, read-axes, few, read-12, read-3, read-0, read-lengths}
+use Rattle.volume.proofs.Calls.{accepted, read-axes, few, read-12, read-3, read-0, read-lengths, read-count}
 use Rattle.volume.specs.VolumeLaws.{accepted-room}
 use borrow.Author.Needs.{needs}
 use Rattle.volume.proofs.read_volume.Statement.{statement}
@@ -66,7 +66,7 @@ read-bodies-requires c κs =
     let voxel-count = c .before .before .before .before .before .before .voxel-count in
     let wrong-lists = c .before .before .before .before .before .wrong-lists in
     let if2 = c .before .before .before .before .if2 in
-    let q = read-lengths (args .bytes .now) (axes-at .result) (voxel-count .result) (args .light .now) (args .volume .now) (args .active .now) (args .occupied .now) _ (axes-at .ensures) (voxel-count .ensures) (wrong-lists .ensures) (if2 .left) in accepted-room (args .bytes .now) (accepted (args .bytes .now) _ (is-faulty .ensures) (if1 .left)) _ _ _ _ (q .0) (q .1) (q .2) (q .3)
+    let q = read-lengths (args .bytes .now) (axes-at .result) (voxel-count .result) (args .light .now) (args .volume .now) (args .active .now) (args .occupied .now) _ (axes-at .ensures) (voxel-count .ensures) (wrong-lists .ensures) (if2 .left) in accepted-room (args .bytes .now) (accepted (args .bytes .now) _ (is-faulty .ensures) (if1 .left)) _ _ _ _ _ (read-count (args .bytes .now) (axes-at .result) (voxel-count .result) (axes-at .ensures) (voxel-count .ensures)) (q .0) (q .1) (q .2) (q .3)
 
 head-of-requires : tie.Need-head-of-requires
 head-of-requires c κs =

@@ -1,7 +1,7 @@
 -- The tests in the rows' order; then the lists fit, and the whole file is written.
 use mathlib.Core.Path.{sym, _∙_}
 use Rattle.limits.specs.LimitsLaws.{axes-row}
-use Rattle.volume.proofs.Calls.{few, of-lists, of-bytes, write-1, write-2, write-lists, write-bytes, write-13, write-0, lent}
+use Rattle.volume.proofs.Calls.{few, of-words, of-written, numbers, of-lists, of-bytes, write-1, write-2, write-lists, write-bytes, write-13, write-0, lent}
 use borrow.Author.Needs.{needs}
 use Rattle.volume.proofs.write_volume.Statement.{statement}
 use Rattle.volume.proofs.write_volume.Tie as tie
@@ -83,7 +83,11 @@ returns-4 c =
     (of-bytes (args .axes) (voxel-count .result) _ _ _ (voxel-count .ensures) (wrong-bytes .ensures) (c .if4 .taken))
 
 bad-lists-requires : tie.Need-bad-lists-requires
-bad-lists-requires c κs = search needs
+bad-lists-requires c κs =
+    let voxel-count = c .before .before .before .before .voxel-count in
+    let wrong-lists = c .before .before .before .wrong-lists in
+    let if3 = c .before .before .if3 in
+    of-words (voxel-count .result) _ _ _ _ _ (wrong-lists .ensures) (if3 .left)
 
 returns-5 : tie.Need-returns-5
 returns-5 c =
@@ -102,7 +106,7 @@ returns-5 c =
     (sym (bad-axes .ensures) ∙ if1 .left) (sym (bad-grid .ensures) ∙ if2 .left)
     (of-lists (args .axes) (voxel-count .result) _ _ _ _ _ _ (voxel-count .ensures) (wrong-lists .ensures) (if3 .left))
     (of-bytes (args .axes) (voxel-count .result) _ _ _ (voxel-count .ensures) (wrong-bytes .ensures) (if4 .left))
-    (sym (bad-lists .ensures) ∙ c .if5 .taken)
+    (of-written (args .axes) (voxel-count .result) _ _ _ _ _ _ (voxel-count .ensures) (bad-lists .ensures) (c .if5 .taken))
 
 put-file-requires : tie.Need-put-file-requires
 put-file-requires c κs =
@@ -114,8 +118,9 @@ put-file-requires c κs =
     let if3 = c .before .before .before .before .before .if3 in
     let wrong-bytes = c .before .before .before .before .wrong-bytes in
     let if4 = c .before .before .before .if4 in
-    lent (args .axes) (voxel-count .result) _ _ _ _ _ (sym (bad-axes .ensures) ∙ if1 .left) (voxel-count .ensures)
-    (sym (wrong-lists .ensures) ∙ if3 .left) (sym (wrong-bytes .ensures) ∙ if4 .left)
+    let bad-lists = c .before .before .bad-lists in
+    let known = numbers (voxel-count .result) _ _ _ _ _ (bad-lists .ensures) (c .before .if5 .left) in
+    (lent (args .axes) (voxel-count .result) _ _ _ _ _ (sym (bad-axes .ensures) ∙ if1 .left) (voxel-count .ensures) (sym (wrong-lists .ensures) ∙ if3 .left) (sym (wrong-bytes .ensures) ∙ if4 .left), known .0, known .1)
 
 same-length : tie.Need-same-length
 same-length c = search needs
@@ -139,7 +144,7 @@ returns-6 c =
     (sym (bad-axes .ensures) ∙ if1 .left) (sym (bad-grid .ensures) ∙ if2 .left)
     (of-lists (args .axes) (voxel-count .result) _ _ _ _ _ _ (voxel-count .ensures) (wrong-lists .ensures) (if3 .left))
     (of-bytes (args .axes) (voxel-count .result) _ _ _ (voxel-count .ensures) (wrong-bytes .ensures) (if4 .left))
-    (sym (bad-lists .ensures) ∙ if5 .left) (put-file .ensures)
+    (of-written (args .axes) (voxel-count .result) _ _ _ _ _ _ (voxel-count .ensures) (bad-lists .ensures) (if5 .left)) (put-file .ensures)
 
 pub write-volume-spec : {M : Type 1} → statement M
 write-volume-spec =

@@ -5,6 +5,9 @@ use borrow.Author.Needs.{needs}
 use Rattle.volume.proofs.wrong_lists.Statement.{statement}
 use Rattle.volume.proofs.wrong_lists.Tie as tie
 
+add-words : tie.Need-add-words
+add-words c = search needs
+
 mul-result : tie.Need-mul-result
 mul-result c = search needs
 
@@ -13,4 +16,4 @@ unfolding wrongVolumeLists
 returns c = refl
 
 pub wrong-lists-spec : {M : Type 1} → statement M
-wrong-lists-spec = tie.close (tie.spec mul-result returns)
+wrong-lists-spec = tie.close (tie.spec add-words mul-result returns)

@@ -29,6 +29,9 @@ write-all-requires-2 c κs = search needs
 returns-2 : tie.Need-returns-2
 returns-2 c = search needs
 
+add-words : tie.Need-add-words
+add-words c = search needs
+
 array-borrow-prefix-light : tie.Need-array-borrow-prefix-light
 array-borrow-prefix-light c = search needs
 
@@ -80,6 +83,7 @@ again-spec =
     slice-aggregate-write-all-2
     write-all-requires-2
     returns-2
+    add-words
     array-borrow-prefix-light
     slice-aggregate-rewrite
     mul-volume

@@ -26,20 +26,23 @@ loop-holds : tie.Need-loop-holds Inv-loop μ-loop
 unfolding encode
 loop-holds c = (refl, refl, search needs)
 
-mul-put-f32 : tie.Need-mul-put-f32 Inv-loop μ-loop
-mul-put-f32 c = search needs
+mul-put-number : tie.Need-mul-put-number Inv-loop μ-loop
+mul-put-number c = search needs
 
-add-put-f32 : tie.Need-add-put-f32 Inv-loop μ-loop
-add-put-f32 c = search needs
+add-put-number : tie.Need-add-put-number Inv-loop μ-loop
+add-put-number c = search needs
 
-mul-put-f32-2 : tie.Need-mul-put-f32-2 Inv-loop μ-loop
-mul-put-f32-2 c = search needs
+mul-put-number-2 : tie.Need-mul-put-number-2 Inv-loop μ-loop
+mul-put-number-2 c = search needs
 
-shared-slice-read-put-f32 : tie.Need-shared-slice-read-put-f32 Inv-loop μ-loop
-shared-slice-read-put-f32 c = search needs
+shared-slice-read-put-number : tie.Need-shared-slice-read-put-number Inv-loop μ-loop
+shared-slice-read-put-number c = search needs
 
-put-f32-requires : tie.Need-put-f32-requires Inv-loop μ-loop
-put-f32-requires c κs = search needs
+put-number-requires : tie.Need-put-number-requires Inv-loop μ-loop
+put-number-requires c κs =
+    let loop = c .before .before .before .loop in
+    let pre = c .before .before .before .before .before .before .pre in
+    (omega arith, pre .1 (loop .i) (omega arith))
 
 add-i : tie.Need-add-i Inv-loop μ-loop
 add-i c = search needs
@@ -51,8 +54,8 @@ loop-again : tie.Need-loop-again Inv-loop μ-loop
 loop-again c =
     let loop = c .before .before .before .before .before .before .loop in
     let loop-test = c .before .before .before .before .before .loop-test in
-    let put-f32 = c .before .before .put-f32 in
-    (again _ _ _ _ _ (loop .i) (loop-test .taken) (loop .inv .0) (put-f32 .ensures), ap length (put-f32 .ensures) ∙ simp length-sets (loop .inv .1), omega arith)
+    let put-number = c .before .before .put-number in
+    (again _ _ _ _ _ (loop .i) (loop-test .taken) (loop .inv .0) (put-number .ensures), ap length (put-number .ensures) ∙ simp length-sets (loop .inv .1), omega arith)
 
 same-length : tie.Need-same-length Inv-loop μ-loop
 same-length c = search needs
@@ -67,11 +70,11 @@ put-floats-spec =
     Inv-loop
     μ-loop
     loop-holds
-    mul-put-f32
-    add-put-f32
-    mul-put-f32-2
-    shared-slice-read-put-f32
-    put-f32-requires
+    mul-put-number
+    add-put-number
+    mul-put-number-2
+    shared-slice-read-put-number
+    put-number-requires
     add-i
     loop-less
     loop-again

@@ -1,6 +1,6 @@
--- `dilate::inner::dilate_block`: a block of at most 64 bits is dilated as one word, a longer one by four merges. Assumes nothing.
+-- `dilate::inner::dilate_block`: a block of at most 64 bits is dilated as one word, a longer one by merges. Assumes nothing.
 use borrow.Author.Needs.{needs}
-use Rattle.dilate.specs.BlockLaws.{block-by-word, block-by-merges}
+use Rattle.dilate.specs.BlockLaws.{block-by-word}
 use Rattle.dilate.proofs.inner.dilate_block.Statement.{statement}
 use Rattle.dilate.proofs.inner.dilate_block.Tie as tie
 
@@ -34,37 +34,14 @@ returns c =
     block-by-word (a .mask .now) _ (a .o) (a .stride) _ (c .before .before .before .before .before .bits-at .result) (c .before .before .before .before .dilate-word .result)
     (c .before .before .before .before .before .bits-at .ensures) (c .before .before .before .before .dilate-word .ensures .0) (c .before .before .before .before .dilate-word .ensures .1) (c .before .before .or-bits .ensures)
 
-add-merge-above : tie.Need-add-merge-above
-add-merge-above c = search needs
-
-merge-above-requires : tie.Need-merge-above-requires
-merge-above-requires c κs = search needs
-
-add-merge-above-2 : tie.Need-add-merge-above-2
-add-merge-above-2 c = search needs
-
-merge-above-requires-2 : tie.Need-merge-above-requires-2
-merge-above-requires-2 c κs = search needs
-
-add-merge-below : tie.Need-add-merge-below
-add-merge-below c = search needs
-
-merge-below-requires : tie.Need-merge-below-requires
-merge-below-requires c κs = search needs
-
-add-merge-below-2 : tie.Need-add-merge-below-2
-add-merge-below-2 c = search needs
-
-merge-below-requires-2 : tie.Need-merge-below-requires-2
-merge-below-requires-2 c κs = search needs
+dilate-long-requires : tie.Need-dilate-long-requires
+dilate-long-requires c κs = search needs
 
 same-length-2 : tie.Need-same-length-2
 same-length-2 c = search needs
 
 returns-2 : tie.Need-returns-2
-returns-2 c =
-    let a = c .before .before .before .before .before .before .before .before .before .before .before .before .before .before .before .before .before .before .args in
-    block-by-merges (a .mask .now) _ _ _ _ (a .o) (a .stride) (a .rest) (c .before .before .before .before .before .before .before .before .before .before .before .before .before .before .merge-above .ensures) (c .before .before .before .before .before .before .before .before .before .before .merge-above2 .ensures) (c .before .before .before .before .before .before .merge-below .ensures) (c .before .before .merge-below2 .ensures)
+returns-2 c = search needs
 
 pub dilate-block-spec : {M : Type 1} → statement M
 dilate-block-spec =
@@ -79,13 +56,6 @@ dilate-block-spec =
     or-bits-requires
     same-length
     returns
-    add-merge-above
-    merge-above-requires
-    add-merge-above-2
-    merge-above-requires-2
-    add-merge-below
-    merge-below-requires
-    add-merge-below-2
-    merge-below-requires-2
+    dilate-long-requires
     same-length-2
     returns-2)

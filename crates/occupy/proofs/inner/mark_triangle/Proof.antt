@@ -12,7 +12,11 @@ absent-requires c κs = search needs
 
 returns : tie.Need-returns
 unfolding markTriangle
-returns c = rw (sym (c .before .absent .ensures) ∙ c .if1 .taken) refl
+returns c =
+    record {
+      tidy = c .before .before .before .pre .1;
+      same = rw (sym (c .before .absent .ensures) ∙ c .if1 .taken) refl;
+    }
 
 sample-count-requires : tie.Need-sample-count-requires
 sample-count-requires c κs = search needs
@@ -22,7 +26,8 @@ side-requires c κs = rw (c .sample-count .ensures) (samples-most (targetOf (c .
 
 mark-rows-requires : tie.Need-mark-rows-requires
 mark-rows-requires c κs =
-    (c .before .before .before .before .before .before .pre, rw (c .before .side .ensures, c .before .before .sample-count .ensures) (side-most (targetOf (c .before .before .before .before .before .before .args .t) (c .before .before .before .before .before .before .args .e))))
+    let s = c .before .before .before .before .before .before in
+    (s .pre .0, rw (c .before .side .ensures, c .before .before .sample-count .ensures) (side-most (targetOf (s .args .t) (s .args .e))), s .pre .1)
 
 same-length : tie.Need-same-length
 same-length c = search needs
@@ -30,8 +35,13 @@ same-length c = search needs
 returns-2 : tie.Need-returns-2
 unfolding markTriangle
 returns-2 c =
-    rw (sym (c .before .before .before .before .before .before .before .absent .ensures) ∙ c .before .before .before .before .before .before .if1 .left)
-    (c .before .before .mark-rows .ensures ∙ rw (c .before .before .before .before .side .ensures, c .before .before .before .before .before .sample-count .ensures) refl)
+    let m = c .before .before .mark-rows .ensures in
+    record {
+      tidy = m .tidy;
+      same =
+          rw (sym (c .before .before .before .before .before .before .before .absent .ensures) ∙ c .before .before .before .before .before .before .if1 .left)
+          (m .same ∙ rw (c .before .before .before .before .side .ensures, c .before .before .before .before .before .sample-count .ensures) refl);
+    }
 
 pub mark-triangle-spec : {M : Type 1} → statement M
 mark-triangle-spec =

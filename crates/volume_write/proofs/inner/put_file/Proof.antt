@@ -13,7 +13,7 @@ put-contents-requires : tie.Need-put-contents-requires
 put-contents-requires c κs =
     let args = c .before .before .before .before .before .before .before .before .before .before .args in
     let pre = c .before .before .before .before .before .before .before .before .before .before .pre in
-    omega (arith, pre .bytes, pre .count, voxels-most (args .axes) (pre .axes))
+    omega (arith, pre .0 .bytes, pre .0 .count, voxels-most (args .axes) (pre .0 .axes))
 
 put-floats-requires : tie.Need-put-floats-requires
 put-floats-requires c κs = search needs
@@ -27,23 +27,23 @@ add-put-floats c = search needs
 put-floats-requires-2 : tie.Need-put-floats-requires-2
 put-floats-requires-2 c κs = search needs
 
-mul-put-bytes : tie.Need-mul-put-bytes
-mul-put-bytes c = search needs
+mul-put-mask : tie.Need-mul-put-mask
+mul-put-mask c = search needs
 
-add-put-bytes : tie.Need-add-put-bytes
-add-put-bytes c = search needs
+add-put-mask : tie.Need-add-put-mask
+add-put-mask c = search needs
 
-put-bytes-requires : tie.Need-put-bytes-requires
-put-bytes-requires c κs = search needs
+put-mask-requires : tie.Need-put-mask-requires
+put-mask-requires c κs = search needs
 
-mul-put-bytes-2 : tie.Need-mul-put-bytes-2
-mul-put-bytes-2 c = search needs
+mul-put-mask-2 : tie.Need-mul-put-mask-2
+mul-put-mask-2 c = search needs
 
-add-put-bytes-2 : tie.Need-add-put-bytes-2
-add-put-bytes-2 c = search needs
+add-put-mask-2 : tie.Need-add-put-mask-2
+add-put-mask-2 c = search needs
 
-put-bytes-requires-2 : tie.Need-put-bytes-requires-2
-put-bytes-requires-2 c κs = search needs
+put-mask-requires-2 : tie.Need-put-mask-requires-2
+put-mask-requires-2 c κs = search needs
 
 mul-put-corners : tie.Need-mul-put-corners
 mul-put-corners c = search needs
@@ -65,12 +65,12 @@ returns c =
     let put-contents = c .before .before .before .before .before .before .before .before .before .before .before .before .before .before .before .before .before .before .before .before .before .before .put-contents in
     let put-floats = c .before .before .before .before .before .before .before .before .before .before .before .before .before .before .before .before .before .before .put-floats in
     let put-floats2 = c .before .before .before .before .before .before .before .before .before .before .before .before .before .before .put-floats2 in
-    let put-bytes = c .before .before .before .before .before .before .before .before .before .before .put-bytes in
-    let put-bytes2 = c .before .before .before .before .before .before .put-bytes2 in
+    let put-mask = c .before .before .before .before .before .before .before .before .before .before .put-mask in
+    let put-mask2 = c .before .before .before .before .before .before .put-mask2 in
     let put-corners = c .before .before .put-corners in
     written (args .axes) (args .corners) (args .light .now) (args .volume .now) (args .active .now) (args .occupied .now) (args .n) (args .bytes .now)
-    _ _ _ _ _ _ _ (pre) (put-head .ensures) (put-contents .ensures) (put-floats .ensures) (put-floats2 .ensures) (put-bytes .ensures)
-    (put-bytes2 .ensures) (put-corners .ensures)
+    _ _ _ _ _ _ _ (pre .0) (put-head .ensures) (put-contents .ensures) (put-floats .ensures) (put-floats2 .ensures) (put-mask .ensures)
+    (put-mask2 .ensures) (put-corners .ensures)
 
 pub put-file-spec : {M : Type 1} → statement M
 put-file-spec =
@@ -82,12 +82,12 @@ put-file-spec =
     mul-put-floats
     add-put-floats
     put-floats-requires-2
-    mul-put-bytes
-    add-put-bytes
-    put-bytes-requires
-    mul-put-bytes-2
-    add-put-bytes-2
-    put-bytes-requires-2
+    mul-put-mask
+    add-put-mask
+    put-mask-requires
+    mul-put-mask-2
+    add-put-mask-2
+    put-mask-requires-2
     mul-put-corners
     add-put-corners
     put-corners-requires

@@ -1,11 +1,11 @@
--- The loop goes from active voxel to active voxel by the walk's own steps: the voxels between are passed over, the active one is taken or the walk stops at it.
+-- The loop goes through the voxels by the walk's own steps: from an inactive voxel to the next active one, and an active one is taken or the walk stops at it.
 use native.Mathlib.Omega.{arith}
 use mathlib.Core.Path.{refl}
 use Prim.Native.Nat.{_-_}
 use lib.ListN.{length}
 use Rattle.names.specs.Scene.{sceneOf}
 use Rattle.intake.specs.Intake.{inputOf}
-use Rattle.walk.proofs.Loop.{SoFar, searchable, further, begins, stops, ends, takeable, fits-rays, takes}
+use Rattle.walk.proofs.Loop.{SoFar, readable, searchable, further, begins, ends, takeable, fits-rays, stops, passes, takes}
 use Rattle.walk.proofs.inner.walk.Statement.{statement}
 use Rattle.walk.proofs.inner.walk.Tie as tie
 
@@ -21,46 +21,52 @@ abbrev μ-loop : tie.MeasureT-loop
 voxel-cost-requires : tie.Need-voxel-cost-requires Inv-loop μ-loop
 voxel-cost-requires c κs = c .before .before .before .before .before .before .before .before .before .before .before .pre .0 .lamps
 
-next-marked-requires : tie.Need-next-marked-requires Inv-loop μ-loop
-next-marked-requires c κs = searchable (c .before .before .before .before .before .before .before .before .before .before .before .before .pre .0)
-
 loop-holds : tie.Need-loop-holds Inv-loop μ-loop
-loop-holds c = begins (c .before .before .before .before .before .before .before .before .before .before .before .before .before .pre .0) (c .next-marked .ensures)
+loop-holds c = begins
 
-sub-if1 : tie.Need-sub-if1 Inv-loop μ-loop
-sub-if1 c = c .before .loop .inv .within
+add-i : tie.Need-add-i Inv-loop μ-loop
+add-i c = omega (arith, c .loop-test .taken, searchable (c .before .before .before .before .before .before .before .before .before .before .before .before .before .before .pre .0) .1)
+
+is-marked-requires : tie.Need-is-marked-requires Inv-loop μ-loop
+is-marked-requires c κs = readable (c .before .before .before .before .before .before .before .before .before .before .before .before .before .before .pre .0) (c .loop-test .taken)
+
+sub-if2 : tie.Need-sub-if2 Inv-loop μ-loop
+sub-if2 c = c .before .before .before .loop .inv .within
 
 same-length : tie.Need-same-length Inv-loop μ-loop
-same-length c = c .before .before .loop .inv .volume
+same-length c = c .before .before .before .before .loop .inv .volume
 
 same-length-2 : tie.Need-same-length-2 Inv-loop μ-loop
-same-length-2 c = c .before .before .loop .inv .distances
+same-length-2 c = c .before .before .before .before .loop .inv .distances
 
 same-length-3 : tie.Need-same-length-3 Inv-loop μ-loop
-same-length-3 c = c .before .before .loop .inv .places
+same-length-3 c = c .before .before .before .before .loop .inv .places
 
 returns : tie.Need-returns Inv-loop μ-loop
-returns c = stops (c .before .before .before .before .before .before .before .before .before .before .before .before .before .before .before .before .pre .0) (c .before .before .loop .inv) (c .before .loop-test .taken) (rw (c .before .before .before .before .voxel-cost .ensures) at (c .if1 .taken))
+returns c = stops (c .before .before .before .before .before .before .before .before .before .before .before .before .before .before .before .before .before .pre .0) (c .before .before .before .before .loop .inv) (c .before .before .before .loop-test .taken) (c .before .before .is-marked .ensures) (c .before .if1 .taken) (rw (c .before .before .before .before .before .voxel-cost .ensures) at (c .if2 .taken))
 
 take-requires : tie.Need-take-requires Inv-loop μ-loop
-take-requires c κs = (takeable (c .before .before .before .before .before .before .before .before .before .before .before .before .before .before .before .before .before .before .before .pre .0) (c .before .before .before .before .before .loop .inv) refl refl (c .before .before .before .before .loop-test .taken), c .before .before .before .before .before .before .before .before .before .before .before .before .before .before .before .before .before .before .before .pre .1)
+take-requires c κs = (takeable (c .before .before .before .before .before .before .before .before .before .before .before .before .before .before .before .before .before .before .before .before .pre .0) (c .before .before .before .before .before .before .before .loop .inv) refl refl (c .before .before .before .before .before .before .loop-test .taken), c .before .before .before .before .before .before .before .before .before .before .before .before .before .before .before .before .before .before .before .before .pre .1)
 
 add-rays : tie.Need-add-rays Inv-loop μ-loop
-add-rays c = omega (arith, fits-rays (c .before .before .before .before .before .before .before .before .before .before .before .before .before .before .before .before .before .before .before .before .before .before .before .before .before .before .pre .0) (c .before .before .before .before .before .before .before .before .before .before .before .before .loop .inv) (c .before .before .before .before .before .before .take .ensures) (rw (c .before .before .before .before .before .before .before .before .before .before .before .before .before .before .voxel-cost .ensures) at (c .before .before .before .before .before .before .before .before .before .before .if1 .left)), c .before .before .before .before .before .before .before .before .before .before .before .before .before .before .before .before .before .before .before .before .before .before .before .before .before .before .fits .allowance)
-
-add-next-marked : tie.Need-add-next-marked Inv-loop μ-loop
-add-next-marked c = omega (arith, c .before .before .before .before .before .before .before .before .before .before .before .loop-test .taken, searchable (c .before .before .before .before .before .before .before .before .before .before .before .before .before .before .before .before .before .before .before .before .before .before .before .before .before .before .pre .0) .1)
-
-next-marked-requires-2 : tie.Need-next-marked-requires-2 Inv-loop μ-loop
-next-marked-requires-2 c κs = searchable (c .before .before .before .before .before .before .before .before .before .before .before .before .before .before .before .before .before .before .before .before .before .before .before .before .before .before .pre .0)
+add-rays c = omega (arith, fits-rays (c .before .before .before .before .before .before .before .before .before .before .before .before .before .before .before .before .before .before .before .before .before .before .before .before .before .before .before .pre .0) (c .before .before .before .before .before .before .before .before .before .before .before .before .before .before .loop .inv) (c .before .before .before .before .before .before .take .ensures) (rw (c .before .before .before .before .before .before .before .before .before .before .before .before .before .before .before .voxel-cost .ensures) at (c .before .before .before .before .before .before .before .before .before .before .if2 .left)), c .before .before .before .before .before .before .before .before .before .before .before .before .before .before .before .before .before .before .before .before .before .before .before .before .before .before .before .fits .allowance)
 
 loop-less : tie.Need-loop-less Inv-loop μ-loop
-loop-less c = further (c .before .before .before .before .before .before .before .before .before .before .before .before .before .before .before .before .before .before .before .before .before .before .before .before .before .before .before .pre .0) (c .before .before .before .before .before .before .before .before .before .before .before .before .loop-test .taken) (c .next-marked2 .ensures)
+loop-less c = omega (arith, c .before .before .before .before .before .before .before .before .before .before .before .before .before .loop-test .taken)
 
 loop-again : tie.Need-loop-again Inv-loop μ-loop
 loop-again c =
-    takes (c .before .before .before .before .before .before .before .before .before .before .before .before .before .before .before .before .before .before .before .before .before .before .before .before .before .before .before .pre .0) (c .before .before .before .before .before .before .before .before .before .before .before .before .before .loop .inv) (c .before .before .before .before .before .before .before .before .before .before .before .before .loop-test .taken) (rw (c .before .before .before .before .before .before .before .before .before .before .before .before .before .before .before .voxel-cost .ensures) at (c .before .before .before .before .before .before .before .before .before .before .before .if1 .left)) (c .before .before .before .before .before .before .before .take .ensures)
-    (c .before .before .before .before .before .before .before .take .kept .1 .1 .1 .1 .1 .1 .1 .1 .1 .1 .1 .1 .1 .0) (c .before .before .before .before .before .before .before .take .kept .1 .1 .1 .1 .1 .1 .1 .1 .1 .1 .1 .1 .1 .1 .0) (c .next-marked2 .ensures)
+    takes (c .before .before .before .before .before .before .before .before .before .before .before .before .before .before .before .before .before .before .before .before .before .before .before .before .before .before .before .pre .0) (c .before .before .before .before .before .before .before .before .before .before .before .before .before .before .loop .inv) (c .before .before .before .before .before .before .before .before .before .before .before .before .before .loop-test .taken) (c .before .before .before .before .before .before .before .before .before .before .before .before .is-marked .ensures) (c .before .before .before .before .before .before .before .before .before .before .before .if1 .taken) (rw (c .before .before .before .before .before .before .before .before .before .before .before .before .before .before .before .voxel-cost .ensures) at (c .before .before .before .before .before .before .before .before .before .before .if2 .left)) (c .before .before .before .before .before .before .take .ensures)
+    (c .before .before .before .before .before .before .take .kept .1 .1 .1 .1 .1 .1 .1 .1 .1 .1 .1 .1 .1 .0) (c .before .before .before .before .before .before .take .kept .1 .1 .1 .1 .1 .1 .1 .1 .1 .1 .1 .1 .1 .1 .0)
+
+next-marked-requires : tie.Need-next-marked-requires Inv-loop μ-loop
+next-marked-requires c κs = searchable (c .before .before .before .before .before .before .before .before .before .before .before .before .before .before .before .before .pre .0)
+
+loop-less-2 : tie.Need-loop-less-2 Inv-loop μ-loop
+loop-less-2 c = further (c .before .before .before .before .before .before .before .before .before .before .before .before .before .before .before .before .before .pre .0) (c .before .before .before .loop-test .taken) (c .next-marked .ensures)
+
+loop-again-2 : tie.Need-loop-again-2 Inv-loop μ-loop
+loop-again-2 c = passes (c .before .before .before .before .before .before .before .before .before .before .before .before .before .before .before .before .before .pre .0) (c .before .before .before .before .loop .inv) (c .before .before .before .loop-test .taken) (c .before .before .is-marked .ensures) (c .before .if1 .left) (c .next-marked .ensures)
 
 same-length-4 : tie.Need-same-length-4 Inv-loop μ-loop
 same-length-4 c = c .before .loop .inv .volume
@@ -72,7 +78,7 @@ same-length-6 : tie.Need-same-length-6 Inv-loop μ-loop
 same-length-6 c = c .before .loop .inv .places
 
 returns-2 : tie.Need-returns-2 Inv-loop μ-loop
-returns-2 c = ends (c .before .before .before .before .before .before .before .before .before .before .before .before .before .before .before .pre .0) (c .before .loop .inv) (c .loop-test .left)
+returns-2 c = ends (c .before .before .before .before .before .before .before .before .before .before .before .before .before .before .pre .0) (c .before .loop .inv) (c .loop-test .left)
 
 pub walk-spec : {M : Type 1} → statement M
 walk-spec =
@@ -81,19 +87,21 @@ walk-spec =
     Inv-loop
     μ-loop
     voxel-cost-requires
-    next-marked-requires
     loop-holds
-    sub-if1
+    add-i
+    is-marked-requires
+    sub-if2
     same-length
     same-length-2
     same-length-3
     returns
     take-requires
     add-rays
-    add-next-marked
-    next-marked-requires-2
     loop-less
     loop-again
+    next-marked-requires
+    loop-less-2
+    loop-again-2
     same-length-4
     same-length-5
     same-length-6
