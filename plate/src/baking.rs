@@ -265,7 +265,7 @@ pub fn run(hall: &Hall, prepared: &Prepared, from: Option<Part>, asked: &Asked) 
         let part = whole()?.unwrap_or_else(|| Part { shares: vec![Share { progress: 0, rays: 0 }; count], only: prepared.only, seconds: before, volume: vec![0.0; 16 * n] });
         return Ok(Outcome::Stopped { done: told().voxels, part });
     }
-    let part = whole()?.context("every share is at its end")?;
+    let part = whole()?.expect("every share is at its end");
     let volume = match blurred.into_inner().unwrap() {
         Some(volume) => prepared.volume(hall, volume),
         None => prepared.meant(hall, part.volume.clone())?,
