@@ -55,10 +55,10 @@
  * Lengths. N is the voxel count, width·height·depth; voxel (x,y,z) has the index x + width·(y + height·z). T is the triangle count.
  *   points      9·T: p0 x y z, p1 x y z, p2 x y z of each triangle       uses     T: the material of each triangle (this list gives T)
  *   kinds       one a material, 0 opaque or 1 translucent                 numbers  7 a material: base RGB, emissive RGB, transmission
- *   occupied, active   (N+63)/64 words: voxel i is bit i%64 of word i/64, the lowest bit first; bits past the last voxel are 0. Voxel i is marked where
+ *   occupied, active, share   (N+63)/64 words: voxel i is bit i%64 of word i/64, the lowest bit first; bits past the last voxel are 0. Voxel i is marked where
  *               (mask[i / 64] >> (i % 64)) & 1 is 1. Every call that takes both takes occupied first. In a volume file a mask has a byte a voxel.
  *   light (sun, blur, lookups, file), lights (bake), and a light's scratch   N
- *   volume, and its scratch   16·N: the four coefficients of each voxel, x y z w of each in turn
+ *   volume, and its scratch   16·N: the four coefficients of each voxel, x y z w of each in turn; unblurred and joined are volumes
  *   sky, and the list of directions   1,728: three numbers of direction i of set s from 3·(64·s + i) on
  *   lamps       6 a lamp, none to eight: position x y z, colour RGB; any multiple of 6 is a length
  *   positions   three a position: x y z                                    answers  one a position for light, sixteen for coefficients
@@ -310,6 +310,17 @@ GeaidnosaBakeAnswer geaidnosa_bake(
     size_t *places, size_t places_length,
     size_t progress,
     uint64_t allowance);
+
+/* Copies the sixteen numbers of each voxel of the share's mask from unblurred to joined, and leaves the other voxels of joined as they are. So a bake is
+ * spread over threads or machines: masks of which each active voxel stands in exactly one are baked to the end, each with lists of its own and all else
+ * alike. A share's unblurred volume is its scratch, or its volume where its mask has no voxel. The other shares are joined one after another onto the
+ * first one's, and then geaidnosa_coefficient_blur takes the mean, unless no voxel at all is active: bit for bit the volume of the unbroken bake, and the
+ * rays add up. What joined holds is not tested. Refuses 1, 3, 13. */
+uint32_t geaidnosa_join(
+    GeaidnosaAxes axes,
+    const uint64_t *share, size_t share_length,
+    const float *unblurred, size_t unblurred_length,
+    float *joined, size_t joined_length);
 
 /* ---- lookups */
 

@@ -17,6 +17,7 @@ const USAGE: &str = "usage: oracle COMMAND ..
   families                      the corners that a seed reaches (seed modulo their number)
   scene SEED                    the seeded scene, as text
   answer FILE                   every answer for a scene of that text ('-': standard input)
+  timed FILE                    masks, sun and bake of such a scene, how long each took, and what they answer
   rays FILE                     every ray that the sun pass and the bake fire, one a line
   coverage COUNT                runs seeds 0..COUNT through every module; fails where a branch is never reached or a scene is refused
   stream MODULE FIRST COUNT     the records of seeds FIRST.. for a module's program, on standard output
@@ -31,8 +32,8 @@ const USAGE: &str = "usage: oracle COMMAND ..
   shrink MODULE SEED PLACE CMD..  the smallest record that CMD still answers otherwise than the oracle
 MODULE is rays, masks, blurs, sun, bake, lookup or fired.";
 
-const COMMANDS: [&str; 15] = [
-    "directions", "families", "scene", "answer", "rays", "coverage", "stream", "bad", "every", "record", "compare", "count", "time", "one", "shrink",
+const COMMANDS: [&str; 16] = [
+    "directions", "families", "scene", "answer", "timed", "rays", "coverage", "stream", "bad", "every", "record", "compare", "count", "time", "one", "shrink",
 ];
 
 pub fn main() -> ExitCode {
@@ -107,6 +108,10 @@ fn run(words: &[String]) -> Result<bool, String> {
         }
         ["answer", path] => {
             say(&crate::text::answers(&crate::text::parsed(&read(path)?)?)?)?;
+            Ok(true)
+        }
+        ["timed", path] => {
+            say(&crate::timed::timed(&crate::text::parsed(&read(path)?)?)?)?;
             Ok(true)
         }
         ["rays", path] => {

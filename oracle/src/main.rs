@@ -14,6 +14,7 @@ mod scene;
 mod shrink;
 mod table;
 mod text;
+mod timed;
 mod watch;
 mod word_places;
 mod words;

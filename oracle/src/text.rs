@@ -32,7 +32,7 @@ fn shown(x: f32) -> String {
     format!("#{:08x}", x.to_bits())
 }
 
-fn row(l: &[f32]) -> String {
+pub fn row(l: &[f32]) -> String {
     l.iter().map(|x| shown(*x)).collect::<Vec<_>>().join(" ")
 }
 
@@ -216,6 +216,14 @@ fn bake_of(asked: &Asked) -> Result<Bake, String> {
         Some(l) => l.clone(),
         None => sunned(&w.grid, &w.lists, [w.sunlight[0], w.sunlight[1], w.sunlight[2]], Some(&w.active)).after,
     };
+    bake_with(asked, light)
+}
+
+/// The unbroken bake of a scene with this light, unless it is refused.
+pub fn bake_with(asked: &Asked, light: Vec<f32>) -> Result<Bake, String> {
+    let w = &asked.world;
+    let n = voxels(&w.grid);
+    let t = w.lists.uses.len();
     let bake = Bake {
         grid: w.grid,
         lists: w.lists.clone(),
@@ -242,7 +250,7 @@ fn figures(l: &[u32]) -> String {
     l.iter().map(|x| x.to_string()).collect()
 }
 
-fn volume_text(out: &mut String, name: &str, volume: &[f32]) {
+pub fn volume_text(out: &mut String, name: &str, volume: &[f32]) {
     for (i, v) in volume.chunks(16).enumerate() {
         let _ = writeln!(out, "{name} {i} {}", row(v));
     }

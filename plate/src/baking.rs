@@ -1,12 +1,13 @@
 //! A bake by shares, in calls of an allowance, that can be stopped and gone on with.
 //!
 //! One share is the library's own bake, and that a bake spread over calls ends as the unbroken one is proved of it. More shares divide the active voxels, each
-//! into one; every share is a bake of its own mask, the unblurred numbers of a voxel are taken from the share that has it, and the mean is taken last. That
-//! this gives the same bits is tested (tests/), and not proved.
+//! into one; every share is a bake of its own mask, its unblurred volume is joined onto the first one's by the library's `join`, and its blur of coefficients
+//! takes the mean last. That calls made so end in the bits of the unbroken bake is proved (`demand-of-shares` of crate shared_bake); that they are made so is
+//! what stands here, and is tested (tests/).
 use crate::hall::Hall;
 use crate::part::{Only, Part, Share};
 use crate::volume::Volume;
-use anyhow::Result;
+use anyhow::{Context, Result};
 use geaidnosa::*;
 use std::sync::atomic::{AtomicBool, AtomicU64, AtomicUsize, Ordering::SeqCst};
 use std::sync::Mutex;
@@ -18,6 +19,8 @@ pub struct Prepared {
     pub active: Vec<u64>,
     pub light: Vec<f32>,
     pub marked: Marked,
+    pub masks_seconds: f64,
+    pub sun_seconds: f64,
     /// Where one machine bakes a share of the active voxels: which one; `active` is then its mask.
     pub only: Option<Only>,
 }
@@ -44,15 +47,21 @@ impl Prepared {
     }
 }
 
-/// The unblurred numbers of all shares over machines, given in their order: a voxel's from the share that has it, any other's from the first.
-pub fn joined_shares(prepared: &Prepared, shares: &[Part]) -> Vec<f32> {
-    let mut all = shares.first().map_or_else(Vec::new, |first| first.volume.clone());
-    for (part, mask) in shares.iter().zip(shares_of(&prepared.active, shares.len())) {
-        for voxel in marked_voxels(&mask) {
-            all[16 * voxel..16 * voxel + 16].copy_from_slice(&part.volume[16 * voxel..16 * voxel + 16]);
-        }
+/// The unblurred volumes of shares, each with its mask, joined onto the first one's; none of none.
+fn joined<'a>(axes: Axes, mut shares: impl Iterator<Item = (&'a [u64], &'a [f32])>) -> Result<Option<Vec<f32>>> {
+    let Some((_, first)) = shares.next() else { return Ok(None) };
+    let mut all = first.to_vec();
+    for (mask, unblurred) in shares {
+        join(axes, mask, unblurred, &mut all)?;
     }
-    all
+    Ok(Some(all))
+}
+
+/// The unblurred volume of all shares over machines, given in their order.
+pub fn joined_shares(hall: &Hall, prepared: &Prepared, shares: &[Part]) -> Result<Vec<f32>> {
+    let masks = shares_of(&prepared.active, shares.len());
+    let volumes = masks.iter().zip(shares).map(|(mask, part)| (&mask[..], &part.volume[..]));
+    joined(hall.axes, volumes)?.context("there are no shares")
 }
 
 pub struct Scratch {
@@ -74,9 +83,12 @@ pub fn prepare(hall: &Hall) -> Result<Prepared> {
     let n = hall.axes.count();
     let (mut occupied, mut active) = (vec![0; hall.axes.words()], vec![0; hall.axes.words()]);
     let (mut light, mut scratch) = (vec![0.0; n], vec![0.0; n]);
+    let begun = Instant::now();
     let marked = masks(hall.axes, hall.corners, &hall.points, &mut occupied, &mut active)?;
+    let masks_seconds = begun.elapsed().as_secs_f64();
     sun(hall.axes, hall.corners, hall.scene(), hall.sun.direction, &active, &mut light, &mut scratch, Scratch::new(hall).lent())?;
-    Ok(Prepared { occupied, active, light, marked, only: None })
+    let sun_seconds = begun.elapsed().as_secs_f64() - masks_seconds;
+    Ok(Prepared { occupied, active, light, marked, masks_seconds, sun_seconds, only: None })
 }
 
 /// The masks of the shares: active voxel number j goes to share j mod count.
@@ -87,8 +99,10 @@ pub fn shares_of(active: &[u64], count: usize) -> Vec<Vec<u64>> {
 }
 
 /// The voxels of a mask that a bake of it has passed.
-fn passed(mask: &[u64], progress: usize) -> impl Iterator<Item = usize> + '_ {
-    marked_voxels(mask).take_while(move |voxel| *voxel < progress)
+fn passed(mask: &[u64], progress: usize) -> Vec<u64> {
+    let mut below = vec![0; mask.len()];
+    marked_voxels(mask).take_while(|voxel| *voxel < progress).for_each(|voxel| mark(&mut below, voxel));
+    below
 }
 
 /// What is asked of a bake.
@@ -127,6 +141,21 @@ struct State {
     volume: Vec<f32>,
 }
 
+/// The shares as their last calls left them, from what was saved of all: ambient everywhere, but for what a share has passed of its own.
+fn states_of(hall: &Hall, prepared: &Prepared, masks: &[Vec<u64>], part: &Part) -> Result<Vec<State>> {
+    let n = hall.axes.count();
+    let mut ambient = vec![0.0; 16 * n];
+    // a bake of no voxel fills the volume
+    let none = vec![0; hall.axes.words()];
+    bake(hall.input(&none, &prepared.light), &mut ambient, &mut vec![0.0; 16 * n], Scratch::new(hall).lent(), 0, u64::MAX)?;
+    let state = |(share, mask): (&Share, &Vec<u64>)| -> Result<State> {
+        let mut volume = ambient.clone();
+        join(hall.axes, &passed(mask, share.progress), &part.volume, &mut volume)?;
+        Ok(State { progress: share.progress, rays: share.rays, volume })
+    };
+    part.shares.iter().zip(masks).map(state).collect()
+}
+
 pub fn run(hall: &Hall, prepared: &Prepared, from: Option<Part>, asked: &Asked) -> Result<Outcome> {
     let n = hall.axes.count();
     let begun = Instant::now();
@@ -134,14 +163,12 @@ pub fn run(hall: &Hall, prepared: &Prepared, from: Option<Part>, asked: &Asked) 
     let masks = shares_of(&prepared.active, count);
     let before = from.as_ref().map_or(0.0, |p| p.seconds);
     // how many active voxels each mask has below an index
-    let taken = |mask: &[u64], progress: usize| passed(mask, progress).count() as u64;
-    let kept: Vec<Mutex<State>> = (0..count)
-        .map(|s| match &from {
-            Some(part) => State { progress: part.shares[s].progress, rays: part.shares[s].rays, volume: part.volume.clone() },
-            None => State { progress: 0, rays: 0, volume: vec![0.0; 16 * n] },
-        })
-        .map(Mutex::new)
-        .collect();
+    let taken = |mask: &[u64], progress: usize| marked_count(&passed(mask, progress));
+    let begun_from = match &from {
+        Some(part) => states_of(hall, prepared, &masks, part)?,
+        None => vec![State { progress: 0, rays: 0, volume: vec![0.0; 16 * n] }; count],
+    };
+    let kept: Vec<Mutex<State>> = begun_from.into_iter().map(Mutex::new).collect();
     let voxels = AtomicU64::new(kept.iter().zip(&masks).map(|(k, m)| taken(m, k.lock().unwrap().progress)).sum());
     let rays = AtomicU64::new(kept.iter().map(|k| k.lock().unwrap().rays).sum());
     let calls = AtomicU64::new(0);
@@ -186,14 +213,18 @@ pub fn run(hall: &Hall, prepared: &Prepared, from: Option<Part>, asked: &Asked) 
         Ok(())
     };
 
-    let whole = || -> Option<Part> {
+    // What all shares are at: at their ends the unblurred volume, before them what each has passed, and ambient elsewhere. None where none has begun.
+    let whole = || -> Result<Option<Part>> {
         let states: Vec<State> = kept.iter().map(|k| k.lock().unwrap().clone()).collect();
-        joined(&states, &masks).map(|volume| Part {
+        let done: Vec<Vec<u64>> = states.iter().zip(&masks).map(|(state, mask)| passed(mask, state.progress)).collect();
+        let volumes = done.iter().zip(&states).filter(|(_, state)| state.progress > 0).map(|(done, state)| (&done[..], &state.volume[..]));
+        let part = |volume| Part {
             shares: states.iter().map(|s| Share { progress: s.progress, rays: s.rays }).collect(),
             only: prepared.only,
             seconds: before + begun.elapsed().as_secs_f64(),
             volume,
-        })
+        };
+        Ok(joined(hall.axes, volumes)?.map(part))
     };
     let pool = rayon::ThreadPoolBuilder::new().num_threads(asked.threads.clamp(1, count)).build()?;
     let results: Mutex<Vec<anyhow::Error>> = Mutex::new(Vec::new());
@@ -217,7 +248,7 @@ pub fn run(hall: &Hall, prepared: &Prepared, from: Option<Part>, asked: &Asked) 
             std::thread::sleep(Duration::from_millis(20));
             (asked.tell)(told());
             if saved.elapsed() >= asked.save_every && running.load(SeqCst) > 0 {
-                if let Some(Err(error)) = whole().map(|part| (asked.save)(&part)) {
+                if let Err(error) = whole().and_then(|part| part.map_or(Ok(()), |part| (asked.save)(&part))) {
                     failed.store(true, SeqCst);
                     results.lock().unwrap().push(error);
                 }
@@ -231,25 +262,13 @@ pub fn run(hall: &Hall, prepared: &Prepared, from: Option<Part>, asked: &Asked) 
     (asked.tell)(told());
     let finished = kept.iter().all(|k| k.lock().unwrap().progress == n);
     if !finished {
-        let part = whole().unwrap_or_else(|| Part { shares: vec![Share { progress: 0, rays: 0 }; count], only: prepared.only, seconds: before, volume: vec![0.0; 16 * n] });
+        let part = whole()?.unwrap_or_else(|| Part { shares: vec![Share { progress: 0, rays: 0 }; count], only: prepared.only, seconds: before, volume: vec![0.0; 16 * n] });
         return Ok(Outcome::Stopped { done: told().voxels, part });
     }
-    let part = whole().expect("every share is at its end");
+    let part = whole()?.expect("every share is at its end");
     let volume = match blurred.into_inner().unwrap() {
         Some(volume) => prepared.volume(hall, volume),
         None => prepared.meant(hall, part.volume.clone())?,
     };
     Ok(Outcome::Done { volume, part, rays: told().rays, seconds: before + begun.elapsed().as_secs_f64() })
-}
-
-/// The unblurred volume of all shares: a voxel that its share has passed from there, every other from a share that has begun, where it is ambient. None where
-/// no share has begun.
-fn joined(states: &[State], masks: &[Vec<u64>]) -> Option<Vec<f32>> {
-    let mut all = states.iter().find(|s| s.progress > 0)?.volume.clone();
-    for (state, mask) in states.iter().zip(masks) {
-        for voxel in passed(mask, state.progress) {
-            all[16 * voxel..16 * voxel + 16].copy_from_slice(&state.volume[16 * voxel..16 * voxel + 16]);
-        }
-    }
-    Some(all)
 }

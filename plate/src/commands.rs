@@ -5,7 +5,7 @@ use crate::hall::{self, thousands, vec, Hall};
 use crate::part::{self, Only, Part};
 use crate::picture::{self, Camera, Of, Picture};
 use crate::volume::{irradiance, Volume};
-use crate::{files, light, Bake, Demo, FaceArgs, Look, Plan, Slice, ViewArgs, DIFFERS, GOOD, REFUSED, SAVED};
+use crate::{files, light, lists, Bake, Demo, FaceArgs, Look, Plan, Slice, ViewArgs, DIFFERS, GOOD, REFUSED, SAVED};
 use anyhow::{bail, ensure, Context, Result};
 use geaidnosa::{is_marked, mark, marked_count, marked_voxels, Refusal, Vec3};
 use indicatif::{ProgressBar, ProgressDrawTarget, ProgressStyle};
@@ -157,6 +157,9 @@ fn bake_one(hall: &Hall, out: &Path, asked: &Baking, stop: &AtomicBool) -> Resul
         Some(only) => prepared.share(only),
         None => prepared,
     };
+    if asked.json {
+        println!("{}", serde_json::json!({ "event": "prepared", "hall": hall.name, "masks_seconds": prepared.masks_seconds, "sun_seconds": prepared.sun_seconds }));
+    }
     let bar = ProgressBar::with_draw_target(Some(prepared.marked.active), if asked.json { ProgressDrawTarget::hidden() } else { ProgressDrawTarget::stderr() });
     bar.set_style(ProgressStyle::with_template("{prefix} [{bar:32}] {pos}/{len} voxels, {msg}, {eta} left")?.progress_chars("=> "));
     bar.set_prefix(hall.name.clone());
@@ -254,10 +257,15 @@ pub fn join(hall: &Path, paths: &[PathBuf], out: Option<&Path>) -> Result<u8> {
     files::clear_temporaries(&out);
     let shares = all_shares(&hall, paths)?;
     let prepared = baking::prepare(&hall)?;
-    prepared.meant(&hall, baking::joined_shares(&prepared, &shares))?.write(&out)?;
+    prepared.meant(&hall, baking::joined_shares(&hall, &prepared, &shares)?)?.write(&out)?;
     let rays = shares.iter().fold(0u64, |sum, part| sum.saturating_add(part.rays()));
     println!("{}: {} of {} shares, {} of {} voxels active, {} rays, {} over the shares", hall.name, out.display(), shares.len(),
         thousands(prepared.marked.active), thousands(hall.axes.count() as u64), thousands(rays), lasting(shares.iter().map(|p| p.seconds).sum()));
+    Ok(GOOD)
+}
+
+pub fn lists(hall: &Path) -> Result<u8> {
+    print!("{}", lists::text(&read_hall(hall, true)?));
     Ok(GOOD)
 }
 

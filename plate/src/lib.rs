@@ -5,6 +5,7 @@ pub mod faults;
 pub mod files;
 pub mod hall;
 pub mod light;
+pub mod lists;
 pub mod man;
 pub mod obj;
 pub mod part;
@@ -93,6 +94,8 @@ enum Command {
     },
     /// What a refusal's number means, and what to do
     Explain { number: u32 },
+    /// The lists that the library is handed for a hall, as text, every number by its bits
+    Lists { hall: PathBuf },
     /// Completions for a shell, on standard output
     Completions { shell: clap_complete::Shell },
     /// The manual page as roff, on standard output: `plate man | man -l -`
@@ -279,6 +282,7 @@ pub fn run() -> ExitCode {
         Command::Diff { first, second, png } => commands::diff(&first, &second, png.as_deref()),
         Command::Verify { volume, hall, sample } => commands::verify(&volume, &hall, sample),
         Command::Explain { number } => commands::explain(number),
+        Command::Lists { hall } => commands::lists(&hall),
         Command::Completions { shell } => {
             clap_complete::generate(shell, &mut Cli::command(), "plate", &mut std::io::stdout());
             Ok(GOOD)

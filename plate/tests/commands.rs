@@ -86,7 +86,7 @@ fn a_volume_is_the_unbroken_bakes_bit_for_bit() {
         assert_eq!(std::fs::read(dir.path().join(&out)).unwrap(), bytes, "{shares} shares");
         assert!(!dir.path().join(format!("{out}.part")).exists());
     }
-    says(dir.path(), &["bake", "hall.toml", "--json"], 0, &["\"event\":\"done\"", &format!("\"rays\":{rays}")]);
+    says(dir.path(), &["bake", "hall.toml", "--json"], 0, &["\"event\":\"prepared\"", "\"sun_seconds\":", "\"event\":\"done\"", &format!("\"rays\":{rays}")]);
     assert_eq!(std::fs::read(dir.path().join("hall.vgrd")).unwrap(), bytes);
 }
 
@@ -193,6 +193,14 @@ fn shares_of_machines_join_to_the_same_bits() {
     bad[middle] ^= 1;
     std::fs::write(at.join("copy"), bad).unwrap();
     refused(&["x.share1of2", "copy"], &["copy: it is damaged"]);
+    // a number that no bake writes, under a right sum
+    let mut part = Part::of_bytes(&std::fs::read(at.join("x.share2of2")).unwrap(), &read(&path)).unwrap();
+    part.volume[5] = f32::NAN;
+    part.write(&at.join("copy"), &read(&path)).unwrap();
+    refused(&["x.share1of2", "copy"], &["a coefficient not finite", "refusal 13"]);
+    part.only = None;
+    part.write(&at.join("y.vgrd.part"), &read(&path)).unwrap();
+    says(at, &["bake", "hall.toml", "-o", "y.vgrd"], 3, &["a coefficient not finite", "refusal 13"]);
     // what is done stays; another share's file is not gone on with
     says(at, &["bake", "hall.toml", "--share", "1/2", "-o", "x.share1of2"], 0, &["is there and done"]);
     says(at, &["bake", "hall.toml", "--share", "2/2", "-o", "x.share1of2"], 3, &["it is of share 1/2, and share 2/2 is asked", "--fresh"]);
@@ -535,6 +543,28 @@ fn check_warns() {
 }
 
 #[test]
+fn lists_as_text() {
+    let (dir, path) = small();
+    let hall = read(&path);
+    let text = says(dir.path(), &["lists", "hall.toml"], 0, &["axes 12 6 16\n"]);
+    let bits = |name: &str, skipped: usize| -> Vec<u32> {
+        let numbers = |line: &str| line.split(' ').skip(1 + skipped).map(|word| u32::from_str_radix(&word[1..], 16).unwrap()).collect::<Vec<_>>();
+        text.lines().filter(|line| line.starts_with(&format!("{name} "))).flat_map(numbers).collect()
+    };
+    let same = |name: &str, skipped: usize, list: &[f32]| assert_eq!(bits(name, skipped), list.iter().map(|x| x.to_bits()).collect::<Vec<_>>(), "{name}");
+    let Corners { min, max } = hall.corners;
+    same("corners", 0, &[min.x, min.y, min.z, max.x, max.y, max.z]);
+    same("material", 1, &hall.numbers);
+    same("triangle", 1, &hall.points);
+    same("sky", 1, &hall.sky);
+    same("lamp", 0, &hall.lamps);
+    let uses: Vec<u32> = text.lines().filter_map(|line| line.strip_prefix("triangle ")).map(|line| line.split(' ').next().unwrap().parse().unwrap()).collect();
+    assert_eq!(uses, hall.uses);
+    assert_eq!((bits("light", 0).len(), bits("ambient", 0).len()), (6, 12));
+    says(dir.path(), &["lists", "no.toml"], 3, &["no.toml"]);
+}
+
+#[test]
 fn skies() {
     let (dir, path) = small();
     let sky = "zenith = [0.3, 0.5, 0.9]\nhorizon = [0.6, 0.6, 0.6]";
@@ -671,7 +701,7 @@ fn words_and_shells() {
     assert!(std::env::var("PLATE_EMULATE").is_ok() || !words(&ended).contains("panicked"), "{}", words(&ended));
     // the manual page names every command, and where groff is installed it finds nothing to warn of
     let page = says(dir.path(), &["man"], 0, &[".TH PLATE 1", ".SH NAME", "\\-\\-share"]);
-    for command in ["demo", "new", "check", "plan", "bake", "join", "slice", "face", "view", "look", "stats", "diff", "verify", "explain", "completions", "man"] {
+    for command in ["demo", "new", "check", "plan", "bake", "join", "slice", "face", "view", "look", "stats", "diff", "verify", "explain", "lists", "completions", "man"] {
         assert!(page.contains(&format!(".SS {command}\n")), "{command}: {page}");
     }
     std::fs::write(dir.path().join("plate.1"), &page).unwrap();

@@ -107,6 +107,7 @@ fn part_files() {
     let mut random = seeded("part files");
     // the volume is most of it: turn the two lines as often
     let lines = good.iter().enumerate().filter(|(_, b)| **b == b'\n').nth(1).unwrap().0 + 1;
+    let mut bytes = 0;
     for round in 0..rounds() {
         let mut bad = if round % 2 == 0 { turned(&good, &mut random) } else { [turned(&good[..lines], &mut random), good[lines..].to_vec()].concat() };
         // every other one with a right sum, so that what stands behind it is read too
@@ -116,8 +117,10 @@ fn part_files() {
                 bad = [format!("plate-part-1 {}\n", hall::sha256(&body)).into_bytes(), body].concat();
             }
         }
+        bytes += bad.len();
         if let Ok(read) = Part::of_bytes(&bad, &hall) {
             assert!(read.volume.len() == 16 * n && read.shares.iter().all(|s| s.progress <= n));
         }
     }
+    println!("part files: {} turned files, {bytes} bytes", rounds());
 }

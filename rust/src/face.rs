@@ -157,6 +157,12 @@ extern "C" {
         progress: usize,
         allowance: u64,
     ) -> BakeAnswer;
+    pub fn geaidnosa_join(
+        axes: Axes,
+        share: *const u64, share_length: usize,
+        unblurred: *const f32, unblurred_length: usize,
+        joined: *mut f32, joined_length: usize,
+    ) -> u32;
     pub fn geaidnosa_light_at(axes: Axes, corners: Corners, light: *const f32, light_length: usize, position: Vec3) -> LightAt;
     pub fn geaidnosa_coefficients_at(axes: Axes, corners: Corners, volume: *const f32, volume_length: usize, position: Vec3) -> CoefficientsAt;
     pub fn geaidnosa_voxel_part(

@@ -435,6 +435,17 @@ pub fn bake(input: BakeInput, volume: &mut [f32], scratch: &mut [f32], hits: Hit
     Ok(Baked { progress: answer.progress, rays: answer.rays })
 }
 
+/// Copies the sixteen numbers of each voxel of the share's mask, [`Axes::words`], from unblurred to joined, 16·N numbers each, and leaves the other voxels of
+/// joined as they are. So a bake is spread over threads or machines: masks of which each active voxel stands in exactly one are baked to the end, each with
+/// lists of its own and all else alike. A share's unblurred volume is its scratch, or its volume where its mask has no voxel. The other shares are joined one
+/// after another onto the first one's, and then [`coefficient_blur`] takes the mean, unless no voxel at all is active: bit for bit the volume of the unbroken
+/// bake, and the rays add up. What joined holds is not tested. Refuses 1, 3, 13.
+pub fn join(axes: Axes, share: &[u64], unblurred: &[f32], joined: &mut [f32]) -> Result<(), Refusal> {
+    Refusal::good(unsafe {
+        face::geaidnosa_join(axes, share.as_ptr(), share.len(), unblurred.as_ptr(), unblurred.len(), joined.as_mut_ptr(), joined.len())
+    })
+}
+
 /// The light at a position. Refuses 1, 2, 3, 11, and 13 among the eight cells read.
 pub fn light_at(axes: Axes, corners: Corners, light: &[f32], position: Vec3) -> Result<f32, Refusal> {
     let answer = unsafe { face::geaidnosa_light_at(axes, corners, light.as_ptr(), light.len(), position) };

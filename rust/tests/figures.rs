@@ -151,6 +151,45 @@ fn bakes() {
 }
 
 #[test]
+fn joins() {
+    let axes = Axes { width: 3, height: 1, depth: 1 };
+    let unblurred: Vec<f32> = (0..48).map(|i| i as f32).collect();
+    for share in 0..8 {
+        let mut joined = [-1.0; 48];
+        assert_eq!(join(axes, &[share], &unblurred, &mut joined), Ok(()));
+        assert!((0..48).all(|i| joined[i] == if is_marked(&[share], i / 16) { unblurred[i] } else { -1.0 }), "{share:b}");
+    }
+    // voxels 64 to 129 of three words
+    let wide = Axes { width: 13, height: 10, depth: 1 };
+    let mut joined = vec![0.0; 16 * 130];
+    assert_eq!(join(wide, &[0, !0, 0b11], &vec![1.0; 16 * 130], &mut joined), Ok(()));
+    assert!(joined.iter().enumerate().all(|(i, x)| *x == if i < 16 * 64 { 0.0 } else { 1.0 }));
+    // refused, and nothing written
+    let most = 2f32.powi(96);
+    let refused = |axes: Axes, share: &[u64], unblurred: &[f32], length: usize, why: Refusal| {
+        let mut joined = vec![5.0; length];
+        assert_eq!(join(axes, share, unblurred, &mut joined), Err(why));
+        assert!(joined.iter().all(|x| *x == 5.0));
+    };
+    refused(Axes { width: 0, ..axes }, &[1], &unblurred, 48, Refusal::Axis);
+    refused(Axes { depth: 33, ..axes }, &[1], &unblurred, 48, Refusal::Axis);
+    refused(axes, &[], &unblurred, 48, Refusal::Length);
+    refused(axes, &[1, 0], &unblurred, 48, Refusal::Length);
+    refused(axes, &[1], &unblurred[..47], 48, Refusal::Length);
+    refused(axes, &[1], &unblurred, 49, Refusal::Length);
+    for bit in 3..64 {
+        refused(axes, &[0b101 | 1 << bit], &unblurred, 48, Refusal::Contents);
+    }
+    // a number beyond is refused wherever it stands, one at the bound and what stood in joined are not
+    for bad in [f32::NAN, f32::INFINITY, f32::NEG_INFINITY, f32::from_bits(most.to_bits() + 1), -f32::from_bits(most.to_bits() + 1)] {
+        refused(axes, &[0], &[&unblurred[..47], &[bad]].concat(), 48, Refusal::Contents);
+        let mut joined = [bad; 48];
+        assert_eq!(join(axes, &[0b111], &[most; 48], &mut joined), Ok(()));
+        assert_eq!(joined, [most; 48]);
+    }
+}
+
+#[test]
 fn lookups_and_files() {
     let axes = Axes { width: 2, height: 1, depth: 1 };
     for (x, light) in [(-0.25, 0.75), (0.5, 0.5), (1.75, 1.0)] {

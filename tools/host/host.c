@@ -159,9 +159,11 @@ static uint32_t sun_refusal(void) { return sun(light.direction, active).refusal;
 
 static uint32_t bake_refusal(void) { return bake(volume, scratch, 0, UINT64_MAX).refusal; }
 
+static uint32_t join_refusal(void) { return geaidnosa_join(axes, active, active_words, scratch, 16 * N, volume, 16 * N); }
+
 static uint32_t write_refusal(void) { return geaidnosa_write_volume(axes, corners, lights, N, volume, 16 * N, occupied, occupied_words, active, active_words, file, BYTES); }
 
-/* of every list that those three write */
+/* of every list that those four write */
 static uint64_t written_sum(void) {
     uint64_t h = sum_of(lights, sizeof lights);
     h = sum_on(sum_on(h, lights_scratch, sizeof lights_scratch), volume, sizeof volume);
@@ -294,7 +296,8 @@ static int kept_as_nans(const float *list) {
     return 1;
 }
 
-static void check_bake(void) {
+/* Answers the rays of the unbroken bake, which it leaves in volume and scratch. */
+static uint64_t check_bake(void) {
     static float v[16 * N], s[16 * N];
     memset(volume, 0xff, sizeof volume);
     memset(scratch, 0xff, sizeof scratch);
@@ -357,6 +360,44 @@ static void check_bake(void) {
     check("bake: no lamp again, the same rays and volume", b.rays == rays && !memcmp(v, volume, sizeof v));
     printf("   rays %llu, volume sum %016llx, scratch sum %016llx\n", (unsigned long long)rays, (unsigned long long)sum_of(volume, sizeof volume),
            (unsigned long long)sum_of(scratch, sizeof scratch));
+    return rays;
+}
+
+/* The unbroken bake stands in volume and scratch. */
+static void check_join(uint64_t rays) {
+    static float v[16 * N], s[16 * N], joined[16 * N], marks[16 * N];
+    uint64_t whole[WORDS], total = 0;
+    const int shares = 4;
+    int good = 1, turn;
+    memcpy(whole, active, sizeof whole);
+    /* three shares that the active voxels are dealt out to in turn, and one that has none */
+    for (int share = 0; share < shares; share++) {
+        memset(active, 0, sizeof active);
+        turn = 0;
+        for (int i = 0; i < N; i++)
+            if (marked(whole, i) && turn++ % 3 == share) active[i / 64] |= (uint64_t)1 << (i % 64);
+        GeaidnosaBakeAnswer b = bake(v, s, 0, UINT64_MAX);
+        const float *unblurred = share < 3 ? s : v;
+        total += b.rays;
+        if (share == 0) memcpy(joined, unblurred, sizeof joined);
+        good = good && b.refusal == 0 && b.progress == N && (share == 0 || geaidnosa_join(axes, active, WORDS, unblurred, 16 * N, joined, 16 * N) == 0);
+    }
+    check("join: four shares baked and joined, one without a voxel: the unbroken bake's scratch, and the same rays", good && total == rays && !memcmp(joined, scratch, sizeof joined));
+    check("join: the mean of it is the unbroken bake's volume", geaidnosa_coefficient_blur(axes, joined, 16 * N, s, 16 * N) == 0 && !memcmp(joined, volume, sizeof joined));
+    memcpy(active, whole, sizeof active);
+    for (int i = 0; i < 16 * N; i++) marks[i] = (float)i;
+    memset(joined, 0xff, sizeof joined);
+    good = geaidnosa_join(axes, active, WORDS, marks, 16 * N, joined, 16 * N) == 0;
+    for (int i = 0; i < 16 * N; i++) good = good && (marked(active, i / 16) ? joined[i] == marks[i] : joined[i] != joined[i]);
+    check("join: marked voxels from the one, all others as they were", good);
+    check("join: an unused bit of the mask set, each in turn, refuses 13 and writes nothing", refuses_unused(active, join_refusal));
+    check("join: a word too few and one too many, refuses 3 and writes nothing", refuses_word_counts(&active_words, join_refusal));
+    marks[16 * N - 1] = INFINITY;
+    check("join: an infinity, refuses 13", geaidnosa_join(axes, active, WORDS, marks, 16 * N, joined, 16 * N) == 13);
+    const GeaidnosaAxes none = {W, H, 0};
+    check("join: volumes of 16·N−1, refuses 3; an axis of 0, refuses 1",
+          geaidnosa_join(axes, active, WORDS, marks, 16 * N - 1, joined, 16 * N) == 3 && geaidnosa_join(axes, active, WORDS, marks, 16 * N, joined, 16 * N - 1) == 3 &&
+              geaidnosa_join(none, active, WORDS, marks, 16 * N, joined, 16 * N) == 1);
 }
 
 static void check_lookups(void) {
@@ -485,7 +526,7 @@ int main(void) {
     uint64_t o = 0, a = 0;
     for (int i = 0; i < N; i++) o += marked(occupied, i), a += marked(active, i);
     check_sun(a);
-    check_bake();
+    check_join(check_bake());
     check_lookups();
     check_file(o, a);
     printf("%d failed\n", failures);
