@@ -132,6 +132,10 @@ struct Baking {
     json: bool,
 }
 
+fn removed(path: &Path) -> Result<()> {
+    std::fs::remove_file(path).with_context(|| path.display().to_string())
+}
+
 fn bake_one(hall: &Hall, out: &Path, asked: &Baking, stop: &AtomicBool) -> Result<u8> {
     let part_path = part::path_of(out);
     files::clear_temporaries(out);
@@ -140,6 +144,10 @@ fn bake_one(hall: &Hall, out: &Path, asked: &Baking, stop: &AtomicBool) -> Resul
     if asked.share.is_some() && out.exists() && !asked.fresh {
         let part = Part::read(out, hall, asked.share)?;
         ensure!(part.finished(hall), "{} is the part of an unfinished bake", out.display());
+        // a kill between the end and the part's removal left it; that of another share is not touched
+        if part_path.exists() && Part::read(&part_path, hall, asked.share).is_ok() {
+            removed(&part_path)?;
+        }
         let rays = part.rays();
         match asked.json {
             true => println!("{}", serde_json::json!({ "event": "done", "hall": hall.name, "volume": out.display().to_string(), "rays": rays, "seconds": part.seconds })),
@@ -201,7 +209,7 @@ fn bake_one(hall: &Hall, out: &Path, asked: &Baking, stop: &AtomicBool) -> Resul
                 None => volume.write(out)?,
             }
             if part_path.exists() {
-                std::fs::remove_file(&part_path).with_context(|| part_path.display().to_string())?;
+                removed(&part_path)?;
             }
             let (active, time) = (prepared.marked.active, lasting(seconds));
             said(

@@ -204,6 +204,13 @@ fn shares_of_machines_join_to_the_same_bits() {
     // what is done stays; another share's file is not gone on with
     says(at, &["bake", "hall.toml", "--share", "1/2", "-o", "x.share1of2"], 0, &["is there and done"]);
     says(at, &["bake", "hall.toml", "--share", "2/2", "-o", "x.share1of2"], 3, &["it is of share 1/2, and share 2/2 is asked", "--fresh"]);
+    // a part that a kill left beside it goes, another share's stays
+    for (left, stays) in [("x.share1of2", false), ("x.share2of2", true)] {
+        std::fs::copy(at.join(left), at.join("x.share1of2.part")).unwrap();
+        says(at, &["bake", "hall.toml", "--share", "1/2", "-o", "x.share1of2"], 0, &["is there and done"]);
+        assert_eq!(at.join("x.share1of2.part").exists(), stays, "{left}");
+    }
+    std::fs::remove_file(at.join("x.share1of2.part")).unwrap();
     std::fs::copy(at.join("x.share1of2"), at.join("y.vgrd.part")).unwrap();
     says(at, &["bake", "hall.toml", "-o", "y.vgrd"], 3, &["it is of share 1/2, and the whole bake is asked"]);
     for share in ["0/8", "9/8", "3", "a/b", "1/0", "1/1025"] {
