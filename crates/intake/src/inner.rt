@@ -80,10 +80,11 @@ pub fn judge(
     if limits::inner::bad_lamps(lamps) {
         return 19;
     }
+    let cost = voxel_cost(lamps);
     if n < progress {
         return 9;
     }
-    if allowance < voxel_cost(lamps) {
+    if allowance < cost {
         return 10;
     }
     if bad_contents(active, lights, volume, progress, n) {

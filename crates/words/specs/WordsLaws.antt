@@ -34,11 +34,11 @@ bit-says (suc (suc b)) h = absurd (omega arith)
 
 module _ (words : List ℕ) where
   pub bit-at-lt : (i : ℕ) → bitAt words i < 2
-  bit-at-lt i = bit-lt (getD words (i / 64) 0) (i % 64)
+  bit-at-lt i = bit-lt _ _
 
   -- past the last word there is no bit
   pub bit-past : (i : ℕ) → length words ≤ i / 64 → bitAt words i ≡ 0
-  bit-past i h = ap (λ (w : ℕ). bitOf w (i % 64)) (List·getD-eq-default words 0 h) ∙ zero-bits (i % 64)
+  bit-past i h = rw (List·getD-eq-default words 0 h) (zero-bits _)
 
   pub entries-length : (n : ℕ) → length (entriesOf words n) ≡ n
   unfolding entriesOf

@@ -4,6 +4,9 @@ use Rattle.dilate.specs.RunLaws.{cut-low}
 use Rattle.dilate.proofs.inner.cut.Statement.{statement}
 use Rattle.dilate.proofs.inner.cut.Tie as tie
 
+returns : tie.Need-returns
+returns c = cut-low (c .args .w) (c .args .m) (c .pre .1)
+
 sub-result : tie.Need-sub-result
 sub-result c = search needs
 
@@ -15,9 +18,6 @@ sub-result-2 c = search needs
 
 shr-result : tie.Need-shr-result
 shr-result c = search needs
-
-returns : tie.Need-returns
-returns c = cut-low (c .args .w) (c .args .m) (c .pre .1)
 
 pub cut-spec : {M : Type 1} → statement M
 cut-spec = tie.close (tie.spec sub-result shl-result sub-result-2 shr-result returns)

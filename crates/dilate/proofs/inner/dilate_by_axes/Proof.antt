@@ -8,6 +8,13 @@ use Rattle.dilate.specs.BlockLaws.{tidy-x, tidy-z, along-x, along-z, alo
 use Rattle.dilate.proofs.inner.dilate_by_axes.Statement.{statement}
 use Rattle.dilate.proofs.inner.dilate_by_axes.Tie as tie
 
+returns : tie.Need-returns
+returns c =
+    let s = c .before .before .before .before .before .before .before .before .before .before .before .before .before .before .before in
+    let a = s .args .axes in
+    along-all a (s .args .mask .now) _ _ (along-x a (s .args .mask .now) (c .before .before .before .before .before .before .before .before .before .before .dilate-middle .ensures)) (c .before .before .before .before .before .before .dilate-middle2 .ensures)
+    (along-z a _ (c .before .before .dilate-middle3 .ensures))
+
 mul-t5 : tie.Need-mul-t5
 mul-t5 c =
     let s = c .before .before in
@@ -49,13 +56,6 @@ dilate-middle-requires-3 c κs =
 
 same-length : tie.Need-same-length
 same-length c = search needs
-
-returns : tie.Need-returns
-returns c =
-    let s = c .before .before .before .before .before .before .before .before .before .before .before .before .before .before .before in
-    let a = s .args .axes in
-    along-all a (s .args .mask .now) _ _ (along-x a (s .args .mask .now) (c .before .before .before .before .before .before .before .before .before .before .dilate-middle .ensures)) (c .before .before .before .before .before .before .dilate-middle2 .ensures)
-    (along-z a _ (c .before .before .dilate-middle3 .ensures))
 
 pub dilate-by-axes-spec : {M : Type 1} → statement M
 dilate-by-axes-spec =

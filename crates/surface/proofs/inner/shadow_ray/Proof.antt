@@ -9,7 +9,7 @@ ray-from-requires c κs = search needs
 
 returns : tie.Need-returns
 unfolding shadowRay
-returns c = rw (← c .ray-from .ensures)
+returns c = c .ray-from .ensures
 
 pub shadow-ray-spec : {M : Type 1} → statement M
 shadow-ray-spec = tie.close (tie.spec ray-from-requires returns)
