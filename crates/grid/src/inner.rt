@@ -23,12 +23,12 @@ pub fn index(axes: Axes, x: usize, y: usize, z: usize) -> usize
     (z * axes.height + y) * axes.width + x
 }
 
-// A small whole number as a float. The remainder tells the compiler that it is small.
+// A small whole number as a float.
 pub fn float(n: usize) -> f32
     requires { ⌜ n < 65536 ⌝ }
     ensures { λ r. ⌜ r ≡ floatOf n ⌝ }
 {
-    (n % 65536) as u16 as f32
+    n as u16 as f32
 }
 
 // A voxel's edges.

@@ -112,12 +112,12 @@ fn past_near(x: usize, n: usize) -> usize
     x + 2
 }
 
-// How many cells a box has, as a float. The remainder tells the compiler that it is small.
+// How many cells a box has, as a float.
 fn cells(a: usize, b: usize, c: usize) -> f32
     requires { ⌜ (a ≤ 3) × (b ≤ 3) × (c ≤ 3) ⌝ }
     ensures { λ r. ⌜ r ≡ ofInt binary32 (pos (c * (b * a))) ⌝ }
 {
-    ((c * (b * a)) % 65536) as u16 as f32
+    (c * (b * a)) as u16 as f32
 }
 
 // The planes of a box added to s, of each its rows, of each the numbers of its columns.

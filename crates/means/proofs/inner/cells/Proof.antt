@@ -1,9 +1,7 @@
 -- `means::inner::cells` is the product, which is at most 27. Assumes nothing.
-use mathlib.Core.Path.{refl}
-use Prim.Native.Nat.{_*_, _<_}
 use borrow.Author.Needs.{needs}
 use native.Mathlib.Omega.{arith}
-use native.Mathlib.Nat.{mul-le-mul, mod-eq-of-lt}
+use native.Mathlib.Nat.{mul-le-mul}
 use Rattle.means.proofs.inner.cells.Statement.{statement}
 use Rattle.means.proofs.inner.cells.Tie as tie
 
@@ -14,16 +12,13 @@ mul-result-2 : tie.Need-mul-result-2
 mul-result-2 c = omega (arith, mul-le-mul (c .pre .2) (mul-le-mul (c .pre .1) (c .pre .0)))
 
 cast-result : tie.Need-cast-result
-cast-result c = omega arith
+cast-result c = omega (arith, mul-le-mul (c .pre .2) (mul-le-mul (c .pre .1) (c .pre .0)))
 
 int-to-float-result : tie.Need-int-to-float-result
 int-to-float-result c = search needs
 
 returns : tie.Need-returns
-returns c =
-    let s = c .before in
-    let small : s .args .c * (s .args .b * s .args .a) < 65536 = omega (arith, mul-le-mul (s .pre .2) (mul-le-mul (s .pre .1) (s .pre .0))) in
-    rw (mod-eq-of-lt small) refl
+returns c = search needs
 
 pub cells-spec : {M : Type 1} → statement M
 cells-spec = tie.close (tie.spec mul-result mul-result-2 cast-result int-to-float-result returns)
