@@ -57,19 +57,22 @@ pub fn centre(low: Vec3, edges: Vec3, x: usize, y: usize, z: usize) -> Vec3
     vectors::add(start, vectors::mul(steps, edges))
 }
 
-// The centre of voxel i.
+// The centre of voxel i. Its index and the axes are small, and a short division is cheaper.
 pub fn centre_of(low: Vec3, axes: Axes, edges: Vec3, i: usize) -> Vec3
     requires { ⌜ AxesWithin axes ⌝ }
     requires { ⌜ i < voxels axes ⌝ }
     ensures { λ r. ⌜ r ≡ centreFrom low edges (xOf axes i) (yOf axes i) (zOf axes i) ⌝ }
 {
-    let row = i / axes.width;
+    let k = i as u32;
+    let w = axes.width as u32;
+    let h = axes.height as u32;
+    let row = k / w;
     centre(
         low,
         edges,
-        i % axes.width,
-        row % axes.height,
-        row / axes.height,
+        (k % w) as usize,
+        (row % h) as usize,
+        (row / h) as usize,
     )
 }
 
