@@ -26,7 +26,7 @@
  * set s is triple 64·s + i of what geaidnosa_directions writes, and triple 64·s + i of the sky is the colour that is seen along it: red, green and blue,
  * no matter which voxel looks. A hall of 3×3×3 voxels looks along all nine sets, so fill all 576 triples.
  *
- * Ownership. Every list is the caller's, lent for the one call as a pointer and a count of entries; no call keeps a pointer, allocates or frees.
+ * Ownership. Every list is the caller's, lent for the one call as a pointer and a count of its elements (of a mask: words); no call keeps a pointer, allocates or frees.
  * A pointer is never null and is aligned for its type, also where the count is 0. No list that a call writes may overlap another list of that call.
  *
  * Threads. Calls have no state of their own: they may run side by side wherever no list that one of them writes is lent to another.
@@ -312,8 +312,8 @@ GeaidnosaBakeAnswer geaidnosa_bake(
     uint64_t allowance);
 
 /* Copies the sixteen numbers of each voxel of the share's mask from unblurred to joined, and leaves the other voxels of joined as they are. So a bake is
- * spread over threads or machines: masks of which each active voxel stands in exactly one are baked to the end, each with lists of its own and all else
- * alike. A share's unblurred volume is its scratch, or its volume where its mask has no voxel. The other shares are joined one after another onto the
+ * spread over threads or machines: masks of which each active voxel stands in exactly one, and no other voxel in any, are baked to the end, each with lists
+ * of its own and all else alike, the lights of the whole mask's sun pass too. A share's unblurred volume is its scratch, or its volume where its mask has no voxel. The other shares are joined one after another onto the
  * first one's, and then geaidnosa_coefficient_blur takes the mean, unless no voxel at all is active: bit for bit the volume of the unbroken bake, and the
  * rays add up. What joined holds is not tested. Refuses 1, 3, 13. */
 uint32_t geaidnosa_join(

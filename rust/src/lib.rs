@@ -288,7 +288,7 @@ pub fn is_marked(mask: &[u64], voxel: usize) -> bool {
     (mask[voxel / 64] >> (voxel % 64)) & 1 == 1
 }
 
-/// Marks a voxel. Panics where the mask has no word for it; a bit past the last voxel is one that [`sun`], [`bake`] and [`write_volume`] refuse.
+/// Marks a voxel. Panics where the mask has no word for it; a bit past the last voxel is one that [`sun`], [`bake`], [`join`] and [`write_volume`] refuse.
 pub fn mark(mask: &mut [u64], voxel: usize) {
     mask[voxel / 64] |= 1 << (voxel % 64);
 }
@@ -436,8 +436,8 @@ pub fn bake(input: BakeInput, volume: &mut [f32], scratch: &mut [f32], hits: Hit
 }
 
 /// Copies the sixteen numbers of each voxel of the share's mask, [`Axes::words`], from unblurred to joined, 16·N numbers each, and leaves the other voxels of
-/// joined as they are. So a bake is spread over threads or machines: masks of which each active voxel stands in exactly one are baked to the end, each with
-/// lists of its own and all else alike. A share's unblurred volume is its scratch, or its volume where its mask has no voxel. The other shares are joined one
+/// joined as they are. So a bake is spread over threads or machines: masks of which each active voxel stands in exactly one, and no other voxel in any, are
+/// baked to the end, each with lists of its own and all else alike, the lights of the whole mask's sun pass too. A share's unblurred volume is its scratch, or its volume where its mask has no voxel. The other shares are joined one
 /// after another onto the first one's, and then [`coefficient_blur`] takes the mean, unless no voxel at all is active: bit for bit the volume of the unbroken
 /// bake, and the rays add up. What joined holds is not tested. Refuses 1, 3, 13.
 pub fn join(axes: Axes, share: &[u64], unblurred: &[f32], joined: &mut [f32]) -> Result<(), Refusal> {

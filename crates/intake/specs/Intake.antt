@@ -74,10 +74,10 @@ badLighting light ambient sky = badLight light || badAmbient ambient || badSky s
 abbrev pub underWay : ℕ → ℕ → Bool
 underWay progress n = ltb 0 progress && ltb progress n
 
--- 13: an unused bit of the mask set; light not finite or beyond ±2^64, coefficient not finite or beyond ±2^96
 unfoldable pub badVolume : List Float → ℕ → ℕ → Bool
 badVolume volume progress n = underWay progress n && badCoefficients volume
 
+-- 13: an unused bit of the mask set; light not finite or beyond ±2^64, coefficient not finite or beyond ±2^96
 unfoldable pub badContents : List ℕ → List Float → List Float → ℕ → ℕ → Bool
 badContents active lights volume progress n = unusedSet active n || badLights lights || badVolume volume progress n
 

@@ -64,6 +64,7 @@ pub lit-accepted : (bakeRefusal threeLit begun 448 ≡ 0) × (bakeRefusal threeL
 unfolding bakeRefusal bakeRows firstOf some within upTo outsideV badAxes badCorners badEdges wrongShare wrongScene tooMany badPoints badKinds badFrom badUses badMaterials badDirection badLight badAmbient badSky unusedSet badLights badCoefficients wrongLengths wrongBakeLists badLighting badLamp badLamps lampAt any badVolume badContents edgesOf dotV ofBits ofInt Ieee.add Ieee.sub Ieee.mul Ieee.div Ieee.neg Ieee.le Ieee.lt Ieee.eq
 lit-accepted = (refl, refl, refl)
 
+-- three voxels take one word, in which bit 3 is the first unused: the word 15 is refused 13, and two words or none are refused 3
 pub mask-judged : (bakeRefusal (threeOf (15 ∷ []) []) begun 384 ≡ 13) × (bakeRefusal (threeOf (7 ∷ 0 ∷ []) []) begun 384 ≡ 3) × (bakeRefusal (threeOf [] []) begun 384 ≡ 3)
 unfolding bakeRefusal bakeRows firstOf some within upTo outsideV badAxes badCorners badEdges wrongShare wrongScene tooMany badPoints badKinds badFrom badUses badMaterials badDirection badLight badAmbient badSky unusedSet badLights badCoefficients wrongLengths wrongBakeLists badLighting badLamp badLamps lampAt any badVolume badContents edgesOf dotV ofBits ofInt Ieee.add Ieee.sub Ieee.mul Ieee.div Ieee.neg Ieee.le Ieee.lt Ieee.eq
 mask-judged = (refl, refl, refl)

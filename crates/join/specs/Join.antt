@@ -1,6 +1,6 @@
--- The join of a share of a bake onto others: "the voxels' numbers taken from the share that has them". The sixteen numbers of each voxel of the share's
--- mask come from the share's unblurred volume, the others stay. A call tests 1, 3 and 13, in that order. What `joined` holds is never tested, like any list
--- that is written. Assumes nothing.
+-- The join of a share of a bake onto others: the voxels' numbers are taken from the share that has them. The sixteen numbers of each voxel of the share's
+-- mask come from the share's unblurred volume, the others stay. A call tests 1, 3 and 13, in that order. What `joined` holds is never tested: the blur that
+-- follows tests it whole. Assumes nothing.
 use mathlib.Core.Path.{_≡_}
 use mathlib.Core.Bool.{Bool, _||_}
 use mathlib.Core.List.{List, [], _∷_}

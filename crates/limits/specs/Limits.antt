@@ -178,8 +178,9 @@ badPosition p = outsideV positionLimit p
 abbrev pub pastGrid : ℕ → ℕ → Bool
 pastGrid index n = leb n index
 
--- ---- 13: mask entry not 0 or 1; light not finite or beyond ±2^64; coefficient not finite or beyond ±2^96
+-- ---- 13: light not finite or beyond ±2^64; coefficient not finite or beyond ±2^96; of a mask in words see `unusedSet` of the crate words
 
+-- a file's mask, inside 12: an entry not 0 or 1
 unfoldable pub badMask : List ℕ → Bool
 badMask l = some (ltb 1) l
 

@@ -117,7 +117,7 @@ position-figures = refl
 pub index-figures : map (λ (i : ℕ). pastGrid i 3) (2 ∷ 3 ∷ []) ≡ false ∷ true ∷ []
 index-figures = refl
 
--- 13: 0 and 1, and nothing else
+-- a file's mask: 0 and 1, and nothing else
 pub masks : map (λ (n : ℕ). badMask (0 ∷ 1 ∷ n ∷ [])) (0 ∷ 1 ∷ 2 ∷ 255 ∷ []) ≡ false ∷ false ∷ true ∷ true ∷ []
 unfolding badMask some
 masks = refl

@@ -215,7 +215,7 @@ pub six-word : wordsOf (1 ∷ 1 ∷ 1 ∷ 0 ∷ 0 ∷ 0 ∷ []) ≡ 7 ∷ []
 unfolding wordsOf packed tab
 six-word = refl
 
--- triangle Q over one voxel of edge 1, from 0 to 1: accepted, whatever the masks held, and its one sample, (.5, .5, 0), marks the voxel
+-- triangle Q over one voxel of edge 1, from 0 to 1: accepted, also where the masks held unused bits, and its one sample, (.5, .5, 0), marks the voxel
 abbrev unitCorners : Corners
 unitCorners = record { min = vec zero32 zero32 zero32; max = vec one32 one32 one32 }
 

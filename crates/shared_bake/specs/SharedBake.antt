@@ -1,5 +1,5 @@
--- A bake spread over machines or threads, said of results of public calls: for masks of which each active voxel stands in exactly one, baked each by itself
--- to the end, the voxels' numbers taken from the share that has them, then the mean: bit for bit the unbroken bake, rays adding up. Each share has a mask
+-- A bake spread over machines or threads, said of results of public calls: for masks of which each active voxel stands in exactly one and no other voxel in
+-- any, baked each by itself to the end, the voxels' numbers taken from the share that has them, then the mean: bit for bit the unbroken bake, rays adding up. Each share has a mask
 -- and lists of its own, and all else of the same input; `join` brings the unblurred volumes of the others onto the first one's; the blur of coefficients
 -- takes the mean. Definitions only; `demand-of-shares` of SharedBakeLaws shows it of whatever satisfies the calls' contracts.
 use mathlib.Core.Path.{_≡_}

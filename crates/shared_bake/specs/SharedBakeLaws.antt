@@ -53,7 +53,7 @@ allowances-hold b s d p (c ∷ rest) h n =
     let i = lending b d p in
     (fits i s (c .allowance) (accepted-call {c = c} (h .0) (n .0)) .allowance, allowances-hold b (handedOn c) (c .distances) (c .places) rest (h .1) (n .1))
 
--- ---- that there are such calls: with the words of any mask in place of its own an accepted input is accepted
+-- ---- a share's first call: with the words of any mask in place of its own an accepted input is accepted
 
 pub share-accepted : (b : BakeInput) (mask : List ℕ) (s : Stage Float) (a : ℕ) → Tidy mask (voxelCount b) → bakeRefusal b s a ≡ 0 → bakeRefusal (sharing b mask) s a ≡ 0
 unfolding wrongBakeLists badContents

@@ -1,4 +1,4 @@
--- The two laws of the public calls. Written and then read: every bit returns. Read and then written, for a file of kinds 1 to 5: every
+-- What the public calls of a file give back. Written and then read: every bit returns. Read and then written, for a file of kinds 1 to 5: every
 -- byte returns. Masks are lent as words and stand in the file as entries; what the reader leaves of them is tidy, so every call that takes a mask takes it.
 use mathlib.Core.Path.{_≡_, refl, sym, ap, _∙_, subst}
 use mathlib.Core.Logic.{_⊎_, inl, inr}
@@ -151,7 +151,7 @@ write-zero a c l v m o b p q r t x y z w = rw (p, q, r, eq-eqb (length b) (bytes
 part-length : (s : List ℕ) (at n : ℕ) → at + n ≤ length s → length (bytesAt s at n) ≡ n
 part-length s at n h = length-take-le n (drop at s) (rw (length-drop at s) (omega arith))
 
--- a mask that row 13 would let pass has entries of 0 and 1
+-- the mask of a file that is accepted has entries of 0 and 1
 mask-entries : (l : List ℕ) → badMask l ≡ false → AreEntries l
 mask-entries l e i = go (below-or-from i (length l))
   where
