@@ -312,10 +312,10 @@ GeaidnosaBakeAnswer geaidnosa_bake(
     uint64_t allowance);
 
 /* Copies the sixteen numbers of each voxel of the share's mask from unblurred to joined, and leaves the other voxels of joined as they are. So a bake is
- * spread over threads or machines: masks of which each active voxel stands in exactly one, and no other voxel in any, are baked to the end, each with lists
- * of its own and all else alike, the lights of the whole mask's sun pass too. A share's unblurred volume is its scratch, or its volume where its mask has no voxel. The other shares are joined one after another onto the
- * first one's, and then geaidnosa_coefficient_blur takes the mean, unless no voxel at all is active: bit for bit the volume of the unbroken bake, and the
- * rays add up. What joined holds is not tested. Refuses 1, 3, 13. */
+ * spread over threads or machines: masks of which each active voxel stands in exactly one, and no other voxel in any, are baked to the end, each with
+ * lists of its own and all else alike, the lights of the whole mask's sun pass too. A share's unblurred volume is its scratch, or its volume where its
+ * mask has no voxel. The other shares are joined one after another onto the first one's, and then geaidnosa_coefficient_blur takes the mean, unless no
+ * voxel at all is active: bit for bit the volume of the unbroken bake, and the rays add up. What joined holds is not tested. Refuses 1, 3, 13. */
 uint32_t geaidnosa_join(
     GeaidnosaAxes axes,
     const uint64_t *share, size_t share_length,
