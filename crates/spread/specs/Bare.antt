@@ -8,7 +8,7 @@ use native.Mathlib.Omega.{arith}
 use lib.Dec.{leb, eqb}
 use borrow.Author.Tests.{ne-eqb}
 use Rattle.lists.specs.Laid.{replaced}
-use Rattle.spread.specs.Spread.{Stage, Bake, Walked, walked, more, started, walk, accepted, call, run, NoneRefused}
+use Rattle.spread.specs.Spread.{Stage, Bake, Walked, walked, more, started, walk, reachedBy, accepted, call, run, NoneRefused}
 use Rattle.spread.specs.Walks.{ended-progress, walks, walk-to}
 
 -- a bake of nothing but voxels and their costs
@@ -46,7 +46,7 @@ module _ {A B : Type 0} (b : Bake A) (c : Bake B) where
   module _ (same : Agree) where
     -- how many voxels on, and how many rays
     abbrev Both : Walked A → Walked B → Type 0
-    Both x y = (x .progress ≡ y .progress) × (x .rays ≡ y .rays)
+    Both x y = (x .next ≡ y .next) × (x .rays ≡ y .rays)
 
     walk-same : (k i l : ℕ) (v : List A) (u : List B) → i + k ≤ b .count → Both (walk b k i l v) (walk c k i l u)
     unfolding walk
@@ -62,41 +62,41 @@ module _ {A B : Type 0} (b : Bake A) (c : Bake B) where
         go true true x y z w p q = (q .0, ap (λ (n : ℕ). c .cost i + n) (q .1))
         go true false x y z w p q = (refl, refl)
 
-    accepted-same : (a : ℕ) (s : Stage A) (t : Stage B) → s .progress ≡ t .progress → s .progress ≤ b .count
-        → (accepted b a s .stage .progress ≡ accepted c a t .stage .progress) × (accepted b a s .rays ≡ accepted c a t .rays)
-    accepted-same a s t e h = go (eqb (s .progress) (b .count)) refl
+    accepted-same : (a : ℕ) (s : Stage A) (t : Stage B) → s .progress .next ≡ t .progress .next → s .progress .next ≤ b .count
+        → (accepted b a s .stage .progress .next ≡ accepted c a t .stage .progress .next) × (accepted b a s .rays ≡ accepted c a t .rays)
+    accepted-same a s t e h = go (eqb (s .progress .next) (b .count)) refl
       where
-        go : (x : Bool) → eqb (s .progress) (b .count) ≡ x
-            → (accepted b a s .stage .progress ≡ accepted c a t .stage .progress) × (accepted b a s .rays ≡ accepted c a t .rays)
+        go : (x : Bool) → eqb (s .progress .next) (b .count) ≡ x
+            → (accepted b a s .stage .progress .next ≡ accepted c a t .stage .progress .next) × (accepted b a s .rays ≡ accepted c a t .rays)
         go true p = rw (p, ap₂ eqb (sym e) (sym (same .count)) ∙ p) (e, refl)
         go false p =
-            let u = started b (s .progress) (s .volume) in
-            let v = started c (t .progress) (t .volume) in
-            let w = walk-same (b .count - s .progress) (s .progress) a u v (omega arith) in
-            let m : walk c (b .count - s .progress) (s .progress) a v ≡ walk c (c .count - t .progress) (t .progress) a v
+            let u = started b (s .progress .next) (s .volume) in
+            let v = started c (t .progress .next) (t .volume) in
+            let w = walk-same (b .count - s .progress .next) (s .progress .next) a u v (omega arith) in
+            let m : walk c (b .count - s .progress .next) (s .progress .next) a v ≡ walk c (c .count - t .progress .next) (t .progress .next) a v
             = ap₂ (λ (n q : ℕ). walk c (n - q) q a v) (same .count) e in
             rw (
               p,
               ap₂ eqb (sym e) (sym (same .count)) ∙ p,
-              ended-progress b (walk b (b .count - s .progress) (s .progress) a u .progress),
-              ended-progress c (walk c (c .count - t .progress) (t .progress) a v .progress),
+              ended-progress b (reachedBy b a s),
+              ended-progress c (reachedBy c a t),
             )
-            (w .0 ∙ ap (λ (y : Walked B). y .progress) m, w .1 ∙ ap (λ (y : Walked B). y .rays) m)
+            (w .0 ∙ ap (λ (y : Walked B). y .next) m, w .1 ∙ ap (λ (y : Walked B). y .rays) m)
 
-    accepted-within : (a : ℕ) (s : Stage A) → s .progress ≤ b .count → accepted b a s .stage .progress ≤ b .count
-    accepted-within a s h = go (eqb (s .progress) (b .count)) refl
+    accepted-within : (a : ℕ) (s : Stage A) → s .progress .next ≤ b .count → accepted b a s .stage .progress .next ≤ b .count
+    accepted-within a s h = go (eqb (s .progress .next) (b .count)) refl
       where
-        go : (x : Bool) → eqb (s .progress) (b .count) ≡ x → accepted b a s .stage .progress ≤ b .count
+        go : (x : Bool) → eqb (s .progress .next) (b .count) ≡ x → accepted b a s .stage .progress .next ≤ b .count
         go true p = rw p h
         go false p =
-            rw (p, ended-progress b (walk b (b .count - s .progress) (s .progress) a (started b (s .progress) (s .volume)) .progress))
-            (omega (arith, walk-to b (walks b (b .count - s .progress) (s .progress) a (started b (s .progress) (s .volume)))))
+            rw (p, ended-progress b (reachedBy b a s))
+            (omega (arith, walk-to b (walks b (b .count - s .progress .next) (s .progress .next) a (started b (s .progress .next) (s .volume)))))
 
     -- a run of calls of which none is refused, by either bake
-    pub run-same : (l : List ℕ) (s : Stage A) (t : Stage B) → s .progress ≡ t .progress → s .progress ≤ b .count
+    pub run-same : (l : List ℕ) (s : Stage A) (t : Stage B) → s .progress .next ≡ t .progress .next → s .progress .next ≤ b .count
         → NoneRefused (run b l s .refusals)
         → NoneRefused (run c l t .refusals)
-        → (run b l s .stage .progress ≡ run c l t .stage .progress) × (run b l s .rays ≡ run c l t .rays)
+        → (run b l s .stage .progress .next ≡ run c l t .stage .progress .next) × (run b l s .rays ≡ run c l t .rays)
     unfolding run
     run-same [] s t e h p q = (e, refl)
     run-same (a ∷ l) s t e h p q =

@@ -47,7 +47,7 @@ module _ {A : Type 0} (b : Bake A) (sized : Sized b) where
       ∙ replaced-laid (b .size) (standing b p) (standing b (p + 1)) (length-standing p) p (b .count) h (λ j n. standing-other p j n)
 
   -- a walk from a volume that stands at its start leaves one that stands at its end
-  pub walk-stands : {k i l : ℕ} {v : List A} {w : Walked A} → Walks b k i l v w → i + k ≡ b .count → v ≡ stands b i → w .volume ≡ stands b (w .progress)
+  pub walk-stands : {k i l : ℕ} {v : List A} {w : Walked A} → Walks b k i l v w → i + k ≡ b .count → v ≡ stands b i → w .volume ≡ stands b (w .next)
   walk-stands none h e = e
   walk-stands (skip {i = i} a s) h e = walk-stands s (omega arith) (e ∙ stands-skip i a)
   walk-stands (stop a f) h e = e

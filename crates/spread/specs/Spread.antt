@@ -1,7 +1,8 @@
--- A bake that is spread over calls. A call refuses, or goes on from its progress, which is the next voxel's index: at 0 it first fills
--- the volume with ambient; then it goes through the indices in order; an inactive voxel costs nothing; an active one is taken exactly while
--- as many rays remain as a voxel may cost. At the end, where any voxel is active, scratch gets the unblurred volume and the volume its mean.
--- A run of calls hands each answer on to the next call. The unbroken bake has neither progress nor allowance. Assumes nothing.
+-- A bake that is spread over calls. A call refuses, or goes on from its progress, which is the next voxel's index and the rays so far: at next 0 it
+-- first fills the volume with ambient; then it goes through the indices in order; an inactive voxel costs nothing; an active one is taken exactly while
+-- as many rays remain as a voxel may cost. At the end, where any voxel is active, scratch gets the unblurred volume and the volume its mean. The rays
+-- that a call fires are added to the rays so far. A run of calls hands each answer on to the next call. The unbroken bake has no allowance. Assumes
+-- nothing.
 use mathlib.Core.Path.{_≡_}
 use mathlib.Core.Bool.{Bool, cond, _&&_}
 use mathlib.Core.List.{List, [], _∷_}
@@ -9,15 +10,22 @@ use Prim.Native.Nat.{ℕ, zero, suc, _+_, _-_, _≤_}
 use lib.Dec.{leb, ltb, eqb}
 use Rattle.lists.specs.Any.{any}
 use Rattle.lists.specs.Laid.{laid, replaced}
+use Rattle.spread.specs.declared.Progress.{Progress}
+
+abbrev pub progressOf : ℕ → ℕ → Progress
+progressOf next rays = record { next = next; rays = rays }
+
+-- "progress zero"
+abbrev pub atZero : Progress
+atZero = progressOf 0 0
 
 -- what a call is handed and what it leaves, apart from what stays the same from call to call
 pub record Stage (A : Type 0) : Type 0 where
-  -- the next voxel's index
-  pub progress : ℕ
+  pub progress : Progress
   pub volume : List A
   pub scratch : List A
 
-abbrev pub stage : {A : Type 0} → ℕ → List A → List A → Stage A
+abbrev pub stage : {A : Type 0} → Progress → List A → List A → Stage A
 stage p v s = record { progress = p; volume = v; scratch = s }
 
 -- what a bake is made of
@@ -43,18 +51,18 @@ pub record Called (A : Type 0) : Type 0 where
   pub rays : ℕ
   pub stage : Stage A
 
--- what a walk through voxels leaves
+-- what a walk through voxels leaves: the next voxel's index, the rays that it fired, and the volume
 pub record Walked (A : Type 0) : Type 0 where
-  pub progress : ℕ
+  pub next : ℕ
   pub rays : ℕ
   pub volume : List A
 
 abbrev pub walked : {A : Type 0} → ℕ → ℕ → List A → Walked A
-walked p r v = record { progress = p; rays = r; volume = v }
+walked i r v = record { next = i; rays = r; volume = v }
 
 -- the walk fired c rays before
 abbrev pub more : {A : Type 0} → ℕ → Walked A → Walked A
-more c w = walked (w .progress) (c + w .rays) (w .volume)
+more c w = walked (w .next) (c + w .rays) (w .volume)
 
 -- "if any voxel is active", of the whole mask
 abbrev pub anyActive : (ℕ → Bool) → ℕ → Bool
@@ -68,7 +76,7 @@ module _ {A : Type 0} (b : Bake A) where
   filled = laid (b .ambient) (b .count) 0
 
   abbrev pub started : ℕ → List A → List A
-  started p v = cond (eqb p 0) filled v
+  started next v = cond (eqb next 0) filled v
 
   -- "Then go through indices in order; inactive ones cost nothing; an active one is taken exactly while at least 384 rays remain":
   -- through k voxels from i on, with l rays left
@@ -81,34 +89,29 @@ module _ {A : Type 0} (b : Bake A) where
       cond (b .active i) (cond (leb (b .most) l) taken stopped) skipped
 
   -- "At the end, if any voxel is active, scratch gets the unblurred volume and the volume its 3×3×3 mean"
-  abbrev pub blurred : List A → List A → Stage A
-  blurred v s = cond (anyActive (b .active) (b .count)) (stage (b .count) (b .mean v) v) (stage (b .count) v s)
+  abbrev pub blurred : Progress → List A → List A → Stage A
+  blurred p v s = cond (anyActive (b .active) (b .count)) (stage p (b .mean v) v) (stage p v s)
 
-  abbrev pub ended : ℕ → List A → List A → Stage A
-  ended p v s = cond (eqb p (b .count)) (blurred v s) (stage p v s)
+  abbrev pub ended : Progress → List A → List A → Stage A
+  ended p v s = cond (eqb (p .next) (b .count)) (blurred p v s) (stage p v s)
 
-  -- a call that is not refused, short of the end
+  -- a call that is not refused, short of the end: its walk, and the progress that it reaches
+  abbrev pub walkOf : ℕ → Stage A → Walked A
+  walkOf a s = walk (b .count - s .progress .next) (s .progress .next) a (started (s .progress .next) (s .volume))
+
+  abbrev pub reachedBy : ℕ → Stage A → Progress
+  reachedBy a s = progressOf (walkOf a s .next) (s .progress .rays + walkOf a s .rays)
+
   abbrev pub baked : ℕ → Stage A → Called A
-  baked a s =
-      let w = walk (b .count - s .progress) (s .progress) a (started (s .progress) (s .volume)) in
-      record { refusal = 0; rays = w .rays; stage = ended (w .progress) (w .volume) (s .scratch) }
+  baked a s = record { refusal = 0; rays = walkOf a s .rays; stage = ended (reachedBy a s) (walkOf a s .volume) (s .scratch) }
 
   -- "Progress equal to the count: zero rays, nothing written."
   abbrev pub accepted : ℕ → Stage A → Called A
-  accepted a s = cond (eqb (s .progress) (b .count)) (record { refusal = 0; rays = 0; stage = s }) (baked a s)
+  accepted a s = cond (eqb (s .progress .next) (b .count)) (record { refusal = 0; rays = 0; stage = s }) (baked a s)
 
   -- a call with an allowance of a rays: a refusal answers its number and leaves all as it was handed in
   unfoldable pub call : ℕ → Stage A → Called A
   call a s = cond (eqb (b .refusal s a) 0) (accepted a s) (record { refusal = b .refusal s a; rays = 0; stage = s })
-
-  -- ---- the unbroken bake
-
-  -- each voxel ambient, or gathered where it is active; then the mean, where any is
-  unfoldable pub unblurred : List A
-  unblurred = laid (λ i. cond (b .active i) (b .gathered i) (b .ambient i)) (b .count) 0
-
-  unfoldable pub unbroken : List A → Stage A
-  unbroken scratch = blurred unblurred scratch
 
   -- ---- counts
 
@@ -121,13 +124,23 @@ module _ {A : Type 0} (b : Bake A) where
   costs zero i = 0
   costs (suc k) i = cond (b .active i) (b .cost i + costs k (i + 1)) (costs k (i + 1))
 
-  -- what voxel i holds short of the end: below the progress p final but unblurred, elsewhere ambient
+  -- ---- the unbroken bake
+
+  -- each voxel ambient, or gathered where it is active; then the mean, where any is
+  unfoldable pub unblurred : List A
+  unblurred = laid (λ i. cond (b .active i) (b .gathered i) (b .ambient i)) (b .count) 0
+
+  -- at the end progress is the count, and the rays that the definition fires
+  unfoldable pub unbroken : List A → Stage A
+  unbroken scratch = blurred (progressOf (b .count) (costs (b .count) 0)) unblurred scratch
+
+  -- what voxel i holds short of the end: below the next voxel final but unblurred, elsewhere ambient
   abbrev pub standing : ℕ → ℕ → List A
-  standing p i = cond (ltb i p && b .active i) (b .gathered i) (b .ambient i)
+  standing next i = cond (ltb i next && b .active i) (b .gathered i) (b .ambient i)
 
   -- and so the whole volume
   abbrev pub stands : ℕ → List A
-  stands p = laid (standing p) (b .count) 0
+  stands next = laid (standing next) (b .count) 0
 
 -- ---- a run of calls
 

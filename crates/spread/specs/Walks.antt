@@ -7,11 +7,12 @@ use Prim.Native.Nat.{ℕ, zero, suc, _+_, _-_, _*_, _/_, _≤_, _<_}
 use native.Mathlib.Omega.{arith}
 use native.Mathlib.Nat.{zero-add, add-zero, add-assoc, sub-add-eq, div-eq-of-lt, le-div-iff-mul-le, suc-mul, eq-or-lt-of-le}
 use lib.Dec.{leb, eqb}
-use borrow.Author.Tests.{leb-true, leb-false, le-leb, lt-leb, eqb-true}
+use borrow.Author.Tests.{leb-true, leb-false, le-leb, lt-leb}
 use Rattle.names.specs.Numbers.{primaryRays}
 use Rattle.lists.specs.Any.{any}
 use Rattle.lists.specs.Fold.{ahead}
 use Rattle.lists.specs.Laid.{replaced}
+use Rattle.spread.specs.declared.Progress.{Progress}
 use Rattle.spread.specs.Spread.{stage, Bake, Walked, walked, more, walk, anyActive, ended, actives, costs}
 
 module _ {A : Type 0} (b : Bake A) where
@@ -38,27 +39,27 @@ module _ {A : Type 0} (b : Bake A) where
       go true e false f s t = rw (e, f) (stop e (leb-false (b .most) l f))
 
   -- a walk goes forward, and to the end at most
-  pub walk-from : {k i l : ℕ} {v : List A} {w : Walked A} → Walks k i l v w → i ≤ w .progress
+  pub walk-from : {k i l : ℕ} {v : List A} {w : Walked A} → Walks k i l v w → i ≤ w .next
   walk-from none = omega arith
   walk-from (skip e s) = omega (arith, walk-from s)
   walk-from (stop e f) = omega arith
   walk-from (taken e f s) = omega (arith, walk-from s)
 
-  pub walk-to : {k i l : ℕ} {v : List A} {w : Walked A} → Walks k i l v w → w .progress ≤ i + k
+  pub walk-to : {k i l : ℕ} {v : List A} {w : Walked A} → Walks k i l v w → w .next ≤ i + k
   walk-to none = omega arith
   walk-to (skip e s) = omega (arith, walk-to s)
   walk-to (stop e f) = omega arith
   walk-to (taken e f s) = omega (arith, walk-to s)
 
   -- with as many rays as a voxel may cost it gets past its first voxel
-  pub walk-goes : {k i l : ℕ} {v : List A} {w : Walked A} → Walks (suc k) i l v w → b .most ≤ l → i < w .progress
+  pub walk-goes : {k i l : ℕ} {v : List A} {w : Walked A} → Walks (suc k) i l v w → b .most ≤ l → i < w .next
   walk-goes (skip e s) h = omega (arith, walk-from s)
   walk-goes (stop e f) h = omega arith
   walk-goes (taken e f s) h = omega (arith, walk-from s)
 
   -- its rays are the costs of the active voxels that it passed: those of all ahead, less those of all that are left
   pub walk-costs : {k i l : ℕ} {v : List A} {w : Walked A} → Walks k i l v w → (n : ℕ) → n ≡ i + k
-      → w .rays + costs b (n - w .progress) (w .progress) ≡ costs b k i
+      → w .rays + costs b (n - w .next) (w .next) ≡ costs b k i
   unfolding costs
   walk-costs (none {i}) n h = let z : n - i ≡ 0 = omega arith in rw z refl
   walk-costs (skip e s) n h = rw e (walk-costs s n (omega arith))
@@ -67,26 +68,26 @@ module _ {A : Type 0} (b : Bake A) where
   walk-costs (taken {w = w} e f s) n h = rw e (omega (arith, walk-costs s n (omega arith)))
 
   -- the same of those that it passed alone
-  pub walk-fires : {k i l : ℕ} {v : List A} {w : Walked A} → Walks k i l v w → w .rays ≡ costs b (w .progress - i) i
+  pub walk-fires : {k i l : ℕ} {v : List A} {w : Walked A} → Walks k i l v w → w .rays ≡ costs b (w .next - i) i
   unfolding costs
   walk-fires (none {i}) = let z : i - i ≡ 0 = omega arith in rw z refl
   walk-fires (skip {i = i} {w = w} e s) =
-      let z : w .progress - i ≡ suc (w .progress - (i + 1)) = omega (arith, walk-from s) in rw (z, e) (walk-fires s)
+      let z : w .next - i ≡ suc (w .next - (i + 1)) = omega (arith, walk-from s) in rw (z, e) (walk-fires s)
   walk-fires (stop {i = i} e f) = let z : i - i ≡ 0 = omega arith in rw z refl
   walk-fires (taken {i = i} {w = w} e f s) =
-      let z : w .progress - i ≡ suc (w .progress - (i + 1)) = omega (arith, walk-from s) in
+      let z : w .next - i ≡ suc (w .next - (i + 1)) = omega (arith, walk-from s) in
       rw (z, e) (ap (λ (n : ℕ). b .cost i + n) (walk-fires s))
 
   -- short of the end it stops at an active voxel, with fewer rays left than a voxel may cost
-  pub walk-stops : {k i l : ℕ} {v : List A} {w : Walked A} → Walks k i l v w → w .progress < i + k
-      → (b .active (w .progress) ≡ true) × (l - w .rays < b .most)
+  pub walk-stops : {k i l : ℕ} {v : List A} {w : Walked A} → Walks k i l v w → w .next < i + k
+      → (b .active (w .next) ≡ true) × (l - w .rays < b .most)
   walk-stops none h = absurd (omega arith)
   walk-stops (skip e s) h = walk-stops s (omega arith)
   walk-stops (stop e f) h = (e, omega arith)
   walk-stops (taken e f s) h = let g = walk-stops s (omega arith) in (g .0, omega (arith, g .1))
 
   -- and an active voxel that it passed was taken with as many rays left as a voxel may cost
-  pub walk-takes : {k i l : ℕ} {v : List A} {w : Walked A} → Walks k i l v w → (j : ℕ) → i ≤ j → j < w .progress → b .active j ≡ true
+  pub walk-takes : {k i l : ℕ} {v : List A} {w : Walked A} → Walks k i l v w → (j : ℕ) → i ≤ j → j < w .next → b .active j ≡ true
       → b .most ≤ l - costs b (j - i) i
   unfolding costs
   walk-takes none j h p t = absurd (omega arith)
@@ -136,15 +137,14 @@ module _ {A : Type 0} (b : Bake A) where
       go true h = omega arith
       go false h = h
 
-  -- where a walk ends is the progress that its call answers
-  pub ended-progress : (p : ℕ) (v s : List A) → ended b p v s .progress ≡ p
-  ended-progress p v s = go (eqb p (b .count)) refl (anyActive (b .active) (b .count))
+  -- where a walk ends and what it fired is the progress that its call answers
+  pub ended-progress : (p : Progress) (v s : List A) → ended b p v s .progress ≡ p
+  ended-progress p v s = go (eqb (p .next) (b .count)) (anyActive (b .active) (b .count))
     where
-      go : (t : Bool) → eqb p (b .count) ≡ t → (u : Bool)
-          → cond t (cond u (stage (b .count) (b .mean v) v) (stage (b .count) v s)) (stage p v s) .progress ≡ p
-      go true h true = sym (eqb-true p (b .count) h)
-      go true h false = sym (eqb-true p (b .count) h)
-      go false h u = refl
+      go : (t u : Bool) → cond t (cond u (stage p (b .mean v) v) (stage p v s)) (stage p v s) .progress ≡ p
+      go true true = refl
+      go true false = refl
+      go false u = refl
 
   module _ (high : (i : ℕ) → b .cost i ≤ b .most) where
     -- it fires no more than it may
@@ -167,7 +167,7 @@ module _ {A : Type 0} (b : Bake A) where
 
     -- it goes to the end, or stops at an active voxel past as many of them as l holds whole times what a voxel may cost
     pub walk-passed : {k i l : ℕ} {v : List A} {w : Walked A} → Walks k i l v w → (n : ℕ) → n ≡ i + k → 0 < b .most
-        → (w .progress ≡ n) ⊎ ((0 < actives b (n - w .progress) (w .progress)) × (actives b (n - w .progress) (w .progress) + l / b .most ≤ actives b k i))
+        → (w .next ≡ n) ⊎ ((0 < actives b (n - w .next) (w .next)) × (actives b (n - w .next) (w .next) + l / b .most ≤ actives b k i))
     unfolding actives
     walk-passed none n h p = inl (omega arith)
     walk-passed (skip e s) n h p = rw e (walk-passed s n (omega arith) p)

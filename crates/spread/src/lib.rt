@@ -1,1 +1,8 @@
-// Definitions only: specs/ has what a bake that is spread over calls comes to, over any bake.
+// How far a bake is that is spread over calls. What its calls come to is in specs/, over any bake.
+
+// The index of the next voxel, and the rays fired so far.
+#[repr(C)]
+pub struct Progress {
+    pub next: usize,
+    pub rays: u64,
+}
