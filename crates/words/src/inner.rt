@@ -7,7 +7,7 @@ ghost use lib.Dec.{eqb};
 ghost use lib.ListN.{length, set};
 ghost use lib.Seq.{sets};
 ghost use Rattle.lists.specs.Fold.{tab};
-ghost use Rattle.marks.specs.Marks.{isMarked, markedCount};
+ghost use Rattle.marks.specs.Marks.{isMarked, markedBelow, markedCount};
 ghost use Rattle.words.specs.Words.{bitAt, entriesOf, wordCount, packed, wordsOf, unusedSet, Tidy, Holds};
 ghost use Rattle.words.specs.ByWords.{putAt, noBits, nextFrom, spreadOf, eightBytes};
 
@@ -228,6 +228,24 @@ pub fn count(words: &[u64], n: usize) -> u64
         k += 1;
     }
     c
+}
+
+// How many voxels below p are marked, in the entries of any number of voxels that has these. Bits from p on are not looked at.
+pub fn count_below(words: &[u64], p: usize) -> u64
+    requires { ⌜ p ≤ length (now words) * 64 ⌝ }
+    ensures { λ r. ⌜ ((n : ℕ) → p ≤ n → r ≡ markedBelow (entriesOf (now (words .entry)) n) p) × (r ≤ p) ⌝ }
+{
+    let last = p / 64;
+    let mut c: u64 = 0;
+    let mut k = 0;
+    while k < last {
+        c = c + ones_of(words[k]);
+        k += 1;
+    }
+    if p % 64 == 0 {
+        return c;
+    }
+    c + ones_of(words[last] << (64 - p % 64))
 }
 
 fn ones_of(w: u64) -> u64
