@@ -2,8 +2,9 @@
 use mathlib.Core.Path.{_≡_, refl, sym, ap, ap₂, _∙_}
 use mathlib.Core.Bool.{Bool, true, false, cond}
 use mathlib.Core.List.{List}
-use Prim.Native.Nat.{ℕ, _-_, _*_, _≤_, _<_}
+use Prim.Native.Nat.{ℕ, _+_, _-_, _*_, _≤_, _<_}
 use native.Mathlib.Omega.{arith}
+use native.Mathlib.Nat.{mul-le-mul}
 use native.Mathlib.Decide.{ℕ-discrete}
 use lib.Dec.{eqb}
 use lib.ListN.{length}
@@ -13,23 +14,28 @@ use Rattle.names.specs.Numbers.{voxelLimit}
 use Rattle.grid.specs.GridLaws.{voxels-most}
 use Rattle.words.specs.Words.{Tidy}
 use Rattle.words.specs.WordsLaws.{entries-length}
-use Rattle.spread.specs.Spread.{Stage, stage, Called, Walked, filled, started, walk, anyActive, ended, accepted}
+use Rattle.marks.specs.Marks.{markedBelow}
+use Rattle.marks.specs.MarksLaws.{count-within}
+use Rattle.spread.specs.declared.Progress.{Progress}
+use Rattle.spread.specs.Spread.{progressOf, Stage, stage, Called, Walked, filled, started, walk, anyActive, ended, walkOf, reachedBy, accepted}
+use Rattle.spread.specs.Walks.{ended-progress, call-adds}
 use Rattle.ends.specs.Ends.{filledOf, Finished}
-use Rattle.intake.specs.Intake.{BakeInput, voxelNumbers, voxelCount, activeEntries, bakeRefusal}
+use Rattle.intake.specs.Intake.{BakeInput, voxelNumbers, voxelCount, activeEntries, bakeCost, bakeRefusal}
 use Rattle.intake.specs.IntakeLaws.{Fits, fits, none-refused}
 use Rattle.walk.specs.declared.Reached.{Reached}
-use Rattle.demand.specs.Bake.{bakeOf}
+use Rattle.demand.specs.Bake.{bakeOf, bakeCall}
 use Rattle.demand.specs.Calls.{refused-call, accepted-call, accepted-none}
+use Rattle.demand.specs.Lasting.{call-leaves}
 use Rattle.walk.specs.Reports.{Walkable, Reports, Accepts}
 use Rattle.bake.specs.Baked.{Baked, Ends}
 
-module _ {b : BakeInput} {p a : ℕ} {v x : List Float} (f : Fits b (stage p v x) a) where
+module _ {b : BakeInput} {p : Progress} {a : ℕ} {v x : List Float} (f : Fits b (stage p v x) a) where
   -- ---- what the parts ask
 
   pub startable : (length v ≡ length (b .lights) * 16) × (length (b .lights) ≤ voxelLimit)
   startable = (rw (f .lights) (f .volume), omega (arith, f .lights, voxels-most (b .axes) (f .axes)))
 
-  pub walkable : {n : ℕ} → n ≡ length v → Walkable b n p
+  pub walkable : {n : ℕ} → n ≡ length v → Walkable b n (p .next)
   walkable e =
       record {
         axes = f .axes;
@@ -41,7 +47,7 @@ module _ {b : BakeInput} {p a : ℕ} {v x : List Float} (f : Fits b (stage p v x
         distances = f .distances;
         places = f .places;
         inside = e ∙ f .volume;
-        within = f .progress;
+        within = f .progress .within;
       }
 
   pub endable : {m n : ℕ} → m ≡ length v → n ≡ m
@@ -52,58 +58,56 @@ module _ {b : BakeInput} {p a : ℕ} {v x : List Float} (f : Fits b (stage p v x
 
   -- ---- what they come to
 
-  starts : {v₁ : List Float} → v₁ ≡ cond (eqb p 0) (filledOf (b .ambient) (b .lights)) v → v₁ ≡ started (bakeOf b) p v
+  starts : {v₁ : List Float} → v₁ ≡ cond (eqb (p .next) 0) (filledOf (b .ambient) (b .lights)) v → v₁ ≡ started (bakeOf b) (p .next) v
   unfolding filled filledOf
   starts e = e ∙ rw (f .lights) refl
 
-  ends : (q : ℕ) {v₂ v₃ x₃ : List Float} → Ends (b .axes) (activeEntries b) q v₂ x v₃ x₃
-      → (q ≡ ended (bakeOf b) q v₂ x .progress) × (v₃ ≡ ended (bakeOf b) q v₂ x .volume) × (x₃ ≡ ended (bakeOf b) q v₂ x .scratch)
-  ends q {v₂} {v₃} {x₃} k = go (ℕ-discrete q (length (activeEntries b)))
+  ends : (q : Progress) {v₂ v₃ x₃ : List Float} → Ends (b .axes) (activeEntries b) (q .next) v₂ x v₃ x₃
+      → (v₃ ≡ ended (bakeOf b) q v₂ x .volume) × (x₃ ≡ ended (bakeOf b) q v₂ x .scratch)
+  ends q {v₂} {v₃} {x₃} k = go (ℕ-discrete (q .next) (length (activeEntries b)))
     where
       all : length (activeEntries b) ≡ voxelCount b
       all = entries-length (b .active) (voxelCount b)
 
-      over : (t : Bool) → anyActive (bakeOf b .active) (bakeOf b .count) ≡ t → q ≡ voxelCount b → Finished (b .axes) (activeEntries b) v₂ x v₃ x₃
-          → (q ≡ ended (bakeOf b) q v₂ x .progress) × (v₃ ≡ ended (bakeOf b) q v₂ x .volume) × (x₃ ≡ ended (bakeOf b) q v₂ x .scratch)
-      over true e h g = rw (eq-eqb q (voxelCount b) h, e) (h, rw (all, e) at (g .volume), rw (all, e) at (g .scratch))
-      over false e h g = rw (eq-eqb q (voxelCount b) h, e) (h, rw (all, e) at (g .volume), rw (all, e) at (g .scratch))
+      over : (t : Bool) → anyActive (bakeOf b .active) (bakeOf b .count) ≡ t → q .next ≡ voxelCount b → Finished (b .axes) (activeEntries b) v₂ x v₃ x₃
+          → (v₃ ≡ ended (bakeOf b) q v₂ x .volume) × (x₃ ≡ ended (bakeOf b) q v₂ x .scratch)
+      over true e h g = rw (eq-eqb (q .next) (voxelCount b) h, e) (rw (all, e) at (g .volume), rw (all, e) at (g .scratch))
+      over false e h g = rw (eq-eqb (q .next) (voxelCount b) h, e) (rw (all, e) at (g .volume), rw (all, e) at (g .scratch))
 
-      go : Dec (q ≡ length (activeEntries b))
-          → (q ≡ ended (bakeOf b) q v₂ x .progress) × (v₃ ≡ ended (bakeOf b) q v₂ x .volume) × (x₃ ≡ ended (bakeOf b) q v₂ x .scratch)
+      go : Dec (q .next ≡ length (activeEntries b)) → (v₃ ≡ ended (bakeOf b) q v₂ x .volume) × (x₃ ≡ ended (bakeOf b) q v₂ x .scratch)
       go (yes h) = over (anyActive (bakeOf b .active) (bakeOf b .count)) refl (h ∙ all) (k .over h)
-      go (no n) = rw (ne-eqb q (voxelCount b) (λ z. n (z ∙ sym all))) (refl, k .short n .0, k .short n .1)
+      go (no n) = rw (ne-eqb (q .next) (voxelCount b) (λ z. n (z ∙ sym all))) (k .short n)
 
-  pub idles : {d : List Float} {q : List ℕ} → p ≡ length (b .lights)
-      → Accepts (accepted (bakeOf b) a (stage p v x)) (record { progress = p; rays = 0 }) v x d d q q
+  pub idles : {d : List Float} {q : List ℕ} → p .next ≡ length (b .lights)
+      → Accepts (accepted (bakeOf b) a (stage p v x)) (record { next = p .next; rays = 0 }) v x d d q q
   idles e =
-      rw (eq-eqb p (voxelCount b) (e ∙ f .lights))
+      rw (eq-eqb (p .next) (voxelCount b) (e ∙ f .lights))
       (record {
-        progress = refl;
+        next = refl;
         rays = refl;
         volume = refl;
         scratch = refl;
         hits = record { distances = λ z. refl; places = λ z. refl };
       })
 
-  pub goes : {v₁ v₂ v₃ x₃ d d' : List Float} {q q' : List ℕ} {r : Reached} → (p ≡ length (b .lights) → ⊥)
-      → v₁ ≡ cond (eqb p 0) (filledOf (b .ambient) (b .lights)) v
-      → Reports (walk (bakeOf b) (voxelCount b - p) p a v₁) r v₂ d d' q q'
-      → Ends (b .axes) (activeEntries b) (r .progress) v₂ x v₃ x₃
+  pub goes : {v₁ v₂ v₃ x₃ d d' : List Float} {q q' : List ℕ} {r : Reached} → (p .next ≡ length (b .lights) → ⊥)
+      → v₁ ≡ cond (eqb (p .next) 0) (filledOf (b .ambient) (b .lights)) v
+      → Reports (walk (bakeOf b) (voxelCount b - p .next) (p .next) a v₁) r v₂ d d' q q'
+      → Ends (b .axes) (activeEntries b) (r .next) v₂ x v₃ x₃
       → Accepts (accepted (bakeOf b) a (stage p v x)) r v₃ x₃ d d' q q'
   goes {r = r} n e w k =
-      let y = walk (bakeOf b) (voxelCount b - p) p a (started (bakeOf b) p v) in
-      let s : walk (bakeOf b) (voxelCount b - p) p a _ ≡ y = ap (walk (bakeOf b) (voxelCount b - p) p a) (starts e) in
-      let g = ends (r .progress) k in
-      let i : ended (bakeOf b) (r .progress) _ x ≡ ended (bakeOf b) (y .progress) (y .volume) x
-      = ap₂ (λ (m : ℕ) (u : List Float). ended (bakeOf b) m u x)
-      (w .progress ∙ ap (λ (z : Walked Float). z .progress) s)
-      (w .volume ∙ ap (λ (z : Walked Float). z .volume) s) in
-      rw (ne-eqb p (voxelCount b) (λ z. n (z ∙ sym (f .lights))))
+      let y = walkOf (bakeOf b) a (stage p v x) in
+      let s : walk (bakeOf b) (voxelCount b - p .next) (p .next) a _ ≡ y = ap (walk (bakeOf b) (voxelCount b - p .next) (p .next) a) (starts e) in
+      let there : r .next ≡ y .next = w .next ∙ ap (λ (z : Walked Float). z .next) s in
+      let g = ends (progressOf (r .next) (p .rays + y .rays)) k in
+      let i : ended (bakeOf b) (progressOf (r .next) (p .rays + y .rays)) _ x ≡ ended (bakeOf b) (reachedBy (bakeOf b) a (stage p v x)) (y .volume) x
+      = ap₂ (λ (m : ℕ) (u : List Float). ended (bakeOf b) (progressOf m (p .rays + y .rays)) u x) there (w .volume ∙ ap (λ (z : Walked Float). z .volume) s) in
+      rw (ne-eqb (p .next) (voxelCount b) (λ z. n (z ∙ sym (f .lights))))
       (record {
-        progress = g .0 ∙ ap (λ (z : Stage Float). z .progress) i;
+        next = there ∙ sym (ap (λ (z : Progress). z .next) (ended-progress (bakeOf b) (reachedBy (bakeOf b) a (stage p v x)) (y .volume) x));
         rays = w .rays ∙ ap (λ (z : Walked Float). z .rays) s;
-        volume = g .1 ∙ ap (λ (z : Stage Float). z .volume) i;
-        scratch = g .2 ∙ ap (λ (z : Stage Float). z .scratch) i;
+        volume = g .0 ∙ ap (λ (z : Stage Float). z .volume) i;
+        scratch = g .1 ∙ ap (λ (z : Stage Float). z .scratch) i;
         hits = w .hits;
       })
 
@@ -128,16 +132,37 @@ module _ {b : BakeInput} {s : Stage Float} {a : ℕ} where
   pub accepts : {n : ℕ} → n ≡ bakeRefusal b s a → n ≡ 0 → Fits b s a
   accepts e z = fits b s a (none-refused b s a .0 (sym e ∙ z))
 
+  -- the rays that the answer is to know: what was handed in, and what the call fired
+  total : {n : ℕ} {r : Reached} {v x d d' : List Float} {q q' : List ℕ} → n ≡ bakeRefusal b s a → n ≡ 0 → Accepts (accepted (bakeOf b) a s) r v x d d' q q'
+      → s .progress .rays + r .rays ≡ bakeCall b s a .stage .progress .rays
+  total e z w =
+      ap (λ (n : ℕ). s .progress .rays + n) (w .rays ∙ sym (ap (λ (y : Called Float). y .rays) (accepted-call b s a (sym e ∙ z))))
+      ∙ sym (call-adds (bakeOf b) a s)
+
+  -- they are no more than what the active voxels below next may cost
+  pub total-fits : {n : ℕ} {r : Reached} {v x d d' : List Float} {q q' : List ℕ} → n ≡ bakeRefusal b s a → n ≡ 0 → Accepts (accepted (bakeOf b) a s) r v x d d' q q'
+      → s .progress .rays + r .rays < 18446744073709551616
+  total-fits e z w =
+      let r = sym e ∙ z in
+      let f = accepts e z in
+      let k = call-leaves b s a r in
+      let p = bakeCall b s a .stage .progress in
+      let few : markedBelow (activeEntries b) (p .next) ≤ voxelLimit
+      = omega (arith, count-within (activeEntries b) (p .next) 0, k .within, voxels-most (b .axes) (f .axes)) in
+      let cost : bakeCost b ≤ 896 = omega (arith, f .lamps) in
+      let bound : markedBelow (activeEntries b) (p .next) * bakeCost b ≤ voxelLimit * 896 = mul-le-mul few cost in
+      omega (arith, total e z w, k .most)
+
   pub answers : {n : ℕ} {r : Reached} {v x d d' : List Float} {q q' : List ℕ} → n ≡ bakeRefusal b s a → n ≡ 0
       → Accepts (accepted (bakeOf b) a s) r v x d d' q q'
       → length d' ≡ length d
       → length q' ≡ length q
-      → Baked b s a (record { refusal = 0; progress = r .progress; rays = r .rays }) v x d d' q q'
+      → Baked b s a (record { refusal = 0; progress = progressOf (r .next) (s .progress .rays + r .rays); rays = r .rays }) v x d d' q q'
   answers e z w m n =
       let c = sym (accepted-call b s a (sym e ∙ z)) in
       record {
         refusal = sym (accepted-none b s a) ∙ ap (λ (y : Called Float). y .refusal) c;
-        progress = w .progress ∙ ap (λ (y : Called Float). y .stage .progress) c;
+        progress = ap₂ progressOf (w .next ∙ ap (λ (y : Called Float). y .stage .progress .next) c) (total e z w);
         rays = w .rays ∙ ap (λ (y : Called Float). y .rays) c;
         volume = w .volume ∙ ap (λ (y : Called Float). y .stage .volume) c;
         scratch = w .scratch ∙ ap (λ (y : Called Float). y .stage .scratch) c;

@@ -6,6 +6,7 @@ use native.Mathlib.Omega.{arith}
 use lib.ListN.{length}
 use lib.Ieee.{Float}
 use Rattle.names.specs.Refusals.{RefusedBy, refused-by}
+use Rattle.spread.specs.declared.Progress.{Progress}
 use Rattle.spread.specs.Spread.{Stage, Called}
 use Rattle.intake.specs.Intake.{BakeInput, bakeRows, bakeRefusal}
 use Rattle.demand.specs.Calls.{refused-call, answers-refusal}
@@ -43,7 +44,7 @@ baked-once b s a d p r r' v v' x x' e e' q q' f g =
     same : r .refusal ≡ r' .refusal → r .progress ≡ r' .progress → r .rays ≡ r' .rays → r ≡ r'
     same h i j =
         ap (λ (n : ℕ). record { refusal = n; progress = r .progress; rays = r .rays }) h
-        ∙ ap (λ (n : ℕ). record { refusal = r' .refusal; progress = n; rays = r .rays }) i
+        ∙ ap (λ (q : Progress). record { refusal = r' .refusal; progress = q; rays = r .rays }) i
         ∙ ap (λ (n : ℕ). record { refusal = r' .refusal; progress = r' .progress; rays = n }) j
 
 -- k is answered exactly when row k holds and none before it, 0 exactly when none holds

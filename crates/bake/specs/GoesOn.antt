@@ -11,7 +11,7 @@ use lib.Ieee.{Float}
 use Rattle.limits.specs.Limits.{wrongScene, badLights, badLight, badAmbient, badSky, badCoefficients}
 use Rattle.words.specs.Words.{unusedSet}
 use Rattle.limits.specs.LimitsLaws.{either, any-of-three, coefficients-row}
-use Rattle.spread.specs.Spread.{Stage, unbroken, run, EachAtLeast, NoneRefused}
+use Rattle.spread.specs.Spread.{atZero, Stage, unbroken, run, EachAtLeast, NoneRefused}
 use Rattle.spread.specs.Demand.{Lasts, roundedUp, allActive}
 use Rattle.spread.specs.Holds.{no-call-refused}
 use Rattle.lists.specs.Laid.{laid}
@@ -76,7 +76,7 @@ each-up m n (x ∷ l) h e = (le-trans h (e .0), each-up m n l h (e .1))
 
 -- so a bake that is begun, by what some call accepts, ends as the unbroken bake: A active voxels at allowances of k times what a voxel may cost, or more, k at least 1, in
 -- ⌈A/k⌉ calls, and in one at least
-pub ends-unbroken : (b : BakeInput) (s : Stage Float) (a : ℕ) → bakeRefusal b s a ≡ 0 → s .progress ≡ 0 → (k : ℕ) (l : List ℕ) → 1 ≤ k
+pub ends-unbroken : (b : BakeInput) (s : Stage Float) (a : ℕ) → bakeRefusal b s a ≡ 0 → s .progress ≡ atZero → (k : ℕ) (l : List ℕ) → 1 ≤ k
     → EachAtLeast (k * bakeCost b) l
     → 0 < length l
     → roundedUp (allActive (bakeOf b)) k ≤ length l

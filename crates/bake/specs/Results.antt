@@ -2,7 +2,7 @@
 -- call refused, all else handed on unchanged, the end is bit for bit the unbroken bake. No call fires more than its allowance; each finishes at least as
 -- many active voxels as the allowance holds whole 384s, or all that remain; the reported counts add up to the rays the definition fires, 64 to 384 for
 -- each active voxel; so A active voxels at allowances of k·384 or more, k at least 1, take at most ⌈A/k⌉ calls; no active voxel, one call." With L lamps
--- 384+64L stands for 384. Definitions only; `demand-of-results` of ResultsLaws shows it of whatever satisfies the calls' contract.
+-- 384+64L stands for 384. Document 02, C-16: "In demand 3, the counts' sum is also the record's last number." Definitions only; `demand-of-results` of ResultsLaws shows it of whatever satisfies the calls' contract.
 use mathlib.Core.Path.{_≡_}
 use mathlib.Core.Bool.{true}
 use mathlib.Core.Logic.{_⊎_}
@@ -11,12 +11,14 @@ use Prim.Native.Nat.{ℕ, _+_, _*_, _/_, _≤_, _<_}
 use lib.ListN.{length}
 use lib.Ieee.{Float}
 use Rattle.names.specs.Numbers.{primaryRays}
+use Rattle.spread.specs.declared.Progress.{Progress}
 use Rattle.spread.specs.Spread.{Stage, stage, unbroken, actives, costs, stands, sum, EachAtLeast, NoneRefused}
 use Rattle.spread.specs.Demand.{roundedUp}
+use Rattle.limits.specs.Limits.{lampCount}
 use Rattle.marks.specs.Marks.{isMarked}
 use Rattle.gather.specs.Gather.{costOf}
 use Rattle.gather.specs.Cost.{raysOf}
-use Rattle.intake.specs.Intake.{BakeInput, inputOf, voxelCount, activeEntries, bakeCost}
+use Rattle.intake.specs.Intake.{BakeInput, inputOf, voxelCount, activeEntries, bakeCost, badProgress}
 use Rattle.demand.specs.Bake.{gatherInput, bakeOf}
 use Rattle.bake.specs.declared.BakeAnswer.{BakeAnswer}
 use Rattle.bake.specs.Baked.{Baked}
@@ -72,16 +74,20 @@ abbrev pub raysBelow : BakeInput → ℕ → ℕ
 raysBelow b p = costs (bakeOf b) p 0
 
 -- of one call that was handed the progress p
-pub record OneCall (b : BakeInput) (p : ℕ) (c : Result) : Type 0 where
+pub record OneCall (b : BakeInput) (p : Progress) (c : Result) : Type 0 where
   -- "No call fires more than its allowance"
   pub within : c .answer .rays ≤ c .allowance
   -- "each finishes at least as many active voxels as the allowance holds whole 384s, or all that remain"
-  pub finishes : (activeBelow b p + c .allowance / bakeCost b ≤ activeBelow b (c .answer .progress)) ⊎ (c .answer .progress ≡ voxelCount b)
+  pub finishes : (activeBelow b (p .next) + c .allowance / bakeCost b ≤ activeBelow b (c .answer .progress .next)) ⊎ (c .answer .progress .next ≡ voxelCount b)
   -- "What a call fires, and reports, is the definition's rays of the active voxels it took, no more and no fewer."
-  pub reports : raysBelow b p + c .answer .rays ≡ raysBelow b (c .answer .progress)
+  pub reports : raysBelow b (p .next) + c .answer .rays ≡ raysBelow b (c .answer .progress .next)
+  -- and is added to the rays so far
+  pub adds : c .answer .progress .rays ≡ p .rays + c .answer .rays
+  -- the progress that it answers is one that row 9 accepts
+  pub accepted : badProgress (voxelCount b) (activeEntries b) (lampCount (b .lamps)) (c .answer .progress) ≡ false
 
 -- of each, by the progress that the one before it answered
-abbrev pub EachCall : BakeInput → ℕ → List Result → Type 0
+abbrev pub EachCall : BakeInput → Progress → List Result → Type 0
 EachCall b p [] = Unit
 EachCall b p (c ∷ rest) = OneCall b p c × EachCall b (c .answer .progress) rest
 
@@ -98,20 +104,24 @@ module _ (b : BakeInput) (s : Stage Float) (first : Result) (rest : List Result)
     -- "no call refused"
     pub none : NoneRefused (refusalsOf all)
     -- "the end is bit for bit the unbroken bake": progress, volume and scratch
-    pub end : last .progress ≡ voxelCount b → last ≡ unbroken (bakeOf b) (s .scratch)
+    pub end : last .progress .next ≡ voxelCount b → last ≡ unbroken (bakeOf b) (s .scratch)
     -- "Before that, voxels below progress are final but unblurred, the others ambient, scratch untouched."
-    pub before : last .progress < voxelCount b → (last .volume ≡ stands (bakeOf b) (last .progress)) × (last .scratch ≡ s .scratch)
+    pub before : last .progress .next < voxelCount b → (last .volume ≡ stands (bakeOf b) (last .progress .next)) × (last .scratch ≡ s .scratch)
     -- of each call what OneCall says
     pub calls : EachCall b (s .progress) all
     -- "the reported counts add up to the rays the definition fires"
-    pub sums : last .progress ≡ voxelCount b → sum (reportedBy all) ≡ raysBelow b (voxelCount b)
+    pub sums : last .progress .next ≡ voxelCount b → sum (reportedBy all) ≡ raysBelow b (voxelCount b)
+    -- "In demand 3, the counts' sum is also the record's last number": after each call, and it is the rays that the definition fires below next
+    pub known : (last .progress .rays ≡ sum (reportedBy all)) × (last .progress .rays ≡ raysBelow b (last .progress .next))
     -- which are for voxel i `raysOf`: 64, and the extra rays of its hits
     pub fires : (i : ℕ) → costOf (gatherInput b) i ≡ raysOf (gatherInput b) i
     -- "64 to 384 for each active voxel"
     pub each : (i : ℕ) → i < voxelCount b → isMarked (activeEntries b) i ≡ true
         → (primaryRays ≤ costOf (gatherInput b) i) × (costOf (gatherInput b) i ≤ bakeCost b)
+    -- so the record's last number lies between 64 and what a voxel may cost for each active voxel below next, at the end of all
+    pub between : (activeBelow b (last .progress .next) * primaryRays ≤ last .progress .rays) × (last .progress .rays ≤ activeBelow b (last .progress .next) * bakeCost b)
     -- "so A active voxels at allowances of k·384 or more, k at least 1, take at most ⌈A/k⌉ calls": after so many the end is reached
     pub enough : (k : ℕ) → 1 ≤ k → EachAtLeast (k * bakeCost b) (allowancesOf all) → roundedUp (activeBelow b (voxelCount b)) k ≤ length all
-        → last .progress ≡ voxelCount b
+        → last .progress .next ≡ voxelCount b
     -- "no active voxel, one call"
-    pub one : activeBelow b (voxelCount b) ≡ 0 → first .answer .progress ≡ voxelCount b
+    pub one : activeBelow b (voxelCount b) ≡ 0 → first .answer .progress .next ≡ voxelCount b

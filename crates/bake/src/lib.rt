@@ -1,4 +1,4 @@
-// The resumable bake of a volume of spherical harmonics. Document 01, module 7; lamps by document 02, C-12.
+// The resumable bake of a volume of spherical harmonics. Document 01, module 7; lamps by document 02, C-12, and progress by C-16.
 ghost use mathlib.Core.Path.{_≡_};
 ghost use mathlib.Core.Bool.{cond};
 ghost use Prim.Native.Nat.{_*_, _≤_, _<_};
@@ -19,13 +19,14 @@ use grid::Axes;
 use grid::Corners;
 use limits::Ambient;
 use limits::Light;
+use spread::Progress;
 use walk::Reached;
 
-// The number of a refusal, 0 where there is none; the next voxel's index; the rays that the call fired.
+// The number of a refusal, 0 where there is none; the progress to go on with; the rays that the call fired.
 #[repr(C)]
 pub struct BakeAnswer {
     pub refusal: u32,
-    pub progress: usize,
+    pub progress: Progress,
     pub rays: u64,
 }
 
@@ -47,7 +48,7 @@ pub fn bake(
     scratch: &mut [f32],
     distances: &mut [f32],
     places: &mut [usize],
-    progress: usize,
+    progress: Progress,
     allowance: u64,
 ) -> BakeAnswer
     ensures { λ r. ⌜ Baked
@@ -106,7 +107,10 @@ pub fn bake(
     );
     BakeAnswer {
         refusal: 0,
-        progress: r.progress,
+        progress: Progress {
+            next: r.next,
+            rays: progress.rays + r.rays,
+        },
         rays: r.rays,
     }
 }
@@ -129,7 +133,7 @@ fn go_on(
     scratch: &mut [f32],
     distances: &mut [f32],
     places: &mut [usize],
-    progress: usize,
+    progress: Progress,
     allowance: u64,
 ) -> Reached
     requires { ⌜ Fits
@@ -145,10 +149,11 @@ fn go_on(
         r (now (volume .exit)) (now (scratch .exit)) (now (distances .entry)) (now (distances .exit)) (now (places .entry)) (now (places .exit)) ⌝ }
 {
     let n = lights.len();
-    if progress == n {
-        return Reached { progress, rays: 0 };
+    let next = progress.next;
+    if next == n {
+        return Reached { next, rays: 0 };
     }
-    start(ambient, lights, volume, progress);
+    start(ambient, lights, volume, next);
     let table = directions::table();
     let r = walk::inner::walk(
         axes,
@@ -167,20 +172,20 @@ fn go_on(
         volume,
         distances,
         places,
-        progress,
+        next,
         allowance,
     );
-    let reached = r.progress;
+    let reached = r.next;
     end(axes, active, volume, scratch, n, reached);
     r
 }
 
 // "At 0, first fill the volume with ambient"
-fn start(ambient: Ambient, lights: &[f32], volume: &mut [f32], progress: usize)
+fn start(ambient: Ambient, lights: &[f32], volume: &mut [f32], next: usize)
     requires { ⌜ (length (now volume) ≡ length (now lights) * 16) × (length (now lights) ≤ voxelLimit) ⌝ }
-    ensures { λ r. ⌜ now (volume .exit) ≡ cond (eqb progress 0) (filledOf ambient (now (lights .entry))) (now (volume .entry)) ⌝ }
+    ensures { λ r. ⌜ now (volume .exit) ≡ cond (eqb next 0) (filledOf ambient (now (lights .entry))) (now (volume .entry)) ⌝ }
 {
-    if progress == 0 {
+    if next == 0 {
         ends::inner::fill(ambient, lights, volume);
         return;
     }

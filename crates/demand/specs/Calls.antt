@@ -11,7 +11,7 @@ use Rattle.intake.specs.Intake.{BakeInput, voxelCount, bakeRefusal}
 use Rattle.demand.specs.Bake.{bakeOf, bakeCall}
 
 module _ (b : BakeInput) (s : Stage Float) (a : ℕ) where
-  -- a refusal returns its number, zero rays, progress as handed in, and writes nothing
+  -- a refusal returns its number, zero rays, the whole progress as handed in, and writes nothing
   pub refused-call : (bakeRefusal b s a ≡ 0 → ⊥) → bakeCall b s a ≡ record { refusal = bakeRefusal b s a; rays = 0; stage = s }
   unfolding call
   refused-call n = rw (ne-eqb (bakeRefusal b s a) 0 n) refl
@@ -21,7 +21,7 @@ module _ (b : BakeInput) (s : Stage Float) (a : ℕ) where
   accepted-call e = rw (eq-eqb (bakeRefusal b s a) 0 e) refl
 
   pub accepted-none : accepted (bakeOf b) a s .refusal ≡ 0
-  accepted-none = go (eqb (s .progress) (voxelCount b))
+  accepted-none = go (eqb (s .progress .next) (voxelCount b))
     where
       go : (t : Bool) → cond t (record { refusal = 0; rays = 0; stage = s }) (baked (bakeOf b) a s) .refusal ≡ 0
       go true = refl

@@ -10,7 +10,7 @@ use lib.Dec.{lit≤}
 use lib.ListN.{getD}
 use lib.Ieee as Ieee
 use lib.Ieee.{Float, nan, ofBits, ofInt}
-use Rattle.spread.specs.Spread.{stage, Bake, Called, walk, call, run, EachAtLeast, NoneRefused}
+use Rattle.spread.specs.Spread.{atZero, stage, Bake, Called, walk, call, run, EachAtLeast, NoneRefused}
 use Rattle.lists.specs.Any.{any}
 use Rattle.spread.specs.Bare.{bare, Agree, run-same}
 use Rattle.lists.specs.Some.{some}
@@ -51,7 +51,7 @@ module _ (lamps : List Float) (accepted : bakeRefusal (threeWith lamps) begun (b
   unfolding badVolume
   begins a h =
       let p = none-refused (threeWith lamps) begun (bakeCost (threeWith lamps)) .0 accepted in
-      none-refused (threeWith lamps) begun a .1 (still-passed (threeWith lamps) begun (bakeCost (threeWith lamps)) begun a p refl refl (lit≤ tt) h refl)
+      none-refused (threeWith lamps) begun a .1 (still-passed (threeWith lamps) begun (bakeCost (threeWith lamps)) begun a p refl refl (fits (threeWith lamps) begun (bakeCost (threeWith lamps)) p .progress) h refl)
 
   three-fair : Fair (bakeOf (threeWith lamps))
   three-fair =
@@ -84,13 +84,13 @@ agrees lamps =
     all-active (suc (suc (suc i))) h = absurd (omega arith)
 
 -- the answers of the bare bake
-bare-384 : (run (threeBare 384) (384 ∷ 384 ∷ 384 ∷ []) (stage 0 [] []) .rays ≡ 64 ∷ 64 ∷ 64 ∷ [])
-    × (run (threeBare 384) (384 ∷ 384 ∷ 384 ∷ []) (stage 0 [] []) .stage .progress ≡ 3)
+bare-384 : (run (threeBare 384) (384 ∷ 384 ∷ 384 ∷ []) (stage atZero [] []) .rays ≡ 64 ∷ 64 ∷ 64 ∷ [])
+    × (run (threeBare 384) (384 ∷ 384 ∷ 384 ∷ []) (stage atZero [] []) .stage .progress .next ≡ 3)
 unfolding run call walk any
 bare-384 = (refl, refl)
 
-bare-448 : (run (threeBare 384) (448 ∷ 448 ∷ []) (stage 0 [] []) .rays ≡ 128 ∷ 64 ∷ [])
-    × (run (threeBare 384) (448 ∷ 448 ∷ []) (stage 0 [] []) .stage .progress ≡ 3)
+bare-448 : (run (threeBare 384) (448 ∷ 448 ∷ []) (stage atZero [] []) .rays ≡ 128 ∷ 64 ∷ [])
+    × (run (threeBare 384) (448 ∷ 448 ∷ []) (stage atZero [] []) .stage .progress .next ≡ 3)
 unfolding run call walk any
 bare-448 = (refl, refl)
 
@@ -98,26 +98,26 @@ bare-448 = (refl, refl)
 
 pub figure-384 : (run (bakeOf three) (384 ∷ 384 ∷ 384 ∷ []) begun .refusals ≡ 0 ∷ 0 ∷ 0 ∷ [])
     × (run (bakeOf three) (384 ∷ 384 ∷ 384 ∷ []) begun .rays ≡ 64 ∷ 64 ∷ 64 ∷ [])
-    × (run (bakeOf three) (384 ∷ 384 ∷ 384 ∷ []) begun .stage .progress ≡ 3)
+    × (run (bakeOf three) (384 ∷ 384 ∷ 384 ∷ []) begun .stage .progress .next ≡ 3)
 unfolding run call walk any
 figure-384 =
     let n = three-goes-on [] (three-accepted .0) (384 ∷ 384 ∷ 384 ∷ []) (omega arith) in
-    let r = run-same (bakeOf three) (threeBare 384) (agrees []) (384 ∷ 384 ∷ 384 ∷ []) begun (stage 0 [] []) refl (lit≤ tt) n bare-none in
+    let r = run-same (bakeOf three) (threeBare 384) (agrees []) (384 ∷ 384 ∷ 384 ∷ []) begun (stage atZero [] []) refl (lit≤ tt) n bare-none in
     (refusals-zero (bakeOf three) (three-fair [] (three-accepted .0)) (384 ∷ 384 ∷ 384 ∷ []) begun n, r .1 ∙ bare-384 .0, r .0 ∙ bare-384 .1)
   where
-    bare-none : NoneRefused (run (threeBare 384) (384 ∷ 384 ∷ 384 ∷ []) (stage 0 [] []) .refusals)
+    bare-none : NoneRefused (run (threeBare 384) (384 ∷ 384 ∷ 384 ∷ []) (stage atZero [] []) .refusals)
     bare-none = (refl, (refl, (refl, tt)))
 
 pub figure-448 : (run (bakeOf three) (448 ∷ 448 ∷ []) begun .refusals ≡ 0 ∷ 0 ∷ [])
     × (run (bakeOf three) (448 ∷ 448 ∷ []) begun .rays ≡ 128 ∷ 64 ∷ [])
-    × (run (bakeOf three) (448 ∷ 448 ∷ []) begun .stage .progress ≡ 3)
+    × (run (bakeOf three) (448 ∷ 448 ∷ []) begun .stage .progress .next ≡ 3)
 unfolding run call walk any
 figure-448 =
     let n = three-goes-on [] (three-accepted .0) (448 ∷ 448 ∷ []) (omega arith) in
-    let r = run-same (bakeOf three) (threeBare 384) (agrees []) (448 ∷ 448 ∷ []) begun (stage 0 [] []) refl (lit≤ tt) n bare-none in
+    let r = run-same (bakeOf three) (threeBare 384) (agrees []) (448 ∷ 448 ∷ []) begun (stage atZero [] []) refl (lit≤ tt) n bare-none in
     (refusals-zero (bakeOf three) (three-fair [] (three-accepted .0)) (448 ∷ 448 ∷ []) begun n, r .1 ∙ bare-448 .0, r .0 ∙ bare-448 .1)
   where
-    bare-none : NoneRefused (run (threeBare 384) (448 ∷ 448 ∷ []) (stage 0 [] []) .refusals)
+    bare-none : NoneRefused (run (threeBare 384) (448 ∷ 448 ∷ []) (stage atZero [] []) .refusals)
     bare-none = (refl, (refl, tt))
 
 pub figure-383 : (run (bakeOf three) (383 ∷ []) begun .refusals ≡ 10 ∷ []) × (run (bakeOf three) (383 ∷ []) begun .rays ≡ 0 ∷ [])
@@ -131,27 +131,27 @@ figure-383 =
     )
 
 -- with one lamp a voxel may cost 448: three calls of 64 rays; 512 takes two, 128 then 64; 447 is refused 10
-bare-lit : (run (threeBare 448) (448 ∷ 448 ∷ 448 ∷ []) (stage 0 [] []) .rays ≡ 64 ∷ 64 ∷ 64 ∷ [])
-    × (run (threeBare 448) (448 ∷ 448 ∷ 448 ∷ []) (stage 0 [] []) .stage .progress ≡ 3)
-    × (run (threeBare 448) (512 ∷ 512 ∷ []) (stage 0 [] []) .rays ≡ 128 ∷ 64 ∷ [])
-    × (run (threeBare 448) (512 ∷ 512 ∷ []) (stage 0 [] []) .stage .progress ≡ 3)
+bare-lit : (run (threeBare 448) (448 ∷ 448 ∷ 448 ∷ []) (stage atZero [] []) .rays ≡ 64 ∷ 64 ∷ 64 ∷ [])
+    × (run (threeBare 448) (448 ∷ 448 ∷ 448 ∷ []) (stage atZero [] []) .stage .progress .next ≡ 3)
+    × (run (threeBare 448) (512 ∷ 512 ∷ []) (stage atZero [] []) .rays ≡ 128 ∷ 64 ∷ [])
+    × (run (threeBare 448) (512 ∷ 512 ∷ []) (stage atZero [] []) .stage .progress .next ≡ 3)
 unfolding run call walk any
 bare-lit = (refl, refl, refl, refl)
 
 pub figure-lit : (run (bakeOf threeLit) (448 ∷ 448 ∷ 448 ∷ []) begun .refusals ≡ 0 ∷ 0 ∷ 0 ∷ [])
     × (run (bakeOf threeLit) (448 ∷ 448 ∷ 448 ∷ []) begun .rays ≡ 64 ∷ 64 ∷ 64 ∷ [])
-    × (run (bakeOf threeLit) (448 ∷ 448 ∷ 448 ∷ []) begun .stage .progress ≡ 3)
+    × (run (bakeOf threeLit) (448 ∷ 448 ∷ 448 ∷ []) begun .stage .progress .next ≡ 3)
 unfolding run call walk any
 figure-lit =
     let n = three-goes-on oneLamp (lit-accepted .0) (448 ∷ 448 ∷ 448 ∷ []) (omega arith) in
-    let r = run-same (bakeOf threeLit) (threeBare 448) (agrees oneLamp) (448 ∷ 448 ∷ 448 ∷ []) begun (stage 0 [] []) refl (lit≤ tt) n (refl, (refl, (refl, tt))) in
+    let r = run-same (bakeOf threeLit) (threeBare 448) (agrees oneLamp) (448 ∷ 448 ∷ 448 ∷ []) begun (stage atZero [] []) refl (lit≤ tt) n (refl, (refl, (refl, tt))) in
     (refusals-zero (bakeOf threeLit) (three-fair oneLamp (lit-accepted .0)) (448 ∷ 448 ∷ 448 ∷ []) begun n, r .1 ∙ bare-lit .0, r .0 ∙ bare-lit .1)
 
-pub figure-lit-512 : (run (bakeOf threeLit) (512 ∷ 512 ∷ []) begun .rays ≡ 128 ∷ 64 ∷ []) × (run (bakeOf threeLit) (512 ∷ 512 ∷ []) begun .stage .progress ≡ 3)
+pub figure-lit-512 : (run (bakeOf threeLit) (512 ∷ 512 ∷ []) begun .rays ≡ 128 ∷ 64 ∷ []) × (run (bakeOf threeLit) (512 ∷ 512 ∷ []) begun .stage .progress .next ≡ 3)
 unfolding run call walk any
 figure-lit-512 =
     let n = three-goes-on oneLamp (lit-accepted .0) (512 ∷ 512 ∷ []) (omega arith) in
-    let r = run-same (bakeOf threeLit) (threeBare 448) (agrees oneLamp) (512 ∷ 512 ∷ []) begun (stage 0 [] []) refl (lit≤ tt) n (refl, (refl, tt)) in
+    let r = run-same (bakeOf threeLit) (threeBare 448) (agrees oneLamp) (512 ∷ 512 ∷ []) begun (stage atZero [] []) refl (lit≤ tt) n (refl, (refl, tt)) in
     (r .1 ∙ bare-lit .2, r .0 ∙ bare-lit .3)
 
 pub figure-447 : run (bakeOf threeLit) (447 ∷ []) begun .refusals ≡ 10 ∷ []
@@ -162,11 +162,11 @@ figure-447 =
 
 -- the first call of the three takes voxel 0 and no more
 pub figure-first : (run (bakeOf three) (384 ∷ []) begun .refusals ≡ 0 ∷ []) × (run (bakeOf three) (384 ∷ []) begun .rays ≡ 64 ∷ [])
-    × (run (bakeOf three) (384 ∷ []) begun .stage .progress ≡ 1)
+    × (run (bakeOf three) (384 ∷ []) begun .stage .progress .next ≡ 1)
 unfolding run call walk any
 figure-first =
     let n = three-goes-on [] (three-accepted .0) (384 ∷ []) (omega arith) in
-    let r = run-same (bakeOf three) (threeBare 384) (agrees []) (384 ∷ []) begun (stage 0 [] []) refl (lit≤ tt) n (refl, tt) in
+    let r = run-same (bakeOf three) (threeBare 384) (agrees []) (384 ∷ []) begun (stage atZero [] []) refl (lit≤ tt) n (refl, tt) in
     (refusals-zero (bakeOf three) (three-fair [] (three-accepted .0)) (384 ∷ []) begun n, r .1, r .0)
 
 -- what is gathered for voxel 0 is not what it holds before: its first number is not ambient's 1

@@ -1,5 +1,6 @@
 -- "no call refused" is no empty hope: after an accepted call the next, with the same input and an allowance for one voxel, is not refused. What the
--- fill and the gather write lies within ±2^96, the lists keep their lengths, and a finished bake's volume is not tested.
+-- fill and the gather write lies within ±2^96, the lists keep their lengths, the answered progress knows its rays, and a finished bake's volume is not
+-- tested.
 use mathlib.Core.Path.{_≡_, refl, sym, _∙_}
 use mathlib.Core.Bool.{Bool, true, false, cond, and-false}
 use mathlib.Core.Logic.{_⊎_, ⊎-elim}
@@ -23,6 +24,7 @@ use Rattle.words.specs.Words.{unusedSet}
 use Rattle.limits.specs.LimitsLaws.{either, any-of-three, within-between, vector-row, lights-row}
 use Rattle.limits.specs.declared.Ambient.{Ambient}
 use Rattle.means.specs.Box.{meanOf}
+use Rattle.spread.specs.declared.Progress.{Progress}
 use Rattle.spread.specs.Spread.{Stage, stage, Walked, filled, started, anyActive, ended, accepted, call}
 use Rattle.spread.specs.Walks.{Walks, walks, none, skip, stop, taken, walk-to}
 use Rattle.spread.specs.Demand.{Lasts}
@@ -30,10 +32,11 @@ use Rattle.ends.specs.Ends.{ambientVoxel, ambientAt, meanOver}
 use Rattle.ends.specs.EndsLaws.{length-ambient}
 use Rattle.gather.specs.Gather.{gatheredOf}
 use Rattle.gather.specs.GatherLaws.{length-gathered}
-use Rattle.intake.specs.Intake.{BakeInput, voxelNumbers, voxelCount, badLighting, badVolume, badContents}
-use Rattle.intake.specs.IntakeLaws.{BakePassed, Fits, fits, none-refused, still-passed}
-use Rattle.demand.specs.Bake.{gatherInput, bakeOf}
-use Rattle.demand.specs.Calls.{accepted-call}
+use Rattle.intake.specs.Intake.{BakeInput, voxelNumbers, voxelCount, badLighting, badVolume, badContents, bakeRefusal}
+use Rattle.intake.specs.IntakeLaws.{BakePassed, GoodProgress, Fits, fits, none-refused, still-passed}
+use Rattle.demand.specs.Bake.{gatherInput, bakeOf, bakeCall}
+use Rattle.demand.specs.Calls.{accepted-call, answers-refusal}
+use Rattle.demand.specs.Demanded.{good-knows, bake-demand}
 
 -- ---- tests of a list whose parts are known
 
@@ -173,14 +176,14 @@ module _ (b : BakeInput) (gathers : GathersWithin b) where
         go true j l = gathers j l
         go false j l = ambient-good j l
 
-    start-good : s .progress < voxelCount b → Good b (started (bakeOf b) (s .progress) (s .volume))
+    start-good : s .progress .next < voxelCount b → Good b (started (bakeOf b) (s .progress .next) (s .volume))
     unfolding filled badContents badVolume badCoefficients
-    start-good h = go (s .progress) refl
+    start-good h = go (s .progress .next) refl
       where
         f : Fits b s a
         f = fits b s a p
 
-        go : (q : ℕ) → s .progress ≡ q → Good b (started (bakeOf b) q (s .volume))
+        go : (q : ℕ) → s .progress .next ≡ q → Good b (started (bakeOf b) q (s .volume))
         go zero e =
             record {
               long = length-laid voxelNumbers (ambientAt (b .ambient) (b .lights)) (λ i. length-ambient (b .ambient) _) (voxelCount b) 0;
@@ -192,48 +195,44 @@ module _ (b : BakeInput) (gathers : GathersWithin b) where
             rw (ne-eqb (suc q) 0 (λ z. omega arith))
             (record {
               long = f .volume;
-              within = rw (lt-ltb 0 (s .progress) (omega arith), lt-ltb (s .progress) (voxelCount b) h) at c;
+              within = rw (lt-ltb 0 (s .progress .next) (omega arith), lt-ltb (s .progress .next) (voxelCount b) h) at c;
             })
 
-    -- the lists keep their lengths, progress stays within the count, and short of the end the volume holds good coefficients
+    -- the lists keep their lengths, and short of the end the volume holds good coefficients
     record Left (t : Stage Float) : Type 0 where
       volume : length (t .volume) ≡ voxelCount b * voxelNumbers
       scratch : length (t .scratch) ≡ voxelCount b * voxelNumbers
-      within : t .progress ≤ voxelCount b
-      good : badVolume (t .volume) (t .progress) (voxelCount b) ≡ false
+      good : badVolume (t .volume) (t .progress .next) (voxelCount b) ≡ false
 
     mean-long : (v : List Float) → length (meanOver (b .axes) v) ≡ length v
     unfolding meanOf
     mean-long v = length-tab _ (length v) 0
 
-    ended-left : (q : ℕ) (v : List Float) → q ≤ voxelCount b → Good b v → Left (ended (bakeOf b) q v (s .scratch))
+    ended-left : (q : Progress) (v : List Float) → q .next ≤ voxelCount b → Good b v → Left (ended (bakeOf b) q v (s .scratch))
     ended-left q v h g =
         ⊎-elim
-        (λ e. rw (eq-eqb q (voxelCount b) e) (over (anyActive (bakeOf b .active) (bakeOf b .count))))
+        (λ e. rw (eq-eqb (q .next) (voxelCount b) e) (over e (anyActive (bakeOf b .active) (bakeOf b .count))))
         (λ l.
-        rw (ne-eqb q (voxelCount b) (λ z. omega arith))
+        rw (ne-eqb (q .next) (voxelCount b) (λ z. omega arith))
         (record {
           volume = g .long;
           scratch = fits b s a p .scratch;
-          within = h;
-          good = good-volume v q (voxelCount b) (g .within);
+          good = good-volume v (q .next) (voxelCount b) (g .within);
         }))
         (eq-or-lt-of-le h)
       where
-        over : (t : Bool) → Left (cond t (stage (voxelCount b) (meanOver (b .axes) v) v) (stage (voxelCount b) v (s .scratch)))
-        over true =
+        over : q .next ≡ voxelCount b → (t : Bool) → Left (cond t (stage q (meanOver (b .axes) v) v) (stage q v (s .scratch)))
+        over e true =
             record {
               volume = mean-long v ∙ g .long;
               scratch = g .long;
-              within = omega arith;
-              good = not-under-way (meanOver (b .axes) v) (voxelCount b);
+              good = rw e (not-under-way (meanOver (b .axes) v) (voxelCount b));
             }
-        over false =
+        over e false =
             record {
               volume = g .long;
               scratch = fits b s a p .scratch;
-              within = omega arith;
-              good = not-under-way v (voxelCount b);
+              good = rw e (not-under-way v (voxelCount b));
             }
 
     accepted-left : Left (accepted (bakeOf b) a s .stage)
@@ -241,18 +240,21 @@ module _ (b : BakeInput) (gathers : GathersWithin b) where
     accepted-left =
         ⊎-elim
         (λ e.
-        rw (eq-eqb (s .progress) (voxelCount b) e)
+        rw (eq-eqb (s .progress .next) (voxelCount b) e)
         (record {
           volume = fits b s a p .volume;
           scratch = fits b s a p .scratch;
-          within = fits b s a p .progress;
           good = any-of-three (unusedSet (b .active) (voxelCount b)) (badLights (b .lights)) _ .0 (p .contents) .2;
         }))
         (λ l.
-        let w = walks (bakeOf b) (voxelCount b - s .progress) (s .progress) a (started (bakeOf b) (s .progress) (s .volume)) in
-        rw (ne-eqb (s .progress) (voxelCount b) (λ z. omega arith))
+        let w = walks (bakeOf b) (voxelCount b - s .progress .next) (s .progress .next) a (started (bakeOf b) (s .progress .next) (s .volume)) in
+        rw (ne-eqb (s .progress .next) (voxelCount b) (λ z. omega arith))
         (ended-left _ _ (omega (arith, walk-to (bakeOf b) w)) (walk-good w (omega arith) (start-good l))))
-        (eq-or-lt-of-le (fits b s a p .progress))
+        (eq-or-lt-of-le (fits b s a p .progress .within))
+
+-- an accepted call leaves a progress that row 9 accepts
+pub call-leaves : (b : BakeInput) (s : Stage Float) (a : ℕ) → bakeRefusal b s a ≡ 0 → GoodProgress b (bakeCall b s a .stage .progress)
+call-leaves b s a e = good-knows b _ .1 (bake-demand b s a e .knows a s (answers-refusal b s a ∙ e) .1)
 
 -- the next call is not refused, whatever its allowance from one voxel's on, where what the gather writes lies within ±2^96 whenever some call is
 -- accepted
@@ -261,4 +263,4 @@ bake-lasts b gathers s a next e h =
     let p = none-refused b s a .0 e in
     let f = fits b s a p in
     let l : Left b (gathers s a p) s a p (call (bakeOf b) a s .stage) = rw (accepted-call b s a e) (accepted-left b (gathers s a p) s a p) in
-    none-refused b _ next .1 (still-passed b s a _ next p (l .volume ∙ sym (f .volume)) (l .scratch ∙ sym (f .scratch)) (l .within) h (l .good))
+    none-refused b _ next .1 (still-passed b s a _ next p (l .volume ∙ sym (f .volume)) (l .scratch ∙ sym (f .scratch)) (call-leaves b s a e) h (l .good))

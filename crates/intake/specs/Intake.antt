@@ -1,14 +1,15 @@
 -- What a bake is handed, and when it is refused: rows 1 to 7, 19, 9, 10 and 13 in that order. The mask's unused bits and the lights are tested always, the
--- volume's coefficients exactly when progress lies strictly between 0 and the voxel count, the contents of scratch never. Assumes nothing.
+-- volume's coefficients exactly when the next voxel lies strictly between 0 and the voxel count, the contents of scratch never. Assumes nothing.
 use mathlib.Core.Bool.{Bool, _&&_, _||_}
 use mathlib.Core.List.{List, [], _∷_}
 use Prim.Native.Nat.{ℕ, _*_}
 use lib.Dec.{ltb}
 use lib.ListN.{length}
 use lib.Ieee.{Float}
-use Rattle.names.specs.Numbers.{skyNumbers, voxelCost}
+use Rattle.names.specs.Numbers.{skyNumbers, voxelCost, primaryRays}
 use Rattle.names.specs.Refusals.{Row, row, firstOf}
 use Rattle.names.specs.Scene.{Scene}
+use Rattle.spread.specs.declared.Progress.{Progress}
 use Rattle.spread.specs.Spread.{Stage}
 use Rattle.grid.specs.declared.Axes.{Axes}
 use Rattle.grid.specs.declared.Corners.{Corners}
@@ -16,6 +17,7 @@ use Rattle.grid.specs.Grid.{voxels}
 use Rattle.limits.specs.declared.Light.{Light}
 use Rattle.limits.specs.declared.Ambient.{Ambient}
 use Rattle.limits.specs.Limits.{badAxes, badGrid, wrongLength, tooShort, wrongScene, sceneRows, badLight, badAmbient, badSky, lampCount, wrongLamps, badLamps, pastCount, belowCost, badLights, badCoefficients}
+use Rattle.marks.specs.Marks.{markedBelow}
 use Rattle.words.specs.Words.{wordCount, entriesOf, unusedSet}
 
 -- what stays the same from call to call
@@ -70,16 +72,24 @@ wrongLengths n t skyLength lampsLength activeLength lightsLength volumeLength sc
 unfoldable pub badLighting : Light → Ambient → List Float → Bool
 badLighting light ambient sky = badLight light || badAmbient ambient || badSky sky
 
--- progress strictly between 0 and the count n
+-- "rays so far lies between 64 and W for each mask entry 1 below next", W being what a voxel may cost with these lamps: outside that, of so many marked
+abbrev pub raysOff : ℕ → ℕ → ℕ → Bool
+raysOff lamps marked rays = ltb rays (marked * primaryRays) || ltb (marked * voxelCost lamps) rays
+
+-- 9: next above the voxel count n, or rays so far outside what the mask of these entries says
+unfoldable pub badProgress : ℕ → List ℕ → ℕ → Progress → Bool
+badProgress n entries lamps p = pastCount (p .next) n || raysOff lamps (markedBelow entries (p .next)) (p .rays)
+
+-- next strictly between 0 and the count n
 abbrev pub underWay : ℕ → ℕ → Bool
-underWay progress n = ltb 0 progress && ltb progress n
+underWay next n = ltb 0 next && ltb next n
 
 unfoldable pub badVolume : List Float → ℕ → ℕ → Bool
-badVolume volume progress n = underWay progress n && badCoefficients volume
+badVolume volume next n = underWay next n && badCoefficients volume
 
 -- 13: an unused bit of the mask set; light not finite or beyond ±2^64, coefficient not finite or beyond ±2^96
 unfoldable pub badContents : List ℕ → List Float → List Float → ℕ → ℕ → Bool
-badContents active lights volume progress n = unusedSet active n || badLights lights || badVolume volume progress n
+badContents active lights volume next n = unusedSet active n || badLights lights || badVolume volume next n
 
 module _ (b : BakeInput) where
   abbrev pub voxelCount : ℕ
@@ -111,9 +121,9 @@ module _ (b : BakeInput) where
       ∷ sceneRows (b .scene)
       (row 7 (badLighting (b .light) (b .ambient) (b .sky))
       ∷ row 19 (badLamps (b .lamps))
-      ∷ row 9 (pastCount (s .progress) voxelCount)
+      ∷ row 9 (badProgress voxelCount activeEntries (lampCount (b .lamps)) (s .progress))
       ∷ row 10 (belowCost (lampCount (b .lamps)) allowance)
-      ∷ row 13 (badContents (b .active) (b .lights) (s .volume) (s .progress) voxelCount)
+      ∷ row 13 (badContents (b .active) (b .lights) (s .volume) (s .progress .next) voxelCount)
       ∷ [])
 
   unfoldable pub bakeRefusal : Stage Float → ℕ → ℕ

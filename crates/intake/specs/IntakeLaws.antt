@@ -1,5 +1,5 @@
 -- What a refusal of the bake means, what stands once none is given, and when a later call at another stage is given none.
-use mathlib.Core.Path.{_≡_, refl}
+use mathlib.Core.Path.{_≡_, refl, ap₂}
 use mathlib.Core.Bool.{Bool, false}
 use mathlib.Core.Logic.{_↔_}
 use mathlib.Core.List.{List, _∷_}
@@ -8,15 +8,18 @@ use native.Mathlib.Omega.{arith}
 use lib.ListN.{length}
 use lib.Ieee.{Float}
 use borrow.Author.Tests.{ltb-false, le-ltb, eqb-true, not-false}
-use Rattle.names.specs.Numbers.{skyNumbers, lampLimit}
+use Rattle.names.specs.Numbers.{skyNumbers, lampLimit, primaryRays}
 use Rattle.names.specs.Refusals.{Row, row, firstOf, FirstIs, NoneHolds, none, later, Numbered, first-given, first-found, none-given, none-found}
 use Rattle.names.specs.Scene.{Sound}
-use Rattle.spread.specs.Spread.{Stage}
+use Rattle.lists.specs.Fold.{fold}
+use Rattle.spread.specs.declared.Progress.{Progress}
+use Rattle.spread.specs.Spread.{progressOf, atZero, Stage}
 use Rattle.grid.specs.Grid.{AxesWithin}
-use Rattle.limits.specs.Limits.{badAxes, badGrid, wrongLength, wrongLamps, tooMany, badPoints, badMaterials, pastCount, belowCost, lampCount, badLamps, badLights}
+use Rattle.limits.specs.Limits.{badAxes, badGrid, wrongLength, wrongLamps, tooMany, badPoints, badMaterials, belowCost, lampCount, badLamps, badLights}
+use Rattle.marks.specs.Marks.{markedBelow}
 use Rattle.words.specs.Words.{wordCount, unusedSet, Tidy}
 use Rattle.limits.specs.LimitsLaws.{either, any-of-three, axes-row, sound, lamps-row}
-use Rattle.intake.specs.Intake.{BakeInput, voxelNumbers, bakeCost, voxelCount, triangleCount, wrongLengths, wrongBakeLists, badLighting, badVolume, badContents, bakeRows, bakeRefusal}
+use Rattle.intake.specs.Intake.{BakeInput, voxelNumbers, bakeCost, voxelCount, activeEntries, triangleCount, wrongLengths, wrongBakeLists, badLighting, badProgress, badVolume, badContents, bakeRows, bakeRefusal}
 
 -- no row holds of a call at the stage s with the allowance a
 pub record BakePassed (b : BakeInput) (s : Stage Float) (a : ℕ) : Type 0 where
@@ -28,9 +31,15 @@ pub record BakePassed (b : BakeInput) (s : Stage Float) (a : ℕ) : Type 0 where
   pub materials : badMaterials (b .scene .uses) (b .scene .kinds) (b .scene .numbers) ≡ false
   pub lighting : badLighting (b .light) (b .ambient) (b .sky) ≡ false
   pub lamps : badLamps (b .lamps) ≡ false
-  pub progress : pastCount (s .progress) (voxelCount b) ≡ false
+  pub progress : badProgress (voxelCount b) (activeEntries b) (lampCount (b .lamps)) (s .progress) ≡ false
   pub allowance : belowCost (lampCount (b .lamps)) a ≡ false
-  pub contents : badContents (b .active) (b .lights) (s .volume) (s .progress) (voxelCount b) ≡ false
+  pub contents : badContents (b .active) (b .lights) (s .volume) (s .progress .next) (voxelCount b) ≡ false
+
+-- what row 9 asks of a progress: next at most the count, and its rays between 64 and W for each marked voxel below next
+pub record GoodProgress (b : BakeInput) (p : Progress) : Type 0 where
+  pub within : p .next ≤ voxelCount b
+  pub least : markedBelow (activeEntries b) (p .next) * primaryRays ≤ p .rays
+  pub most : p .rays ≤ markedBelow (activeEntries b) (p .next) * bakeCost b
 
 -- what the code may count on then
 pub record Fits (b : BakeInput) (s : Stage Float) (a : ℕ) : Type 0 where
@@ -45,7 +54,7 @@ pub record Fits (b : BakeInput) (s : Stage Float) (a : ℕ) : Type 0 where
   pub scratch : length (s .scratch) ≡ voxelCount b * voxelNumbers
   pub distances : triangleCount b ≤ b .distances
   pub places : triangleCount b ≤ b .places
-  pub progress : s .progress ≤ voxelCount b
+  pub progress : GoodProgress b (s .progress)
   pub allowance : bakeCost b ≤ a
 
 exactly : (x y : ℕ) → wrongLength x y ≡ false → x ≡ y
@@ -82,6 +91,26 @@ long h =
       distances = ltb-false _ _ (distances .1);
       places = ltb-false _ _ (places .1);
     }
+
+-- row 9 passes exactly such a progress; at next 0 none is marked below it, so that it knows no ray
+pub progress-row : (b : BakeInput) (p : Progress) → (badProgress (voxelCount b) (activeEntries b) (lampCount (b .lamps)) p ≡ false) ↔ GoodProgress b p
+unfolding badProgress
+progress-row b p = (out, back)
+  where
+    out : badProgress (voxelCount b) (activeEntries b) (lampCount (b .lamps)) p ≡ false → GoodProgress b p
+    out e =
+        let q = either _ _ .0 e in
+        let r = either _ _ .0 (q .1) in
+        record { within = ltb-false _ _ (q .0); least = ltb-false _ _ (r .0); most = ltb-false _ _ (r .1) }
+
+    back : GoodProgress b p → badProgress (voxelCount b) (activeEntries b) (lampCount (b .lamps)) p ≡ false
+    back k = either _ _ .1 (le-ltb _ _ (k .within), either _ _ .1 (le-ltb _ _ (k .least), le-ltb _ _ (k .most)))
+
+pub zero-at-zero : (b : BakeInput) (p : Progress) → GoodProgress b p → p .next ≡ 0 → p ≡ atZero
+unfolding fold
+zero-at-zero b p k e =
+    let none : markedBelow (activeEntries b) (p .next) ≡ 0 = rw e refl in
+    ap₂ progressOf e (omega (arith, rw none at (k .most)))
 
 module _ (b : BakeInput) (s : Stage Float) (a : ℕ) where
   -- ---- a number k is answered exactly when row k holds and none before it does
@@ -153,17 +182,17 @@ module _ (b : BakeInput) (s : Stage Float) (a : ℕ) where
         scratch = l .scratch;
         distances = l .distances;
         places = l .places;
-        progress = ltb-false _ _ (p .progress);
+        progress = progress-row b (s .progress) .0 (p .progress);
         allowance = ltb-false _ _ (p .allowance);
       }
 
   -- ---- a later call
 
-  -- at a stage whose lists are as long, whose progress lies within the count and whose volume holds good coefficients
+  -- at a stage whose lists are as long, whose progress knows its rays and whose volume holds good coefficients
   pub still-passed : (t : Stage Float) (c : ℕ) → BakePassed b s a → length (t .volume) ≡ length (s .volume) → length (t .scratch) ≡ length (s .scratch)
-      → t .progress ≤ voxelCount b
+      → GoodProgress b (t .progress)
       → bakeCost b ≤ c
-      → badVolume (t .volume) (t .progress) (voxelCount b) ≡ false
+      → badVolume (t .volume) (t .progress .next) (voxelCount b) ≡ false
       → BakePassed b t c
   unfolding wrongBakeLists badContents
   still-passed t c p v x q h g =
@@ -177,7 +206,7 @@ module _ (b : BakeInput) (s : Stage Float) (a : ℕ) where
         materials = p .materials;
         lighting = p .lighting;
         lamps = p .lamps;
-        progress = le-ltb _ _ q;
+        progress = progress-row b (t .progress) .1 q;
         allowance = le-ltb _ _ h;
         contents = any-of-three (unusedSet (b .active) (voxelCount b)) (badLights (b .lights)) _ .1 (k .0, k .1, g);
       }

@@ -1,8 +1,8 @@
 -- A good input: a grid of 3×1×1 voxels, all active, no triangles, a black sky. It is accepted at an allowance of 384 rays, and refused 10 at 383;
 -- with one lamp accepted at 448, and refused 10 at 447. Its mask is the word 7: with a bit of another voxel set, 15, it is refused 13, and with a word
--- more or none 3.
+-- more or none 3. A progress whose rays do not fit what the mask says is refused 9.
 use mathlib.Core.Path.{_≡_, refl}
-use mathlib.Core.List.{List, [], _∷_}
+use mathlib.Core.List.{List, [], _∷_, map}
 use Prim.Native.Nat.{ℕ}
 use lib.ListN.{replicate}
 use lib.Ieee as Ieee
@@ -11,13 +11,14 @@ use Rattle.names.specs.Bits.{lit, zero32, one32}
 use Rattle.names.specs.Refusals.{firstOf}
 use Rattle.names.specs.Scene.{sceneOf}
 use Rattle.lists.specs.Any.{any}
-use Rattle.spread.specs.Spread.{Stage, stage}
+use Rattle.lists.specs.Fold.{fold, tab}
+use Rattle.spread.specs.Spread.{progressOf, atZero, Stage, stage}
 use Rattle.vectors.specs.Vectors.{vec, dotV}
 use Rattle.grid.specs.Grid.{edgesOf}
 use Rattle.lists.specs.Some.{some}
 use Rattle.limits.specs.Limits.{within, upTo, outsideV, badAxes, badCorners, badEdges, wrongShare, wrongScene, tooMany, badPoints, badKinds, badFrom, badUses, badMaterials, badDirection, badLight, badAmbient, badSky, lampAt, badLamp, badLamps, badLights, badCoefficients}
-use Rattle.words.specs.Words.{unusedSet}
-use Rattle.intake.specs.Intake.{BakeInput, inputOf, wrongLengths, wrongBakeLists, badLighting, badVolume, badContents, bakeRows, bakeRefusal}
+use Rattle.words.specs.Words.{entriesOf, unusedSet}
+use Rattle.intake.specs.Intake.{BakeInput, inputOf, wrongLengths, wrongBakeLists, badLighting, badProgress, badVolume, badContents, bakeRows, bakeRefusal}
 
 abbrev pub threeOf : List ℕ → List Float → BakeInput
 threeOf active lamps =
@@ -53,18 +54,32 @@ threeLit = threeWith oneLamp
 
 -- before the first call; what the lists hold is not read
 abbrev pub begun : Stage Float
-begun = stage 0 (replicate 48 zero32) (replicate 48 zero32)
+begun = stage atZero (replicate 48 zero32) (replicate 48 zero32)
 
 pub three-accepted : (bakeRefusal three begun 384 ≡ 0) × (bakeRefusal three begun 383 ≡ 10)
-unfolding bakeRefusal bakeRows firstOf some within upTo outsideV badAxes badCorners badEdges wrongShare wrongScene tooMany badPoints badKinds badFrom badUses badMaterials badDirection badLight badAmbient badSky unusedSet badLights badCoefficients wrongLengths wrongBakeLists badLighting badLamp badLamps lampAt any badVolume badContents edgesOf dotV ofBits ofInt Ieee.add Ieee.sub Ieee.mul Ieee.div Ieee.neg Ieee.le Ieee.lt Ieee.eq
+unfolding bakeRefusal bakeRows firstOf some within upTo outsideV badAxes badCorners badEdges wrongShare wrongScene tooMany badPoints badKinds badFrom badUses badMaterials badDirection badLight badAmbient badSky unusedSet badLights badCoefficients wrongLengths wrongBakeLists badLighting badLamp badLamps lampAt any badProgress entriesOf tab fold badVolume badContents edgesOf dotV ofBits ofInt Ieee.add Ieee.sub Ieee.mul Ieee.div Ieee.neg Ieee.le Ieee.lt Ieee.eq
 three-accepted = (refl, refl)
 
 -- with a lamp 448 are asked for; and 19 comes before 9 and 10
 pub lit-accepted : (bakeRefusal threeLit begun 448 ≡ 0) × (bakeRefusal threeLit begun 447 ≡ 10) × (bakeRefusal (threeWith (replicate 54 one32)) begun 0 ≡ 19)
-unfolding bakeRefusal bakeRows firstOf some within upTo outsideV badAxes badCorners badEdges wrongShare wrongScene tooMany badPoints badKinds badFrom badUses badMaterials badDirection badLight badAmbient badSky unusedSet badLights badCoefficients wrongLengths wrongBakeLists badLighting badLamp badLamps lampAt any badVolume badContents edgesOf dotV ofBits ofInt Ieee.add Ieee.sub Ieee.mul Ieee.div Ieee.neg Ieee.le Ieee.lt Ieee.eq
+unfolding bakeRefusal bakeRows firstOf some within upTo outsideV badAxes badCorners badEdges wrongShare wrongScene tooMany badPoints badKinds badFrom badUses badMaterials badDirection badLight badAmbient badSky unusedSet badLights badCoefficients wrongLengths wrongBakeLists badLighting badLamp badLamps lampAt any badProgress entriesOf tab fold badVolume badContents edgesOf dotV ofBits ofInt Ieee.add Ieee.sub Ieee.mul Ieee.div Ieee.neg Ieee.le Ieee.lt Ieee.eq
 lit-accepted = (refl, refl, refl)
 
 -- three voxels take one word, in which bit 3 is the first unused: the word 15 is refused 13, and two words or none are refused 3
 pub mask-judged : (bakeRefusal (threeOf (15 ∷ []) []) begun 384 ≡ 13) × (bakeRefusal (threeOf (7 ∷ 0 ∷ []) []) begun 384 ≡ 3) × (bakeRefusal (threeOf [] []) begun 384 ≡ 3)
-unfolding bakeRefusal bakeRows firstOf some within upTo outsideV badAxes badCorners badEdges wrongShare wrongScene tooMany badPoints badKinds badFrom badUses badMaterials badDirection badLight badAmbient badSky unusedSet badLights badCoefficients wrongLengths wrongBakeLists badLighting badLamp badLamps lampAt any badVolume badContents edgesOf dotV ofBits ofInt Ieee.add Ieee.sub Ieee.mul Ieee.div Ieee.neg Ieee.le Ieee.lt Ieee.eq
+unfolding bakeRefusal bakeRows firstOf some within upTo outsideV badAxes badCorners badEdges wrongShare wrongScene tooMany badPoints badKinds badFrom badUses badMaterials badDirection badLight badAmbient badSky unusedSet badLights badCoefficients wrongLengths wrongBakeLists badLighting badLamp badLamps lampAt any badProgress entriesOf tab fold badVolume badContents edgesOf dotV ofBits ofInt Ieee.add Ieee.sub Ieee.mul Ieee.div Ieee.neg Ieee.le Ieee.lt Ieee.eq
 mask-judged = (refl, refl, refl)
+
+-- progress with voxel 0 done, whose rays were 64 to 384, or to 448 with a lamp; with none done, whose rays are 0; with all done, 192 to 1,152; next past the
+-- count; and 9 comes before 10 and 13
+abbrev pub under : ℕ → ℕ → Stage Float
+under next rays = stage (progressOf next rays) (begun .volume) (begun .scratch)
+
+pub progress-judged : (map (λ (r : ℕ). bakeRefusal three (under 1 r) 384) (63 ∷ 64 ∷ 384 ∷ 385 ∷ 18446744073709551615 ∷ []) ≡ 9 ∷ 0 ∷ 0 ∷ 9 ∷ 9 ∷ [])
+    × (map (λ (r : ℕ). bakeRefusal threeLit (under 1 r) 448) (63 ∷ 64 ∷ 448 ∷ 449 ∷ []) ≡ 9 ∷ 0 ∷ 0 ∷ 9 ∷ [])
+    × (map (λ (r : ℕ). bakeRefusal three (under 0 r) 384) (0 ∷ 1 ∷ []) ≡ 0 ∷ 9 ∷ [])
+    × (map (λ (r : ℕ). bakeRefusal three (under 3 r) 384) (191 ∷ 192 ∷ 1152 ∷ 1153 ∷ []) ≡ 9 ∷ 0 ∷ 0 ∷ 9 ∷ [])
+    × (bakeRefusal three (under 4 192) 384 ≡ 9)
+    × (bakeRefusal (threeOf (15 ∷ []) []) (under 1 63) 383 ≡ 9)
+unfolding bakeRefusal bakeRows firstOf some within upTo outsideV badAxes badCorners badEdges wrongShare wrongScene tooMany badPoints badKinds badFrom badUses badMaterials badDirection badLight badAmbient badSky unusedSet badLights badCoefficients wrongLengths wrongBakeLists badLighting badLamp badLamps lampAt any badProgress entriesOf tab fold badVolume badContents edgesOf dotV ofBits ofInt Ieee.add Ieee.sub Ieee.mul Ieee.div Ieee.neg Ieee.le Ieee.lt Ieee.eq
+progress-judged = (refl, refl, refl, refl, refl, refl)

@@ -5,9 +5,9 @@ ghost use lib.ListN.{length};
 ghost use Rattle.names.specs.Numbers.{voxelLimit, lampLimit, voxelCost};
 ghost use Rattle.names.specs.Scene.{sceneOf};
 ghost use Rattle.limits.specs.Limits.{lampCount};
-ghost use Rattle.words.specs.Words.{wordCount};
+ghost use Rattle.words.specs.Words.{wordCount, entriesOf};
 ghost use Rattle.spread.specs.Spread.{stage};
-ghost use Rattle.intake.specs.Intake.{inputOf, wrongLengths, badLighting, badVolume, badContents, bakeRefusal};
+ghost use Rattle.intake.specs.Intake.{inputOf, wrongLengths, badLighting, badProgress, badVolume, badContents, bakeRefusal};
 use grid::Axes;
 use grid::Corners;
 use limits::Ambient;
@@ -15,6 +15,7 @@ use limits::Light;
 use names::BARE_COST;
 use names::LAMP_COST;
 use names::SKY_NUMBERS;
+use spread::Progress;
 
 // The number of the first row that holds, 0 where none does.
 pub fn judge(
@@ -34,7 +35,7 @@ pub fn judge(
     scratch: &[f32],
     distances: usize,
     places: usize,
-    progress: usize,
+    progress: Progress,
     allowance: u64,
 ) -> u32
     ensures { λ r. ⌜ r ≡ bakeRefusal
@@ -81,13 +82,13 @@ pub fn judge(
         return 19;
     }
     let cost = voxel_cost(lamps);
-    if n < progress {
+    if bad_progress(n, active, lamps, progress) {
         return 9;
     }
     if allowance < cost {
         return 10;
     }
-    if bad_contents(active, lights, volume, progress, n) {
+    if bad_contents(active, lights, volume, progress.next, n) {
         return 13;
     }
     0
@@ -128,6 +129,22 @@ fn bad_lighting(light: Light, ambient: Ambient, sky: &[f32]) -> bool
     a | b | c
 }
 
+// ---- 9, of n voxels
+
+// The rays that an active voxel costs at least.
+const PRIMARY_RAYS: u64 = 64;
+
+fn bad_progress(n: usize, active: &[u64], lamps: &[f32], progress: Progress) -> bool
+    requires { ⌜ (n ≤ voxelLimit) × (length (now active) ≡ wordCount n) × (lampCount (now lamps) ≤ lampLimit) ⌝ }
+    ensures { λ r. ⌜ r ≡ badProgress n (entriesOf (now (active .entry)) n) (lampCount (now (lamps .entry))) progress ⌝ }
+{
+    if n < progress.next {
+        return true;
+    }
+    let marked = words::inner::count_below(active, progress.next);
+    (progress.rays < marked * PRIMARY_RAYS) | (marked * voxel_cost(lamps) < progress.rays)
+}
+
 // ---- 10
 
 // The most that a voxel may cost.
@@ -147,23 +164,23 @@ fn wide(x: usize) -> u64
 // ---- 13
 
 // The mask's unused bits and the lights always; the volume's coefficients where the bake is under way.
-fn bad_contents(active: &[u64], lights: &[f32], volume: &[f32], progress: usize, n: usize) -> bool
+fn bad_contents(active: &[u64], lights: &[f32], volume: &[f32], next: usize, n: usize) -> bool
     requires { ⌜ length (now active) ≡ wordCount n ⌝ }
-    ensures { λ r. ⌜ r ≡ badContents (now (active .entry)) (now (lights .entry)) (now (volume .entry)) progress n ⌝ }
+    ensures { λ r. ⌜ r ≡ badContents (now (active .entry)) (now (lights .entry)) (now (volume .entry)) next n ⌝ }
 {
     let a = words::inner::unused_set(active, n);
     let b = limits::inner::bad_lights(lights);
-    let c = bad_volume(volume, progress, n);
+    let c = bad_volume(volume, next, n);
     a | b | c
 }
 
-fn bad_volume(volume: &[f32], progress: usize, n: usize) -> bool
-    ensures { λ r. ⌜ r ≡ badVolume (now (volume .entry)) progress n ⌝ }
+fn bad_volume(volume: &[f32], next: usize, n: usize) -> bool
+    ensures { λ r. ⌜ r ≡ badVolume (now (volume .entry)) next n ⌝ }
 {
-    if progress == 0 {
+    if next == 0 {
         return false;
     }
-    if progress < n {
+    if next < n {
         return limits::inner::bad_coefficients(volume);
     }
     false

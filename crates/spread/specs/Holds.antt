@@ -12,7 +12,7 @@ use borrow.Author.Tests.{eq-eqb, ne-eqb}
 use Rattle.lists.specs.Laid.{voxelPart, part-of-laid}
 use Rattle.spread.specs.declared.Progress.{Progress}
 use Rattle.spread.specs.Spread.{progressOf, atZero, Stage, stage, Bake, Called, Walked, started, anyActive, blurred, walkOf, reachedBy, baked, accepted, call, unblurred, unbroken, actives, costs, standing, stands, run, sum, EachAtLeast, NoneRefused}
-use Rattle.spread.specs.Walks.{Walks, ended-progress, walks, walk-from, walk-to, walk-goes, walk-costs, walk-fires, walk-stops, walk-takes, walk-rays, walk-passed, actives-split, costs-split, costs-least, costs-most}
+use Rattle.spread.specs.Walks.{Walks, ended-progress, walks, walk-from, walk-to, walk-goes, walk-costs, walk-fires, walk-stops, walk-takes, walk-rays, walk-passed, call-adds, actives-split, costs-split, costs-least, costs-most}
 use Rattle.spread.specs.Contents.{length-standing, walk-stands, stands-filled, stands-unblurred}
 use Rattle.spread.specs.Demand.{KnowsRays, Fair, Lasts, roundedUp, allActive, finished, Demand}
 
@@ -165,18 +165,10 @@ module _ {A : Type 0} (b : Bake A) (fair : Fair b) where
             most = rw (split, apart) (omega (arith, k .most, costs-most b (fair .most) (fair .least) m i));
           })
 
-  call-adds : (a : ℕ) (s : Stage A) → call b a s .stage .progress .rays ≡ s .progress .rays + call b a s .rays
-  call-adds a s = go (call b a s) (calls a s)
-    where
-      go : (c : Called A) → Calls a s c → c .stage .progress .rays ≡ s .progress .rays + c .rays
-      go c (refused e n) = omega arith
-      go c (idle e h) = omega arith
-      go c (walks-on e h f) = ap (λ (p : Progress). p .rays) (ended-progress b (reachedBy b a s) (walkOf b a s .volume) (s .scratch))
-
   run-adds : (l : List ℕ) (s : Stage A) → run b l s .stage .progress .rays ≡ s .progress .rays + sum (run b l s .rays)
   unfolding run sum
   run-adds [] s = omega arith
-  run-adds (a ∷ l) s = omega (arith, call-adds a s, run-adds l (call b a s .stage))
+  run-adds (a ∷ l) s = omega (arith, call-adds b a s, run-adds l (call b a s .stage))
 
   last-is-sum : (l : List ℕ) (s : Stage A) → s .progress ≡ atZero → run b l s .stage .progress .rays ≡ sum (run b l s .rays)
   last-is-sum l s e = omega (arith, run-adds l s, ap (λ (p : Progress). p .rays) e)

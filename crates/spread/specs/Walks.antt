@@ -13,7 +13,7 @@ use Rattle.lists.specs.Any.{any}
 use Rattle.lists.specs.Fold.{ahead}
 use Rattle.lists.specs.Laid.{replaced}
 use Rattle.spread.specs.declared.Progress.{Progress}
-use Rattle.spread.specs.Spread.{stage, Bake, Walked, walked, more, walk, anyActive, ended, actives, costs}
+use Rattle.spread.specs.Spread.{Stage, stage, Bake, Walked, walked, more, walk, anyActive, ended, walkOf, reachedBy, baked, call, actives, costs}
 
 module _ {A : Type 0} (b : Bake A) where
   pub data Walks : ℕ → ℕ → ℕ → List A → Walked A → Type 0 where
@@ -145,6 +145,18 @@ module _ {A : Type 0} (b : Bake A) where
       go true true = refl
       go true false = refl
       go false u = refl
+
+  -- what a call reports is added to the rays so far
+  pub call-adds : (a : ℕ) (s : Stage A) → call b a s .stage .progress .rays ≡ s .progress .rays + call b a s .rays
+  unfolding call
+  call-adds a s = go (eqb (b .refusal s a) 0) (eqb (s .progress .next) (b .count))
+    where
+      go : (t u : Bool)
+          → cond t (cond u (record { refusal = 0; rays = 0; stage = s }) (baked b a s)) (record { refusal = b .refusal s a; rays = 0; stage = s }) .stage .progress .rays
+          ≡ s .progress .rays + cond t (cond u (record { refusal = 0; rays = 0; stage = s }) (baked b a s)) (record { refusal = b .refusal s a; rays = 0; stage = s }) .rays
+      go true true = omega arith
+      go true false = ap (λ (p : Progress). p .rays) (ended-progress (reachedBy b a s) (walkOf b a s .volume) (s .scratch))
+      go false u = omega arith
 
   module _ (high : (i : ℕ) → b .cost i ≤ b .most) where
     -- it fires no more than it may

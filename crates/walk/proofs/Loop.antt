@@ -22,26 +22,26 @@ use Rattle.demand.specs.Bake.{gatherInput, bakeOf}
 use Rattle.walk.specs.Next.{next-from, so-far-next}
 use Rattle.walk.specs.Reports.{Takeable, Taken, Walkable, Unhit, Reports}
 
-pub record SoFar (b : BakeInput) (v₀ d₀ : List Float) (p₀ : List ℕ) (progress allowance : ℕ) (v d : List Float) (p : List ℕ) (i r : ℕ) : Type 0 where
+pub record SoFar (b : BakeInput) (v₀ d₀ : List Float) (p₀ : List ℕ) (start allowance : ℕ) (v d : List Float) (p : List ℕ) (i r : ℕ) : Type 0 where
   pub within : r ≤ allowance
   pub volume : length v ≡ length v₀
   pub distances : length d ≡ length d₀
   pub places : length p ≡ length p₀
   pub hits : Unhit r d₀ d p₀ p
-  pub goes : walk (bakeOf b) (voxelCount b - progress) progress allowance v₀ ≡ more r (walk (bakeOf b) (voxelCount b - i) i (allowance - r) v)
+  pub goes : walk (bakeOf b) (voxelCount b - start) start allowance v₀ ≡ more r (walk (bakeOf b) (voxelCount b - i) i (allowance - r) v)
 
 -- what the walk comes to as the code answers it
 reports : {w : Walked Float} {i r : ℕ} {v d₀ d : List Float} {p₀ p : List ℕ} → w ≡ walked i r v → Unhit r d₀ d p₀ p
-    → Reports w (record { progress = i; rays = r }) v d₀ d p₀ p
+    → Reports w (record { next = i; rays = r }) v d₀ d p₀ p
 reports e h =
     record {
-      progress = sym (ap (λ (x : Walked Float). x .progress) e);
+      next = sym (ap (λ (x : Walked Float). x .next) e);
       rays = sym (ap (λ (x : Walked Float). x .rays) e);
       volume = sym (ap (λ (x : Walked Float). x .volume) e);
       hits = h;
     }
 
-pub begins : {b : BakeInput} {v₀ d₀ : List Float} {p₀ : List ℕ} {progress allowance : ℕ} → SoFar b v₀ d₀ p₀ progress allowance v₀ d₀ p₀ progress 0
+pub begins : {b : BakeInput} {v₀ d₀ : List Float} {p₀ : List ℕ} {start allowance : ℕ} → SoFar b v₀ d₀ p₀ start allowance v₀ d₀ p₀ start 0
 begins =
     record {
       within = omega arith;
@@ -59,7 +59,7 @@ Says b i x = (n : ℕ) → i < n → x ≡ isMarked (entriesOf (b .active) n) i
 abbrev pub Found : BakeInput → ℕ → ℕ → Type 0
 Found b i t = t ≡ nextFrom (isMarked (entriesOf (b .active) (length (b .lights)))) (length (b .lights)) (length (b .lights) - i) i
 
-module _ {b : BakeInput} {m progress : ℕ} (f : Walkable b m progress) where
+module _ {b : BakeInput} {m start : ℕ} (f : Walkable b m start) where
   -- what the code asks to find them
   pub readable : {i : ℕ} → i < length (b .lights) → i / 64 < length (b .active)
   readable h = omega (arith, f .lights, f .active .long)
@@ -76,10 +76,10 @@ module _ {b : BakeInput} {m progress : ℕ} (f : Walkable b m progress) where
       let l : i + 1 ≤ voxelCount b = omega (arith, f .lights) in
       omega (arith, of-voxels (i + 1) e, next-from (bakeOf b .active) (voxelCount b) (voxelCount b - (i + 1)) (i + 1) (omega arith))
 
-module _ {b : BakeInput} {v₀ d₀ : List Float} {p₀ : List ℕ} {progress allowance : ℕ} (f : Walkable b (length v₀) progress) where
-  module _ {v d : List Float} {p : List ℕ} {i r : ℕ} (s : SoFar b v₀ d₀ p₀ progress allowance v d p i r) where
+module _ {b : BakeInput} {v₀ d₀ : List Float} {p₀ : List ℕ} {start allowance : ℕ} (f : Walkable b (length v₀) start) where
+  module _ {v d : List Float} {p : List ℕ} {i r : ℕ} (s : SoFar b v₀ d₀ p₀ start allowance v d p i r) where
     pub ends : length (b .lights) ≤ i
-        → Reports (walk (bakeOf b) (voxelCount b - progress) progress allowance v₀) (record { progress = i; rays = r }) v d₀ d p₀ p
+        → Reports (walk (bakeOf b) (voxelCount b - start) start allowance v₀) (record { next = i; rays = r }) v d₀ d p₀ p
     ends h = reports (so-far-end (bakeOf b) i r allowance (voxelCount b) v (s .goes) (omega (arith, f .lights))) (s .hits)
 
     -- voxel i may be taken
@@ -112,10 +112,10 @@ module _ {b : BakeInput} {v₀ d₀ : List Float} {p₀ : List ℕ} {progress al
       is-active = sym (says (voxelCount b) inside)
 
       pub stops : x ≡ true → allowance - r < bakeCost b
-          → Reports (walk (bakeOf b) (voxelCount b - progress) progress allowance v₀) (record { progress = i; rays = r }) v d₀ d p₀ p
+          → Reports (walk (bakeOf b) (voxelCount b - start) start allowance v₀) (record { next = i; rays = r }) v d₀ d p₀ p
       stops t g = reports (so-far-stop (bakeOf b) i r allowance (voxelCount b) v (s .goes) inside (is-active ∙ t) g) (s .hits)
 
-      pub passes : {t : ℕ} → x ≡ false → Found b (i + 1) t → SoFar b v₀ d₀ p₀ progress allowance v d p t r
+      pub passes : {t : ℕ} → x ≡ false → Found b (i + 1) t → SoFar b v₀ d₀ p₀ start allowance v d p t r
       passes z e =
           let l : i + 1 ≤ voxelCount b = omega (arith, inside) in
           record {
@@ -133,7 +133,7 @@ module _ {b : BakeInput} {v₀ d₀ : List Float} {p₀ : List ℕ} {progress al
       pub takes : {c : ℕ} {v' d' : List Float} {p' : List ℕ} → x ≡ true → bakeCost b ≤ allowance - r → Taken (gatherInput b) i c v v'
           → length d' ≡ length d
           → length p' ≡ length p
-          → SoFar b v₀ d₀ p₀ progress allowance v' d' p' (i + 1) (r + c)
+          → SoFar b v₀ d₀ p₀ start allowance v' d' p' (i + 1) (r + c)
       takes {c} t g k y z =
           let n : 0 < r + c = omega (arith, k .rays, cost-least (gatherInput b) i) in
           record {

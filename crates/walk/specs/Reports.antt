@@ -24,8 +24,8 @@ pub record Taken (g : GatherInput) (i r : ℕ) (old new : List Float) : Type 0 w
   pub rays : r ≡ costOf g i
   pub volume : new ≡ replaced voxelNumbers i (gatheredOf g i) old
 
--- what a walk from this progress through a volume of this length may count on
-pub record Walkable (b : BakeInput) (volume progress : ℕ) : Type 0 where
+-- what a walk from this voxel on through a volume of this length may count on
+pub record Walkable (b : BakeInput) (volume next : ℕ) : Type 0 where
   pub axes : AxesWithin (b .axes)
   pub scene : Sound (b .scene)
   pub sky : length (b .sky) ≡ skyNumbers
@@ -35,7 +35,7 @@ pub record Walkable (b : BakeInput) (volume progress : ℕ) : Type 0 where
   pub distances : triangleCount b ≤ b .distances
   pub places : triangleCount b ≤ b .places
   pub inside : volume ≡ voxelCount b * voxelNumbers
-  pub within : progress ≤ voxelCount b
+  pub within : next ≤ voxelCount b
 
 -- where no ray is fired, hit scratch is as it was
 pub record Unhit (rays : ℕ) (d d' : List Float) (p p' : List ℕ) : Type 0 where
@@ -44,14 +44,14 @@ pub record Unhit (rays : ℕ) (d d' : List Float) (p p' : List ℕ) : Type 0 whe
 
 -- the code's answer and its volume are those of the walk w
 pub record Reports (w : Walked Float) (r : Reached) (v d d' : List Float) (p p' : List ℕ) : Type 0 where
-  pub progress : r .progress ≡ w .progress
+  pub next : r .next ≡ w .next
   pub rays : r .rays ≡ w .rays
   pub volume : v ≡ w .volume
   pub hits : Unhit (r .rays) d d' p p'
 
--- and its answer and its lists are those of the accepted call c
+-- and its answer and its lists are those of the accepted call c, but for the rays fired before
 pub record Accepts (c : Called Float) (r : Reached) (v s d d' : List Float) (p p' : List ℕ) : Type 0 where
-  pub progress : r .progress ≡ c .stage .progress
+  pub next : r .next ≡ c .stage .progress .next
   pub rays : r .rays ≡ c .rays
   pub volume : v ≡ c .stage .volume
   pub scratch : s ≡ c .stage .scratch

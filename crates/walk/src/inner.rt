@@ -1,4 +1,4 @@
-// The walk of a call that is not refused, from its progress on.
+// The walk of a call that is not refused, from its next voxel on.
 ghost use mathlib.Core.Path.{_≡_};
 ghost use Prim.Native.Nat.{_-_};
 ghost use lib.ListN.{length};
@@ -16,7 +16,7 @@ use grid::Corners;
 use limits::Ambient;
 use limits::Light;
 
-// Goes through the voxels from progress on, in order, while the allowance lasts; from an inactive one to the next active one.
+// Goes through the voxels from next on, in order, while the allowance lasts; from an inactive one to the next active one.
 pub fn walk(
     axes: Axes,
     corners: Corners,
@@ -34,32 +34,32 @@ pub fn walk(
     volume: &mut [f32],
     distances: &mut [f32],
     places: &mut [usize],
-    progress: usize,
+    next: usize,
     allowance: u64,
 ) -> Reached
     requires { ⌜ Walkable
         (inputOf axes corners (sceneOf (now points) (now uses) (now kinds) (now numbers)) light ambient (now sky) (now lamps) (now active) (now lights)
         (length (now distances)) (length (now places)))
-        (length (now volume)) progress ⌝ }
+        (length (now volume)) next ⌝ }
     requires { ⌜ now table ≡ directions ⌝ }
     ensures { λ r. ⌜ Reports
         (spread.walk
         (bakeOf (inputOf axes corners (sceneOf (now (points .entry)) (now (uses .entry)) (now (kinds .entry)) (now (numbers .entry)))
         light ambient (now (sky .entry)) (now (lamps .entry)) (now (active .entry)) (now (lights .entry))
         (length (now (distances .entry))) (length (now (places .entry)))))
-        (voxels axes - progress) progress allowance (now (volume .entry)))
+        (voxels axes - next) next allowance (now (volume .entry)))
         r (now (volume .exit)) (now (distances .entry)) (now (distances .exit)) (now (places .entry)) (now (places .exit)) ⌝ }
 {
     let n = lights.len();
     let cost = intake::inner::voxel_cost(lamps);
-    let mut i = progress;
+    let mut i = next;
     let mut rays: u64 = 0;
     while i < n {
         let at = i;
         i += 1;
         if words::inner::is_marked(active, at) {
             if allowance - rays < cost {
-                return Reached { progress: at, rays };
+                return Reached { next: at, rays };
             }
             rays += take(
                 axes,
@@ -83,7 +83,7 @@ pub fn walk(
             i = words::inner::next_marked(active, n, i);
         }
     }
-    Reached { progress: i, rays }
+    Reached { next: i, rays }
 }
 
 // Gathers one voxel into its place of the volume, and answers its rays.

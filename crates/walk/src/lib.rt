@@ -3,6 +3,6 @@ pub mod inner;
 
 // The next voxel's index, and the rays that were fired on the way to it.
 pub struct Reached {
-    pub progress: usize,
+    pub next: usize,
     pub rays: u64,
 }
