@@ -217,7 +217,7 @@ fn resized(call: &mut Call, which: usize, by: i64) -> Option<&'static str> {
 
 fn grow(l: &mut Lists, triangles: usize) {
     while l.uses.len() < triangles {
-        let k = l.uses.len() % 2;
+        let k = l.uses.len() % l.uses.len().min(2);
         let p = l.points[9 * k..9 * k + 9].to_vec();
         l.points.extend(p);
         l.uses.push(l.uses[k]);
@@ -410,8 +410,10 @@ pub fn changes(call: &Call, few: bool) -> Vec<Change> {
         }
         out.push(change("no material at all", Some(6), |call| {
             let l = lists_of(call).expect("lists");
+            // lengths that another change made not to fit still do not
+            let misfit = l.numbers.len() != 7 * l.kinds.len();
             l.kinds.clear();
-            l.numbers.clear();
+            l.numbers = vec![0.5; misfit as usize];
         }));
         out.push(change("a use past the list, of an absent triangle", Some(6), |call| {
             let l = lists_of(call).expect("lists");
@@ -625,12 +627,13 @@ fn lamp_changes(out: &mut Vec<Change>) {
     lamps("a bad one and a bad sky", Some(7), |b| {
         allowed(b, 2, 0);
         b.lamps[0] = f32::NAN;
-        b.sky[1727] = f32::NAN;
+        // another change may have shortened the list
+        b.sky.get_mut(1727).into_iter().for_each(|x| *x = f32::NAN);
     });
     lamps("a bad one and a bad material", Some(6), |b| {
         allowed(b, 2, 0);
         b.lamps[0] = f32::NAN;
-        b.lists.kinds[0] = 2;
+        b.lists.kinds.first_mut().into_iter().for_each(|kind| *kind = 2);
     });
     lamps("a bad one and too much progress", Some(19), |b| {
         allowed(b, 2, 0);
@@ -744,7 +747,7 @@ fn applied(base: &Call, changes: &[&Change]) -> Bad {
 /// Every single change of a base; for every two numbers that it can be refused with one call that earns both, of which the one is given
 /// whose row comes first: 19 stands after 7, else the lower; `several` random sets of two to four; and the changes of a bake's record.
 pub fn of(c: &mut Chance, base: &Call, few: bool, several: usize) -> Vec<Bad> {
-    assert!(table::refusal(base) == 0, "a base is good: {}", table::refusal(base));
+    meant(table::refusal(base), 0, "a base");
     let mut all = changes(base, few);
     if few && matches!(base, Call::Bake(b) if !b.lamps.is_empty()) {
         // beside what concerns the lamps, a fault of each row that they stand among
