@@ -1,6 +1,6 @@
 //! Calls that break each accepted number in turn, by the least step and in both directions, several at once, lengths one off either
-//! way, of masks in words, 4,097 triangles, 257 materials, nine lamps, unused bits, NaN and infinities; and beside each the accepted number
-//! next to it.
+//! way, of masks in words, 4,097 triangles, 257 materials, nine lamps, unused bits, a bake's record, NaN and infinities; and beside each the
+//! accepted number next to it.
 use crate::calls::{Bake, Call, Grid, Lists, Progress, Ray, Scratch};
 use crate::chance::Chance;
 use crate::progress_places;

@@ -168,15 +168,15 @@ fn handed_on(bake: &Bake, allowances: &[u64]) -> Item {
 
 /// A record that breaks the rule or keeps it beside a fault of every other row, of which the one whose row comes first is given.
 fn beside(out: &mut Vec<Item>) {
+    let good = desk([13, 5, 1], in_turn(65, 0), 1);
     let n = 65;
-    let good = desk([13, 5, 1], (0..n).map(|i| (i % 2 == 0) as u8).collect(), 1);
-    let n = n as u64;
     let cost = table::cost(&good.lamps);
     let mut both = |bake: &Bake, allowance: u64, wrong: u32, right: u32, what: &str| {
         let mut calls = Vec::new();
         for next in [0, 1, 33, 64, n] {
             let (least, most) = least_and_most(&good, next);
-            let mut rays = vec![least, most, most + 1, u64::MAX, most + cost, (least + 64).max(most + 1)];
+            // the last would fit one voxel more, as an unused bit that is counted makes it
+            let mut rays = vec![least, most, most + 1, u64::MAX, most + cost];
             rays.extend(least.checked_sub(1));
             rays.sort();
             rays.dedup();
@@ -204,7 +204,11 @@ fn beside(out: &mut Vec<Item>) {
     both(&filled, cost - 1, 9, 10, "every unused bit and too small an allowance");
     both(&changed(&|bake| bake.light[64] = f32::NAN), cost, 9, 13, "a bad light");
     both(&changed(&|bake| bake.lamps[2] = f32::NAN), cost, 19, 19, "a bad lamp");
-    both(&changed(&|bake| (bake.lamps[5] = 1.0e9, set_bit(&mut bake.active, 65)).1), 0, 19, 19, "a bad lamp, a bad mask and no allowance");
+    let bad_lamp_and_mask = changed(&|bake| {
+        bake.lamps[5] = 1.0e9;
+        set_bit(&mut bake.active, 65);
+    });
+    both(&bad_lamp_and_mask, 0, 19, 19, "a bad lamp, a bad mask and no allowance");
     both(&changed(&|bake| lamps_to(&mut bake.lamps, 9)), u64::MAX, 19, 19, "nine lamps");
     both(&changed(&|bake| bake.sky[1] = f32::INFINITY), cost, 7, 7, "a bad sky");
     both(&changed(&|bake| bake.lists.kinds[0] = 2), cost, 6, 6, "a bad material");
@@ -222,6 +226,7 @@ fn beside(out: &mut Vec<Item>) {
     out.push(asked(bad_volume, calls.map(|(next, rays, number)| (Progress { next, rays }, cost, number)).to_vec(), "a bad coefficient"));
 }
 
+/// Every other voxel, from the first or the second on.
 fn in_turn(n: usize, first: usize) -> Vec<u8> {
     (0..n).map(|i| (i % 2 == first) as u8).collect()
 }
@@ -311,10 +316,8 @@ pub fn seeded(module: &str, seed: u64) -> Vec<Item> {
         mask[c.below(n)] = 1;
     }
     let lamps = c.below(9);
-    let cost = 384 + 64 * lamps as u64;
-    let small = c.one_in(2);
-    let bake = if small { bright(vec![1; 4]) } else { desk(axes, mask, lamps) };
-    let cost = if small { 896 } else { cost };
+    let bake = if c.one_in(2) { bright(random(c, 4, 2)) } else { desk(axes, mask, lamps) };
+    let cost = table::cost(&bake.lamps);
     let allowances: Vec<u64> = (0..c.from(1, 4)).map(|_| cost + c.below(1500) as u64).chain([u64::MAX, cost]).collect();
     let next = c.below(voxels(&bake.grid) + 1) as u64;
     let (least, most) = least_and_most(&bake, next);
