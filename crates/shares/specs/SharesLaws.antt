@@ -121,7 +121,7 @@ module _ {A : Type 0} (b : Bake A) where
     length-unblurred share = length-laid (b .size) (λ j. holding (share .has j) j) (λ j. length-holding (share .has j) j) (b .count) 0
 
     -- the voxels of two shares
-    abbrev both : Share A → Share A → Share A
+    abbrev pub both : Share A → Share A → Share A
     both s t = record { has = λ i. s .has i || t .has i; refusal = t .refusal }
 
     -- two joined are the bake over the voxels of both
@@ -140,7 +140,7 @@ module _ {A : Type 0} (b : Bake A) where
             ∙ go (s .has i) (t .has i) i
 
     -- a bake over the active voxels is the bake
-    same-voxels : (s : Share A) → ((i : ℕ) → i < b .count → s .has i ≡ b .active i) → unblurred (bakeBy b s) ≡ unblurred b
+    pub same-voxels : (s : Share A) → ((i : ℕ) → i < b .count → s .has i ≡ b .active i) → unblurred (bakeBy b s) ≡ unblurred b
     unfolding unblurred
     same-voxels s e = laid-same _ _ (b .count) 0 (λ i p q. ap (λ (x : Bool). holding x i) (e i (omega arith)))
 
