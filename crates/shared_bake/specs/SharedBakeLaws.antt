@@ -3,9 +3,9 @@
 use mathlib.Core.Path.{_≡_, refl, sym, ap, ap₂, _∙_}
 use mathlib.Core.Bool.{Bool, true, false, cond, not, _||_}
 use mathlib.Core.List.{List, [], _∷_, map}
-use Prim.Native.Nat.{ℕ, _+_, _*_}
+use Prim.Native.Nat.{ℕ, zero, suc, _+_, _-_, _*_, _/_, _≤_}
 use native.Mathlib.Omega.{arith}
-use native.Mathlib.Nat.{add-zero}
+use native.Mathlib.Nat.{add-zero, suc-mul, le-div-iff-mul-le}
 use lib.ListN.{length}
 use lib.Ieee.{Float}
 use borrow.Author.Tests.{eq-eqb}
@@ -17,21 +17,21 @@ use Rattle.limits.specs.LimitsLaws.{axes-row, either, any-of-three}
 use Rattle.marks.specs.Marks.{isMarked}
 use Rattle.words.specs.Words.{entriesOf, unusedSet, Tidy}
 use Rattle.spread.specs.declared.Progress.{Progress}
-use Rattle.spread.specs.Spread.{progressOf, atZero, Stage, stage, Bake, unblurred, unbroken, costs, sum, EachAtLeast, NoneRefused}
-use Rattle.spread.specs.Demand.{Sized}
+use Rattle.spread.specs.Spread.{progressOf, atZero, Stage, stage, Bake, unblurred, unbroken, costs, run, sum, EachAtLeast, NoneRefused}
+use Rattle.spread.specs.Demand.{Sized, roundedUp, allActive}
 use Rattle.shares.specs.Shares.{Share, bakeBy, holders, Parted, joinedBy, unblurredIn, joinedAll, addedOver}
 use Rattle.shares.specs.SharesLaws.{unblurred-in, length-unblurred, length-joined, both, two-joined, same-voxels, same-unbroken, all-joined, rays-add-up}
 use Rattle.join.specs.Join.{Joined}
 use Rattle.join.specs.JoinLaws.{join-accepted}
 use Rattle.ends.specs.Ends.{meanOver}
 use Rattle.blurs.specs.Blurs.{wrongBlurLists, coefficientBlurRows, coefficientBlurRefusal}
-use Rattle.intake.specs.Intake.{BakeInput, voxelNumbers, voxelCount, bakeCost, wrongBakeLists, badContents, bakeRefusal}
+use Rattle.intake.specs.Intake.{BakeInput, inputOf, voxelNumbers, voxelCount, bakeCost, wrongBakeLists, badContents, bakeRefusal}
 use Rattle.intake.specs.IntakeLaws.{BakePassed, progress-row, good-at-zero, fits, none-refused}
-use Rattle.demand.specs.Bake.{bakeOf}
+use Rattle.demand.specs.Bake.{bakeOf, bakeCall}
 use Rattle.demand.specs.Calls.{answers-refusal}
-use Rattle.demand.specs.Demanded.{bake-fair}
+use Rattle.demand.specs.Demanded.{bake-fair, bake-demand}
 use Rattle.bake.specs.Baked.{Baked}
-use Rattle.bake.specs.GoesOn.{accepted-unblurred}
+use Rattle.bake.specs.GoesOn.{accepted-unblurred, never-refused}
 use Rattle.bake.specs.Results.{Result, handedOn, lending, Successive, allowancesOf, refusalsOf, reportedBy, raysBelow, DemandOfResults}
 use Rattle.bake.specs.ResultsLaws.{demand-of-results}
 use Rattle.shared_bake.specs.SharedBake.{sharing, ShareBake, callsOf, endOf, BakedToEnd, EachBaked, hasVoxel, asShare, unblurredOf, JoinedShare, JoinedOnto, lastJoined, sharesOf, Shared, allJoined, allKnown, someActive, EndsUnbroken, DemandOfShares, AsOne, Halves, Brought, by-calls, by-join}
@@ -78,6 +78,62 @@ share-accepted b mask s a t z e =
       allowance = p .allowance;
       contents = any-of-three _ _ _ .1 (t .clean, c .1, c .2);
     })
+
+-- ---- so such bakes there are: whatever mask stands in place of its own, an input that is accepted at progress zero is baked to the end by one call
+
+all-at-once : (n : ℕ) → roundedUp n (suc n) ≤ 1
+all-at-once n = go (roundedUp n (suc n)) refl
+  where
+    go : (q : ℕ) → roundedUp n (suc n) ≡ q → q ≤ 1
+    go zero e = omega arith
+    go (suc zero) e = omega arith
+    go (suc (suc q)) e = absurd (omega (arith, le-div-iff-mul-le {k = suc n} {x = 2} {y = n + (suc n - 1)} (omega arith) .0 (omega (arith, e))))
+
+pub can-be-baked : (b : BakeInput) (mask : List ℕ) (s : Stage Float) (d : List Float) (p : List ℕ) (a : ℕ) → Tidy mask (voxelCount b) → s .progress ≡ atZero
+    → length d ≡ b .distances
+    → length p ≡ b .places
+    → bakeRefusal b s a ≡ 0
+    → (x : ShareBake) × (x .mask ≡ mask) × BakedToEnd b x
+unfolding run
+can-be-baked b mask s d p a t z k l e =
+    let i = lending (sharing b mask) d p in
+    let same : i ≡ sharing b mask = ap₂ (inputOf (b .axes) (b .corners) (b .scene) (b .light) (b .ambient) (b .sky) (b .lamps) mask (b .lights)) k l in
+    let accepted : bakeRefusal i s a ≡ 0 = ap (λ (j : BakeInput). bakeRefusal j s a) same ∙ share-accepted b mask s a t z e in
+    let n = allActive (bakeOf i) in
+    let m = suc n * bakeCost b in
+    let enough : bakeCost b ≤ m = omega (arith, suc-mul n (bakeCost b)) in
+    let unrefused = never-refused i s a accepted (m ∷ []) (enough, tt) in
+    let c = bakeCall i s m in
+    let first : Result
+    = record {
+      allowance = m;
+      answer = record { refusal = c .refusal; progress = c .stage .progress; rays = c .rays };
+      volume = c .stage .volume;
+      scratch = c .stage .scratch;
+      distances = d;
+      places = p;
+    } in (
+      record { mask = mask; begun = s; distances = d; places = p; first = first; rest = [] },
+      refl,
+      record {
+        calls = (
+          record {
+            refusal = refl;
+            progress = refl;
+            rays = refl;
+            volume = refl;
+            scratch = refl;
+            hits = record { distances = λ q. refl; places = λ q. refl };
+            distances-long = refl;
+            places-long = refl;
+          },
+          tt,
+        );
+        from-zero = z;
+        unrefused = (unrefused .0, tt);
+        to-end = bake-demand i s a accepted .calls (suc n) (m ∷ []) s (omega arith) (omega arith, tt) (omega arith) (all-at-once n) z unrefused;
+      },
+    )
 
 -- ---- the numbers of a mask's voxels
 
