@@ -20,7 +20,7 @@ use Rattle.spread.specs.declared.Progress.{Progress}
 use Rattle.spread.specs.Spread.{progressOf, atZero, Stage, stage, Bake, unblurred, unbroken, costs, run, sum, EachAtLeast, NoneRefused}
 use Rattle.spread.specs.Demand.{Sized, roundedUp, allActive}
 use Rattle.shares.specs.Shares.{Share, bakeBy, holders, Parted, joinedBy, unblurredIn, joinedAll, addedOver}
-use Rattle.shares.specs.SharesLaws.{unblurred-in, length-unblurred, length-joined, both, two-joined, same-voxels, same-unbroken, all-joined, rays-add-up}
+use Rattle.shares.specs.SharesLaws.{unblurred-in, length-unblurred, length-joined, eitherOf, two-joined, same-voxels, same-unbroken, all-joined, rays-add-up}
 use Rattle.join.specs.Join.{Joined}
 use Rattle.join.specs.JoinLaws.{join-accepted}
 use Rattle.ends.specs.Ends.{meanOver}
@@ -373,7 +373,7 @@ module _ (b : BakeInput) where
         are =
             joins-two x y j .1
             ∙ two-joined (bakeOf b) z (maskShare b share) (maskShare b onto)
-            ∙ same-voxels (over b mask) (record { ambient = z .ambient; gathered = z .gathered }) (both (bakeOf b) z (maskShare b share) (maskShare b onto)) (λ i l. either-has (hasVoxel b onto i) (hasVoxel b share i) (hasVoxel b mask i) (halves .parted i l));
+            ∙ same-voxels (over b mask) (record { ambient = z .ambient; gathered = z .gathered }) (eitherOf (bakeOf b) z (maskShare b share) (maskShare b onto)) (λ i l. either-has (hasVoxel b onto i) (hasVoxel b share i) (hasVoxel b mask i) (halves .parted i l));
         fired = total (x .fired) (y .fired) (rays-add-up (over b mask) (maskShare b onto ∷ maskShare b share ∷ []) (λ i l. shared i (halves .parted i l)));
       }
     where

@@ -121,11 +121,11 @@ module _ {A : Type 0} (b : Bake A) where
     length-unblurred share = length-laid (b .size) (λ j. holding (share .has j) j) (λ j. length-holding (share .has j) j) (b .count) 0
 
     -- the voxels of two shares
-    abbrev pub both : Share A → Share A → Share A
-    both s t = record { has = λ i. s .has i || t .has i; refusal = t .refusal }
+    abbrev pub eitherOf : Share A → Share A → Share A
+    eitherOf s t = record { has = λ i. s .has i || t .has i; refusal = t .refusal }
 
     -- two joined are the bake over the voxels of both
-    pub two-joined : (s t : Share A) → joinedBy (b .size) (b .count) (s .has) (unblurred (bakeBy b s)) (unblurred (bakeBy b t)) ≡ unblurred (bakeBy b (both s t))
+    pub two-joined : (s t : Share A) → joinedBy (b .size) (b .count) (s .has) (unblurred (bakeBy b s)) (unblurred (bakeBy b t)) ≡ unblurred (bakeBy b (eitherOf s t))
     unfolding joinedBy unblurred
     two-joined s t = laid-same _ _ (b .count) 0 (λ i p q. one i (omega arith))
       where
@@ -172,7 +172,7 @@ module _ {A : Type 0} (b : Bake A) where
         go false true e = absurd (omega arith)
     all-joined first (s ∷ rest) parted =
         ap (joinedAll b rest) (two-joined s first)
-        ∙ all-joined (both s first) rest (λ i h. go (s .has i) (first .has i) (b .active i) (holders rest i) (parted i h))
+        ∙ all-joined (eitherOf s first) rest (λ i h. go (s .has i) (first .has i) (b .active i) (holders rest i) (parted i h))
       where
         go : (x y a : Bool) (n : ℕ) → cond y 1 0 + (cond x 1 0 + n) ≡ cond a 1 0 → cond (x || y) 1 0 + n ≡ cond a 1 0
         go true true true n e = absurd (omega arith)
