@@ -91,6 +91,11 @@ abbrev pub EachCall : BakeInput → Progress → List Result → Type 0
 EachCall b p [] = Unit
 EachCall b p (c ∷ rest) = OneCall b p c × EachCall b (c .answer .progress) rest
 
+-- after each call the rays so far are the sum of what the calls reported, of which so many were reported before
+abbrev pub EachKnows : ℕ → List Result → Type 0
+EachKnows before [] = Unit
+EachKnows before (c ∷ rest) = (c .answer .progress .rays ≡ before + c .answer .rays) × EachKnows (before + c .answer .rays) rest
+
 -- of calls from the stage s on, of which there is at least one
 module _ (b : BakeInput) (s : Stage Float) (first : Result) (rest : List Result) where
   -- the calls, and the stage that the last of them left
@@ -111,7 +116,8 @@ module _ (b : BakeInput) (s : Stage Float) (first : Result) (rest : List Result)
     pub calls : EachCall b (s .progress) all
     -- "the reported counts add up to the rays the definition fires"
     pub sums : last .progress .next ≡ voxelCount b → sum (reportedBy all) ≡ raysBelow b (voxelCount b)
-    -- "In demand 3, the counts' sum is also the record's last number": after each call, and it is the rays that the definition fires below next
+    -- "In demand 3, the counts' sum is also the record's last number": after each call, and at the last; and it is the rays that the definition fires below next
+    pub knows : EachKnows 0 all
     pub known : (last .progress .rays ≡ sum (reportedBy all)) × (last .progress .rays ≡ raysBelow b (last .progress .next))
     -- which are for voxel i `raysOf`: 64, and the extra rays of its hits
     pub fires : (i : ℕ) → costOf (gatherInput b) i ≡ raysOf (gatherInput b) i
