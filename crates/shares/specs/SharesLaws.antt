@@ -9,7 +9,6 @@ use native.Mathlib.Nat.{add-mul, one-mul, zero-mul}
 use lib.ListN.{length}
 use Rattle.lists.specs.Any.{any-same}
 use Rattle.lists.specs.Laid.{voxelPart, laid-same, length-laid, part-of-laid}
-use Rattle.spread.specs.declared.Progress.{Progress}
 use Rattle.spread.specs.Spread.{progressOf, stage, Bake, anyActive, blurred, unblurred, unbroken, actives, costs, sum}
 use Rattle.spread.specs.Demand.{Sized}
 use Rattle.shares.specs.LaidBelow.{voxel-long, part-below, length-below}
@@ -94,14 +93,11 @@ module _ {A : Type 0} (b : Bake A) where
   -- a finished bake has its unblurred volume where it is looked for
   pub unblurred-in : (scratch : List A) → unblurredIn b (unbroken b scratch) ≡ unblurred b
   unfolding unbroken
-  unblurred-in scratch = go (anyActive (b .active) (b .count)) (progressOf (b .count) (costs b (b .count) 0))
+  unblurred-in scratch = go (anyActive (b .active) (b .count)) refl
     where
-      go : (x : Bool) (p : Progress)
-          → cond x (cond x (stage p (b .mean (unblurred b)) (unblurred b)) (stage p (unblurred b) scratch) .scratch)
-          (cond x (stage p (b .mean (unblurred b)) (unblurred b)) (stage p (unblurred b) scratch) .volume)
-          ≡ unblurred b
-      go true p = refl
-      go false p = refl
+      go : (x : Bool) → anyActive (b .active) (b .count) ≡ x → unblurredIn b (unbroken b scratch) ≡ unblurred b
+      go true e = rw e refl
+      go false e = rw e refl
 
   module _ (sized : Sized b) where
     -- what voxel i holds, unblurred, where it is had and where it is not
