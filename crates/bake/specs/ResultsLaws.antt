@@ -14,7 +14,7 @@ use Rattle.spread.specs.Demand.{Demand}
 use Rattle.spread.specs.Walks.{call-adds, actives-split, costs-split, costs-least, costs-most}
 use Rattle.gather.specs.CostLaws.{cost-counted}
 use Rattle.intake.specs.Intake.{BakeInput, inputOf, voxelCount, bakeCost, bakeRefusal}
-use Rattle.intake.specs.IntakeLaws.{progress-row, fits, none-refused}
+use Rattle.intake.specs.IntakeLaws.{zero-at-zero, fits, none-refused}
 use Rattle.demand.specs.Bake.{gatherInput, bakeOf, bakeCall}
 use Rattle.demand.specs.Calls.{answers-refusal}
 use Rattle.demand.specs.Demanded.{bake-fair, bake-demand}
@@ -98,7 +98,7 @@ module _ (b i : BakeInput) where
                 (demand .finishes (c .allowance) s accepted);
             reports = omega (arith, fired, ap (λ (y : Called Float). y .rays) e, rw (← reached) at (demand .reports (c .allowance) s accepted));
             adds = ap (λ (y : Called Float). y .stage .progress .rays) e ∙ call-adds (bakeOf i) (c .allowance) s ∙ ap (λ (n : ℕ). s .progress .rays + n) (sym (ap (λ (y : Called Float). y .rays) e));
-            accepted = progress-row i (c .answer .progress) .1 (rw left (call-leaves i s (c .allowance) (sym (answers-refusal i s (c .allowance)) ∙ accepted)));
+            good = rw left (call-leaves i s (c .allowance) (sym (answers-refusal i s (c .allowance)) ∙ accepted));
           }
 
     -- ---- each call
