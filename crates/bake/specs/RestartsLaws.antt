@@ -12,6 +12,7 @@ use Rattle.names.specs.Refusals.{Row, firstOf}
 use Rattle.spread.specs.declared.Progress.{Progress}
 use Rattle.spread.specs.Spread.{atZero, Stage, stage, Called, filled, unblurred, unbroken, costs, stands, sum}
 use Rattle.spread.specs.Walks.{call-adds}
+use Rattle.spread.specs.Demand.{Sized}
 use Rattle.spread.specs.Carried.{Carried, short, over, ended-at, carried-from-zero, carried-on}
 use Rattle.ends.specs.EndsLaws.{length-ambient}
 use Rattle.gather.specs.GatherLaws.{length-gathered}
@@ -141,7 +142,7 @@ module _ (b : BakeInput) where
   pub demand-of-restarts : (v : List Float) (results : List Result) → Restarted b atZero v results → DemandOfRestarts b v results
   demand-of-restarts v results h =
       let g : GoodProgress b atZero = good-at-zero b atZero refl in
-      let sized = record { ambient = λ i. length-ambient (b .ambient) _; gathered = λ i. length-gathered (gatherInput b) i } in
+      let sized : Sized (bakeOf b) = record { ambient = λ i. length-ambient (b .ambient) _; gathered = λ i. length-gathered (gatherInput b) i } in
       let carried : 0 < voxelCount b → Carried (bakeOf b) (recordAfter atZero results) (volumeAfter v results)
       = λ some. carried-after atZero v results h (carried-from-zero (bakeOf b) sized some v) in
       record {

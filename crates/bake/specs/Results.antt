@@ -118,7 +118,8 @@ module _ (b : BakeInput) (s : Stage Float) (first : Result) (rest : List Result)
     pub sums : last .progress .next ≡ voxelCount b → sum (reportedBy all) ≡ raysBelow b (voxelCount b)
     -- "In demand 3, the counts' sum is also the record's last number": after each call, and at the last; and it is the rays that the definition fires below next
     pub knows : EachKnows 0 all
-    pub known : (last .progress .rays ≡ sum (reportedBy all)) × (last .progress .rays ≡ raysBelow b (last .progress .next))
+    pub sum-known : last .progress .rays ≡ sum (reportedBy all)
+    pub rays-known : last .progress .rays ≡ raysBelow b (last .progress .next)
     -- which are for voxel i `raysOf`: 64, and the extra rays of its hits
     pub fires : (i : ℕ) → costOf (gatherInput b) i ≡ raysOf (gatherInput b) i
     -- "64 to 384 for each active voxel"

@@ -122,14 +122,14 @@ each-knows b p n (c ∷ rest) e h =
 
 -- ---- all of it
 
--- calls begun at progress zero, whose allowances hold a voxel's cost and of which the first is accepted
+-- calls begun at next 0, whose allowances hold a voxel's cost and of which the first is accepted, so that it was handed no rays
 pub demand-of-results : (b : BakeInput) (s : Stage Float) (d : List Float) (p : List ℕ) (first : Result) (rest : List Result)
     → Successive b s d p (first ∷ rest)
-    → s .progress ≡ atZero
+    → s .progress .next ≡ 0
     → EachAtLeast (bakeCost b) (allowancesOf (first ∷ rest))
     → first .answer .refusal ≡ 0
     → DemandOfResults (lending b d p) s first rest
-demand-of-results b s d p first rest h z m r =
+demand-of-results b s d p first rest h o m r =
     let i = lending b d p in
     let results = first ∷ rest in
     let l = allowancesOf results in
@@ -139,10 +139,12 @@ demand-of-results b s d p first rest h z m r =
     let begun : bakeCall i s (first .allowance) .refusal ≡ 0 = sym (h .0 .refusal) ∙ r in
     let accepts : bakeRefusal i s (first .allowance) ≡ 0 = sym (answers-refusal i s (first .allowance)) ∙ begun in
     let demand = bake-demand i s (first .allowance) accepts in
-    let fair = bake-fair i (fits i s (first .allowance) (none-refused i s (first .allowance) .0 accepts) .axes) in
+    let fitting = fits i s (first .allowance) (none-refused i s (first .allowance) .0 accepts) in
+    let fair = bake-fair i (fitting .axes) in
+    let z : s .progress ≡ atZero = zero-at-zero i (s .progress) (fitting .progress) o in
     let total : leftBy s results .progress .rays ≡ run (bakeOf i) l s .stage .progress .rays = ap (λ (t : Stage Float). t .progress .rays) left in
     let known : leftBy s results .progress .rays ≡ costs (bakeOf i) (leftBy s results .progress .next) 0
-    = total ∙ demand .known l s z ∙ ap (λ (n : ℕ). costs (bakeOf i) n 0) (sym end) in
+    = total ∙ demand .rays-known l s z ∙ ap (λ (n : ℕ). costs (bakeOf i) n 0) (sym end) in
     let unrefused = never-refused i s (first .allowance) accepts l m in
     let none : NoneRefused (refusalsOf results) = subst NoneRefused (sym (ap (λ (t : Ran Float). t .refusals) ran)) unrefused in
     let every = each-call b i demand s d p results refl h none .0 in
@@ -160,7 +162,8 @@ demand-of-results b s d p first rest h z m r =
       calls = every;
       knows = each-knows i (s .progress) 0 results (ap (λ (q : Progress). q .rays) z) every;
       sums = λ q. ap (λ (t : Ran Float). sum (t .rays)) ran ∙ demand .sums l s z (sym end ∙ q);
-      known = (total ∙ demand .last l s z ∙ sym (ap (λ (t : Ran Float). sum (t .rays)) ran), known);
+      sum-known = total ∙ demand .sum-known l s z ∙ sym (ap (λ (t : Ran Float). sum (t .rays)) ran);
+      rays-known = known;
       between = rw known (costs-least (bakeOf i) (fair .most) (fair .least) _ 0, costs-most (bakeOf i) (fair .most) (fair .least) _ 0);
       fires = λ j. cost-counted (gatherInput i) j;
       each = demand .each;

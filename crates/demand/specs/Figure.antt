@@ -65,7 +65,7 @@ module _ (lamps : List Float) (accepted : bakeRefusal (threeWith lamps) begun (b
   -- where the reported rays are known, so are the rays so far
   reaches : (l : List ℕ) {next : ℕ} {rays : List ℕ} → run (bakeOf (threeWith lamps)) l begun .stage .progress .next ≡ next → run (bakeOf (threeWith lamps)) l begun .rays ≡ rays
       → run (bakeOf (threeWith lamps)) l begun .stage .progress ≡ progressOf next (sum rays)
-  reaches l e f = ap₂ progressOf e (bake-demand (threeWith lamps) begun _ accepted .last l begun refl ∙ ap sum f)
+  reaches l e f = ap₂ progressOf e (bake-demand (threeWith lamps) begun _ accepted .sum-known l begun refl ∙ ap sum f)
 
 -- ---- the rays, by the costs alone
 

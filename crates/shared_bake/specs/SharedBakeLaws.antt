@@ -184,7 +184,7 @@ module _ (b : BakeInput) where
 
     demanded : DemandOfResults (inputBy s) (s .begun) (s .first) (s .rest)
     demanded =
-        demand-of-results (sharing b (s .mask)) (s .begun) (s .distances) (s .places) (s .first) (s .rest) (h .calls) (h .from-zero)
+        demand-of-results (sharing b (s .mask)) (s .begun) (s .distances) (s .places) (s .first) (s .rest) (h .calls) (ap (λ (q : Progress). q .next) (h .from-zero))
         (allowances-hold (sharing b (s .mask)) (s .begun) (s .distances) (s .places) (callsOf s) (h .calls) (h .unrefused))
         (h .unrefused .0)
 
@@ -198,7 +198,7 @@ module _ (b : BakeInput) where
 
     known : endOf s .progress .rays ≡ costs (over (s .mask)) (voxelCount b) 0
     unfolding costs
-    known = demanded .known .1 ∙ ap (λ (n : ℕ). costs (over (s .mask)) n 0) (h .to-end)
+    known = demanded .rays-known ∙ ap (λ (n : ℕ). costs (over (s .mask)) n 0) (h .to-end)
 
     reported : sum (reportedBy (callsOf s)) ≡ costs (over (s .mask)) (voxelCount b) 0
     unfolding costs

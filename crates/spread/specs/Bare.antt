@@ -1,5 +1,5 @@
--- Progress and rays depend on nothing but which voxels are active, what they cost and the most that a voxel may cost: two bakes that agree in
--- these, and whose calls are not refused, answer the same progress and the same rays, whatever their volumes hold.
+-- The next voxel and a call's rays depend on nothing but which voxels are active, what they cost and the most that a voxel may cost: two bakes that agree in
+-- these, and whose calls are not refused, answer the same next voxel and report the same rays, whatever their volumes hold.
 use mathlib.Core.Path.{_≡_, refl, sym, ap, ap₂, _∙_}
 use mathlib.Core.Bool.{Bool, true, false, cond}
 use mathlib.Core.List.{List, [], _∷_}

@@ -1,4 +1,4 @@
--- What the volume holds as a walk goes: below the progress what was gathered, and ambient from there on.
+-- What the volume holds as a walk goes: below the next voxel what was gathered, and ambient from there on.
 use mathlib.Core.Path.{_≡_, refl, sym, ap, _∙_}
 use mathlib.Core.Bool.{Bool, true, false, cond, _&&_}
 use mathlib.Core.List.{List}

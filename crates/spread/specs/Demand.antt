@@ -87,14 +87,14 @@ module _ {A : Type 0} (b : Bake A) where
     pub goes : (a : ℕ) (s : Stage A) → call b a s .refusal ≡ 0 → s .progress .next < b .count → s .progress .next < call b a s .stage .progress .next
     pub rests : (a : ℕ) (s : Stage A) → s .progress .next ≡ b .count → (call b a s .rays ≡ 0) × (call b a s .stage ≡ s)
     -- "and is zero at zero"
-    pub zero : (a : ℕ) (s : Stage A) → call b a s .refusal ≡ 0 → s .progress .next ≡ 0 → s .progress ≡ atZero
+    pub zero-at-zero : (a : ℕ) (s : Stage A) → call b a s .refusal ≡ 0 → s .progress .next ≡ 0 → s .progress ≡ atZero
     -- an accepted call answers a progress that knows its rays, as it was handed one
     pub knows : (a : ℕ) (s : Stage A) → call b a s .refusal ≡ 0 → KnowsRays b (s .progress) × KnowsRays b (call b a s .stage .progress)
     -- whatever the calls are handed, what they report is added to the rays so far
     pub adds : (l : List ℕ) (s : Stage A) → run b l s .stage .progress .rays ≡ s .progress .rays + sum (run b l s .rays)
     -- "In demand 3, the counts' sum is also the record's last number": after each call of a run, and those are the rays that the definition fires below next
-    pub last : (l : List ℕ) (s : Stage A) → s .progress ≡ atZero → run b l s .stage .progress .rays ≡ sum (run b l s .rays)
-    pub known : (l : List ℕ) (s : Stage A) → s .progress ≡ atZero → run b l s .stage .progress .rays ≡ costs b (run b l s .stage .progress .next) 0
+    pub sum-known : (l : List ℕ) (s : Stage A) → s .progress ≡ atZero → run b l s .stage .progress .rays ≡ sum (run b l s .rays)
+    pub rays-known : (l : List ℕ) (s : Stage A) → s .progress ≡ atZero → run b l s .stage .progress .rays ≡ costs b (run b l s .stage .progress .next) 0
     -- and so at the end it lies between 64 and what a voxel may cost for each active voxel
-    pub total : (l : List ℕ) (s : Stage A) → s .progress ≡ atZero → run b l s .stage .progress .next ≡ b .count
+    pub between : (l : List ℕ) (s : Stage A) → s .progress ≡ atZero → run b l s .stage .progress .next ≡ b .count
         → (allActive * primaryRays ≤ run b l s .stage .progress .rays) × (run b l s .stage .progress .rays ≤ allActive * b .most)

@@ -170,8 +170,8 @@ module _ {A : Type 0} (b : Bake A) (fair : Fair b) where
   run-adds [] s = omega arith
   run-adds (a ∷ l) s = omega (arith, call-adds b a s, run-adds l (call b a s .stage))
 
-  last-is-sum : (l : List ℕ) (s : Stage A) → s .progress ≡ atZero → run b l s .stage .progress .rays ≡ sum (run b l s .rays)
-  last-is-sum l s e = omega (arith, run-adds l s, ap (λ (p : Progress). p .rays) e)
+  sum-known : (l : List ℕ) (s : Stage A) → s .progress ≡ atZero → run b l s .stage .progress .rays ≡ sum (run b l s .rays)
+  sum-known l s e = omega (arith, run-adds l s, ap (λ (p : Progress). p .rays) e)
 
   run-costs : (l : List ℕ) (s : Stage A)
       → sum (run b l s .rays) + costs b (b .count - run b l s .stage .progress .next) (run b l s .stage .progress .next) ≡ costs b (b .count - s .progress .next) (s .progress .next)
@@ -296,8 +296,8 @@ module _ {A : Type 0} (b : Bake A) (fair : Fair b) where
       })
 
   -- a begun bake knows the rays that the definition fires below its next voxel
-  known-rays : (l : List ℕ) (s : Stage A) → s .progress ≡ atZero → run b l s .stage .progress .rays ≡ costs b (run b l s .stage .progress .next) 0
-  known-rays l s e =
+  rays-known : (l : List ℕ) (s : Stage A) → s .progress ≡ atZero → run b l s .stage .progress .rays ≡ costs b (run b l s .stage .progress .next) 0
+  rays-known l s e =
       ⊎-elim (λ h. h .known)
       (λ h.
       let p : run b l s .stage .progress ≡ atEnd = ap (λ (z : Stage A). z .progress) h ∙ unbroken-progress (s .scratch) in
@@ -392,13 +392,13 @@ module _ {A : Type 0} (b : Bake A) (fair : Fair b) where
         one = one-call;
         goes = goes-on;
         rests = rests-done;
-        zero = zero-known;
+        zero-at-zero = zero-known;
         knows = call-knows;
         adds = run-adds;
-        last = last-is-sum;
-        known = known-rays;
-        total = λ l s e f.
-            let t : run b l s .stage .progress .rays ≡ costs b (b .count) 0 = known-rays l s e ∙ ap (λ (n : ℕ). costs b n 0) f in
+        sum-known = sum-known;
+        rays-known = rays-known;
+        between = λ l s e f.
+            let t : run b l s .stage .progress .rays ≡ costs b (b .count) 0 = rays-known l s e ∙ ap (λ (n : ℕ). costs b n 0) f in
             rw t (costs-least b (fair .most) (fair .least) (b .count) 0, costs-most b (fair .most) (fair .least) (b .count) 0);
       }
 
