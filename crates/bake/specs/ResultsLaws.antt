@@ -8,15 +8,17 @@ use native.Mathlib.Omega.{arith}
 use native.Mathlib.Nat.{zero-add, eq-or-lt-of-le}
 use lib.ListN.{length, length-map}
 use lib.Ieee.{Float}
-use Rattle.spread.specs.Spread.{Stage, stage, Called, Ran, then, actives, costs, stands, run, sum, EachAtLeast, NoneRefused}
+use Rattle.spread.specs.declared.Progress.{Progress}
+use Rattle.spread.specs.Spread.{atZero, Stage, stage, Called, Ran, then, actives, costs, stands, run, sum, EachAtLeast, NoneRefused}
 use Rattle.spread.specs.Demand.{Demand}
-use Rattle.spread.specs.Walks.{actives-split, costs-split}
+use Rattle.spread.specs.Walks.{call-adds, actives-split, costs-split, costs-least, costs-most}
 use Rattle.gather.specs.CostLaws.{cost-counted}
 use Rattle.intake.specs.Intake.{BakeInput, inputOf, voxelCount, bakeCost, bakeRefusal}
-use Rattle.intake.specs.IntakeLaws.{fits, none-refused}
+use Rattle.intake.specs.IntakeLaws.{progress-row, fits, none-refused}
 use Rattle.demand.specs.Bake.{gatherInput, bakeOf, bakeCall}
 use Rattle.demand.specs.Calls.{answers-refusal}
-use Rattle.demand.specs.Demanded.{bake-demand}
+use Rattle.demand.specs.Demanded.{bake-fair, bake-demand}
+use Rattle.demand.specs.Lasting.{call-leaves}
 use Rattle.bake.specs.Baked.{Baked}
 use Rattle.bake.specs.Results.{Result, handedOn, lending, Successive, leftBy, allowancesOf, refusalsOf, reportedBy, OneCall, EachCall, DemandOfResults}
 use Rattle.bake.specs.GoesOn.{never-refused}
@@ -33,7 +35,7 @@ called {b} {s} {c} f =
     let q = bakeCall b s (c .allowance) in
     ap (λ (n : ℕ). record { refusal = n; rays = c .answer .rays; stage = handedOn c }) (f .refusal)
     ∙ ap (λ (n : ℕ). record { refusal = q .refusal; rays = n; stage = handedOn c }) (f .rays)
-    ∙ ap (λ (n : ℕ). record { refusal = q .refusal; rays = q .rays; stage = stage n (c .volume) (c .scratch) }) (f .progress)
+    ∙ ap (λ (n : Progress). record { refusal = q .refusal; rays = q .rays; stage = stage n (c .volume) (c .scratch) }) (f .progress)
     ∙ ap (λ (u : List Float). record { refusal = q .refusal; rays = q .rays; stage = stage (q .stage .progress) u (c .scratch) }) (f .volume)
     ∙ ap (λ (u : List Float). record { refusal = q .refusal; rays = q .rays; stage = stage (q .stage .progress) (q .stage .volume) u }) (f .scratch)
 
@@ -63,26 +65,30 @@ module _ (b i : BakeInput) where
       accepted : bakeCall i s (c .allowance) .refusal ≡ 0
       accepted = sym (ap (λ (y : Called Float). y .refusal) e) ∙ z
 
-      reached : c .answer .progress ≡ bakeCall i s (c .allowance) .stage .progress
-      reached = ap (λ (y : Called Float). y .stage .progress) e
+      left : c .answer .progress ≡ bakeCall i s (c .allowance) .stage .progress
+      left = ap (λ (y : Called Float). y .stage .progress) e
+
+      reached : c .answer .progress .next ≡ bakeCall i s (c .allowance) .stage .progress .next
+      reached = ap (λ (y : Called Float). y .stage .progress .next) e
 
       -- an accepted call goes on, or finds the bake finished
-      forward : s .progress ≤ c .answer .progress
+      forward : s .progress .next ≤ c .answer .progress .next
       forward =
           let r : bakeRefusal i s (c .allowance) ≡ 0 = sym (answers-refusal i s (c .allowance)) ∙ accepted in
           ⊎-elim
-          (λ h. omega (arith, reached, ap (λ (t : Stage Float). t .progress) (demand .rests (c .allowance) s h .1)))
+          (λ h. omega (arith, reached, ap (λ (t : Stage Float). t .progress .next) (demand .rests (c .allowance) s h .1)))
           (λ h. omega (arith, reached, demand .goes (c .allowance) s accepted h))
-          (eq-or-lt-of-le (fits i s (c .allowance) (none-refused i s (c .allowance) .0 r) .progress))
+          (eq-or-lt-of-le (fits i s (c .allowance) (none-refused i s (c .allowance) .0 r) .progress .within))
 
       one-call : OneCall i (s .progress) c
       one-call =
-          let k = c .answer .progress - s .progress in
-          let there : s .progress + k ≡ c .answer .progress = omega (arith, forward) in
-          let taken : actives (bakeOf i) (c .answer .progress) 0 ≡ actives (bakeOf i) (s .progress) 0 + actives (bakeOf i) k (s .progress)
-          = rw (there, zero-add) at (actives-split (bakeOf i) (s .progress) k 0) in
-          let fired : costs (bakeOf i) (c .answer .progress) 0 ≡ costs (bakeOf i) (s .progress) 0 + costs (bakeOf i) k (s .progress)
-          = rw (there, zero-add) at (costs-split (bakeOf i) (s .progress) k 0) in
+          let from = s .progress .next in
+          let k = c .answer .progress .next - from in
+          let there : from + k ≡ c .answer .progress .next = omega (arith, forward) in
+          let taken : actives (bakeOf i) (c .answer .progress .next) 0 ≡ actives (bakeOf i) from 0 + actives (bakeOf i) k from
+          = rw (there, zero-add) at (actives-split (bakeOf i) from k 0) in
+          let fired : costs (bakeOf i) (c .answer .progress .next) 0 ≡ costs (bakeOf i) from 0 + costs (bakeOf i) k from
+          = rw (there, zero-add) at (costs-split (bakeOf i) from k 0) in
           record {
             within = rw (ap (λ (y : Called Float). y .rays) e) (demand .within (c .allowance) s);
             finishes =
@@ -91,12 +97,14 @@ module _ (b i : BakeInput) where
                 (λ h. inl (omega (arith, taken, rw (← reached) at h)))
                 (demand .finishes (c .allowance) s accepted);
             reports = omega (arith, fired, ap (λ (y : Called Float). y .rays) e, rw (← reached) at (demand .reports (c .allowance) s accepted));
+            adds = ap (λ (y : Called Float). y .stage .progress .rays) e ∙ call-adds (bakeOf i) (c .allowance) s ∙ ap (λ (n : ℕ). s .progress .rays + n) (sym (ap (λ (y : Called Float). y .rays) e));
+            accepted = progress-row i (c .answer .progress) .1 (rw left (call-leaves i s (c .allowance) (sym (answers-refusal i s (c .allowance)) ∙ accepted)));
           }
 
     -- ---- each call
 
     each-call : (s : Stage Float) (d : List Float) (p : List ℕ) (results : List Result) → lending b d p ≡ i → Successive b s d p results
-        → NoneRefused (refusalsOf results) → EachCall i (s .progress) results × (s .progress ≤ leftBy s results .progress)
+        → NoneRefused (refusalsOf results) → EachCall i (s .progress) results × (s .progress .next ≤ leftBy s results .progress .next)
     each-call s d p [] e h n = (tt, omega arith)
     each-call s d p (c ∷ rest) e h n =
         let same = same-input b d (c .distances) p (c .places) (h .0 .distances-long) (h .0 .places-long) ∙ e in
@@ -109,7 +117,7 @@ module _ (b i : BakeInput) where
 -- calls begun at progress zero, whose allowances hold a voxel's cost and of which the first is accepted
 pub demand-of-results : (b : BakeInput) (s : Stage Float) (d : List Float) (p : List ℕ) (first : Result) (rest : List Result)
     → Successive b s d p (first ∷ rest)
-    → s .progress ≡ 0
+    → s .progress ≡ atZero
     → EachAtLeast (bakeCost b) (allowancesOf (first ∷ rest))
     → first .answer .refusal ≡ 0
     → DemandOfResults (lending b d p) s first rest
@@ -119,10 +127,14 @@ demand-of-results b s d p first rest h z m r =
     let l = allowancesOf results in
     let ran = successive-run b i s d p results refl h in
     let left : leftBy s results ≡ run (bakeOf i) l s .stage = ap (λ (t : Ran Float). t .stage) ran in
-    let end : leftBy s results .progress ≡ run (bakeOf i) l s .stage .progress = ap (λ (t : Stage Float). t .progress) left in
+    let end : leftBy s results .progress .next ≡ run (bakeOf i) l s .stage .progress .next = ap (λ (t : Stage Float). t .progress .next) left in
     let begun : bakeCall i s (first .allowance) .refusal ≡ 0 = sym (h .0 .refusal) ∙ r in
     let accepts : bakeRefusal i s (first .allowance) ≡ 0 = sym (answers-refusal i s (first .allowance)) ∙ begun in
     let demand = bake-demand i s (first .allowance) accepts in
+    let fair = bake-fair i (fits i s (first .allowance) (none-refused i s (first .allowance) .0 accepts) .axes) in
+    let total : leftBy s results .progress .rays ≡ run (bakeOf i) l s .stage .progress .rays = ap (λ (t : Stage Float). t .progress .rays) left in
+    let known : leftBy s results .progress .rays ≡ costs (bakeOf i) (leftBy s results .progress .next) 0
+    = total ∙ demand .known l s z ∙ ap (λ (n : ℕ). costs (bakeOf i) n 0) (sym end) in
     let unrefused = never-refused i s (first .allowance) accepts l m in
     let none : NoneRefused (refusalsOf results) = subst NoneRefused (sym (ap (λ (t : Ran Float). t .refusals) ran)) unrefused in
     let later = each-call b i demand (handedOn first) (first .distances) (first .places) rest (same-input b d (first .distances) p (first .places) (h .0 .distances-long) (h .0 .places-long)) (h .1) (none .1) in
@@ -130,16 +142,18 @@ demand-of-results b s d p first rest h z m r =
       none = none;
       end = λ q. left ∙ demand .whole l s z (sym end ∙ q);
       before = λ q.
-          let start : s .progress < voxelCount i = omega (arith, z, q) in
-          let under-way : 0 < leftBy s results .progress = omega (arith, later .1, h .0 .progress, demand .goes (first .allowance) s begun start) in
+          let start : s .progress .next < voxelCount i = omega (arith, ap (λ (p : Progress). p .next) z, q) in
+          let under-way : 0 < leftBy s results .progress .next = omega (arith, later .1, ap (λ (p : Progress). p .next) (h .0 .progress), demand .goes (first .allowance) s begun start) in
           let x = demand .before l s z (omega (arith, end, under-way)) (omega (arith, end, q)) in (
             ap (λ (t : Stage Float). t .volume) left ∙ x .1 ∙ ap (stands (bakeOf i)) (sym end),
             ap (λ (t : Stage Float). t .scratch) left ∙ x .2,
           );
       calls = each-call b i demand s d p results refl h none .0;
       sums = λ q. ap (λ (t : Ran Float). sum (t .rays)) ran ∙ demand .sums l s z (sym end ∙ q);
+      known = (total ∙ demand .last l s z ∙ sym (ap (λ (t : Ran Float). sum (t .rays)) ran), known);
+      between = rw known (costs-least (bakeOf i) (fair .most) (fair .least) _ 0, costs-most (bakeOf i) (fair .most) (fair .least) _ 0);
       fires = λ j. cost-counted (gatherInput i) j;
       each = demand .each;
       enough = λ k g c n. end ∙ demand .calls k l s g c (omega arith) (omega (arith, n, length-map results (λ (x : Result). x .allowance))) z unrefused;
-      one = λ q. h .0 .progress ∙ demand .one (first .allowance) s q z begun;
+      one = λ q. ap (λ (p : Progress). p .next) (h .0 .progress) ∙ demand .one (first .allowance) s q z begun;
     }

@@ -106,6 +106,10 @@ progress-row b p = (out, back)
     back : GoodProgress b p → badProgress (voxelCount b) (activeEntries b) (lampCount (b .lamps)) p ≡ false
     back k = either _ _ .1 (le-ltb _ _ (k .within), either _ _ .1 (le-ltb _ _ (k .least), le-ltb _ _ (k .most)))
 
+pub good-at-zero : (b : BakeInput) (p : Progress) → p ≡ atZero → GoodProgress b p
+unfolding fold
+good-at-zero b p e = rw e (record { within = omega arith; least = omega arith; most = omega arith })
+
 pub zero-at-zero : (b : BakeInput) (p : Progress) → GoodProgress b p → p .next ≡ 0 → p ≡ atZero
 unfolding fold
 zero-at-zero b p k e =

@@ -10,7 +10,7 @@ use lib.ListN.{length}
 use lib.Ieee.{Float}
 use Rattle.marks.specs.Marks.{isMarked}
 use Rattle.words.specs.Words.{entriesOf}
-use Rattle.spread.specs.Spread.{Stage, stage, anyActive, unblurred, unbroken, sum, NoneRefused}
+use Rattle.spread.specs.Spread.{progressOf, atZero, Stage, stage, anyActive, unblurred, unbroken, sum, NoneRefused}
 use Rattle.shares.specs.Shares.{Share, Parted}
 use Rattle.join.specs.Join.{Joined}
 use Rattle.blurs.specs.Blurs.{CoefficientsBlurred}
@@ -44,9 +44,9 @@ endOf s = leftBy (s .begun) (callsOf s)
 -- the results are those of public calls, begun at progress zero, no call refused, all else handed on unchanged, to the end
 pub record BakedToEnd (b : BakeInput) (s : ShareBake) : Type 0 where
   pub calls : Successive (sharing b (s .mask)) (s .begun) (s .distances) (s .places) (callsOf s)
-  pub from-zero : s .begun .progress ≡ 0
+  pub from-zero : s .begun .progress ≡ atZero
   pub unrefused : NoneRefused (refusalsOf (callsOf s))
-  pub to-end : endOf s .progress ≡ voxelCount b
+  pub to-end : endOf s .progress .next ≡ voxelCount b
 
 abbrev pub EachBaked : BakeInput → List ShareBake → Type 0
 EachBaked b [] = Unit
@@ -107,20 +107,26 @@ module _ (b : BakeInput) (first : ShareBake) (rest : List JoinedShare) where
   abbrev pub allReported : ℕ
   allReported = sum (map (λ (s : ShareBake). sum (reportedBy (callsOf s))) (sharesOf first rest))
 
+  -- and what the shares' last records know, added
+  abbrev pub allKnown : ℕ
+  allKnown = sum (map (λ (s : ShareBake). endOf s .progress .rays) (sharesOf first rest))
+
   -- what is demanded of them
   pub record DemandOfShares : Type 0 where
     -- no join is refused
     pub none : NoneRefused (map (λ (j : JoinedShare). j .answer) rest)
     -- what they leave is the unblurred volume of the unbroken bake
     pub joined : allJoined ≡ unblurred (bakeOf b)
-    -- where any voxel is active: the blur of that, lent a scratch of its length, is not refused, and volume and scratch are bit for bit the unbroken bake's
+    -- where any voxel is active: the blur of that, lent a scratch of its length, is not refused, and with the count and all rays for a progress volume and
+    -- scratch are bit for bit the unbroken bake's
     pub blurred : someActive b ≡ true → (scratch : List Float) → length scratch ≡ voxelCount b * voxelNumbers → (r : ℕ) (volume' scratch' : List Float)
         → CoefficientsBlurred (b .axes) allJoined scratch r volume' scratch'
-        → (r ≡ 0) × (stage (voxelCount b) volume' scratch' ≡ unbroken (bakeOf b) scratch)
+        → (r ≡ 0) × (stage (progressOf (voxelCount b) allKnown) volume' scratch' ≡ unbroken (bakeOf b) scratch)
     -- where none is: what is joined is the unbroken bake's volume, of which no mean is taken, and scratch stays
-    pub unblurred-end : someActive b ≡ false → (scratch : List Float) → stage (voxelCount b) allJoined scratch ≡ unbroken (bakeOf b) scratch
-    -- what all calls of all shares reported adds up to the rays that the definition fires
+    pub unblurred-end : someActive b ≡ false → (scratch : List Float) → stage (progressOf (voxelCount b) allKnown) allJoined scratch ≡ unbroken (bakeOf b) scratch
+    -- what all calls of all shares reported adds up to the rays that the definition fires, and so does what their last records know
     pub rays : allReported ≡ raysBelow b (voxelCount b)
+    pub known : allKnown ≡ raysBelow b (voxelCount b)
 
   -- and so it is bit for bit what results of calls with the whole mask leave, which report as many rays
   pub record AsOne (whole : ShareBake) : Type 0 where
@@ -129,3 +135,4 @@ module _ (b : BakeInput) (first : ShareBake) (rest : List JoinedShare) where
         → (volume' ≡ endOf whole .volume) × (scratch' ≡ endOf whole .scratch)
     pub unblurred-end : someActive b ≡ false → allJoined ≡ endOf whole .volume
     pub rays : allReported ≡ sum (reportedBy (callsOf whole))
+    pub known : allKnown ≡ endOf whole .progress .rays

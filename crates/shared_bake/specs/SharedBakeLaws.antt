@@ -15,7 +15,8 @@ use Rattle.limits.specs.Limits.{badLights, badCoefficients}
 use Rattle.limits.specs.LimitsLaws.{axes-row, either, any-of-three}
 use Rattle.marks.specs.Marks.{isMarked}
 use Rattle.words.specs.Words.{entriesOf, unusedSet, Tidy}
-use Rattle.spread.specs.Spread.{Stage, stage, Bake, unblurred, unbroken, costs, sum, EachAtLeast, NoneRefused}
+use Rattle.spread.specs.declared.Progress.{Progress}
+use Rattle.spread.specs.Spread.{progressOf, atZero, Stage, stage, Bake, unblurred, unbroken, costs, sum, EachAtLeast, NoneRefused}
 use Rattle.spread.specs.Demand.{Sized}
 use Rattle.shares.specs.Shares.{Share, bakeBy, holders, Parted, joinedBy, unblurredIn, joinedAll, addedOver}
 use Rattle.shares.specs.SharesLaws.{unblurred-in, length-unblurred, length-joined, same-unbroken, all-joined, rays-add-up}
@@ -24,15 +25,15 @@ use Rattle.join.specs.JoinLaws.{join-accepted}
 use Rattle.ends.specs.Ends.{meanOver}
 use Rattle.blurs.specs.Blurs.{wrongBlurLists, coefficientBlurRows, coefficientBlurRefusal}
 use Rattle.intake.specs.Intake.{BakeInput, voxelNumbers, voxelCount, bakeCost, wrongBakeLists, badContents, bakeRefusal}
-use Rattle.intake.specs.IntakeLaws.{BakePassed, fits, none-refused}
+use Rattle.intake.specs.IntakeLaws.{BakePassed, progress-row, good-at-zero, fits, none-refused}
 use Rattle.demand.specs.Bake.{bakeOf}
 use Rattle.demand.specs.Calls.{answers-refusal}
 use Rattle.demand.specs.Demanded.{bake-fair}
 use Rattle.bake.specs.Baked.{Baked}
 use Rattle.bake.specs.GoesOn.{accepted-unblurred}
-use Rattle.bake.specs.Results.{Result, handedOn, lending, Successive, allowancesOf, refusalsOf, reportedBy, DemandOfResults}
+use Rattle.bake.specs.Results.{Result, handedOn, lending, Successive, allowancesOf, refusalsOf, reportedBy, raysBelow, DemandOfResults}
 use Rattle.bake.specs.ResultsLaws.{demand-of-results}
-use Rattle.shared_bake.specs.SharedBake.{sharing, ShareBake, callsOf, endOf, BakedToEnd, EachBaked, shareHas, asShare, unblurredOf, JoinedShare, JoinedOnto, lastJoined, sharesOf, Shared, allJoined, someActive, DemandOfShares, AsOne}
+use Rattle.shared_bake.specs.SharedBake.{sharing, ShareBake, callsOf, endOf, BakedToEnd, EachBaked, shareHas, asShare, unblurredOf, JoinedShare, JoinedOnto, lastJoined, sharesOf, Shared, allJoined, allKnown, someActive, DemandOfShares, AsOne}
 
 -- the sum of one number
 alone : (n : ℕ) → sum (n ∷ []) ≡ n
@@ -53,11 +54,12 @@ allowances-hold b s d p (c ∷ rest) h n =
     let i = lending b d p in
     (fits i s (c .allowance) (accepted-call {c = c} (h .0) (n .0)) .allowance, allowances-hold b (handedOn c) (c .distances) (c .places) rest (h .1) (n .1))
 
--- ---- a share's first call: with the words of any mask in place of its own an accepted input is accepted
+-- ---- a share's first call: with the words of any mask in place of its own an input that is accepted at progress zero is accepted
 
-pub share-accepted : (b : BakeInput) (mask : List ℕ) (s : Stage Float) (a : ℕ) → Tidy mask (voxelCount b) → bakeRefusal b s a ≡ 0 → bakeRefusal (sharing b mask) s a ≡ 0
+pub share-accepted : (b : BakeInput) (mask : List ℕ) (s : Stage Float) (a : ℕ) → Tidy mask (voxelCount b) → s .progress ≡ atZero → bakeRefusal b s a ≡ 0
+    → bakeRefusal (sharing b mask) s a ≡ 0
 unfolding wrongBakeLists badContents
-share-accepted b mask s a t e =
+share-accepted b mask s a t z e =
     let p = none-refused b s a .0 e in
     let c = any-of-three (unusedSet (b .active) (voxelCount b)) (badLights (b .lights)) _ .0 (p .contents) in
     let long : length mask ≡ length (b .active) = t .long ∙ sym (fits b s a p .active .long) in
@@ -71,7 +73,7 @@ share-accepted b mask s a t e =
       materials = p .materials;
       lighting = p .lighting;
       lamps = p .lamps;
-      progress = p .progress;
+      progress = progress-row (sharing b mask) (s .progress) .1 (good-at-zero (sharing b mask) (s .progress) z);
       allowance = p .allowance;
       contents = any-of-three _ _ _ .1 (t .clean, c .1, c .2);
     })
@@ -101,6 +103,9 @@ module _ (b : BakeInput) where
 
     unblurred-left : unblurredOf b s ≡ unblurred (overShare s)
     unblurred-left = ap (unblurredIn (overShare s)) ended ∙ unblurred-in (overShare s) (s .begun .scratch)
+
+    known : endOf s .progress .rays ≡ costs (overShare s) (voxelCount b) 0
+    known = demanded .known .1 ∙ ap (λ (n : ℕ). costs (overShare s) n 0) (h .to-end)
 
     reported : sum (reportedBy (callsOf s)) ≡ costs (overShare s) (voxelCount b) 0
     reported = demanded .sums (h .to-end)
@@ -148,11 +153,12 @@ module _ (b : BakeInput) where
       let r = joins-all (j .joined) _ left long rest (h .1) (k .1) in
       ((z, r .0), r .1)
 
-  reported-all : (shares : List ShareBake) → EachBaked b shares
-      → sum (map (λ (s : ShareBake). sum (reportedBy (callsOf s))) shares) ≡ addedOver (λ t. costs (bakeBy (bakeOf b) t) (voxelCount b) 0) (map (asShare b) shares)
+  -- a number of each share that comes to its rays comes to the rays of all
+  counted-all : (f : ShareBake → ℕ) → ((s : ShareBake) → BakedToEnd b s → f s ≡ costs (overShare s) (voxelCount b) 0) → (shares : List ShareBake) → EachBaked b shares
+      → sum (map f shares) ≡ addedOver (λ t. costs (bakeBy (bakeOf b) t) (voxelCount b) 0) (map (asShare b) shares)
   unfolding sum
-  reported-all [] h = refl
-  reported-all (s ∷ rest) h = ap₂ (λ (x y : ℕ). x + y) (reported s (h .0)) (reported-all rest (h .1))
+  counted-all f e [] h = refl
+  counted-all f e (s ∷ rest) h = ap₂ (λ (x y : ℕ). x + y) (e s (h .0)) (counted-all f e rest (h .1))
 
 -- ---- all of it
 
@@ -180,18 +186,29 @@ module _ (b : BakeInput) (first : ShareBake) (rest : List JoinedShare) (h : Shar
   everyVoxel = record { has = bakeOf b .active; refusal = bakeOf b .refusal }
 
   -- how the unbroken bake ends, where any voxel is active and where none is
+  abbrev atEnd : Progress
+  atEnd = progressOf (voxelCount b) (raysBelow b (voxelCount b))
+
   ends-blurred : (scratch : List Float) → someActive b ≡ true
-      → unbroken (bakeOf b) scratch ≡ stage (voxelCount b) (meanOver (b .axes) (unblurred (bakeOf b))) (unblurred (bakeOf b))
+      → unbroken (bakeOf b) scratch ≡ stage atEnd (meanOver (b .axes) (unblurred (bakeOf b))) (unblurred (bakeOf b))
   unfolding unbroken
   ends-blurred scratch t = rw t refl
 
-  ends-unblurred : (scratch : List Float) → someActive b ≡ false → unbroken (bakeOf b) scratch ≡ stage (voxelCount b) (unblurred (bakeOf b)) scratch
+  ends-unblurred : (scratch : List Float) → someActive b ≡ false → unbroken (bakeOf b) scratch ≡ stage atEnd (unblurred (bakeOf b)) scratch
   unfolding unbroken
   ends-unblurred scratch t = rw t refl
+
+  counted : (f : ShareBake → ℕ) → ((s : ShareBake) → BakedToEnd b s → f s ≡ costs (overShare b s) (voxelCount b) 0)
+      → sum (map f (sharesOf first rest)) ≡ raysBelow b (voxelCount b)
+  counted f e = counted-all b f e (sharesOf first rest) (h .baked) ∙ rays-add-up (bakeOf b) (map (asShare b) (sharesOf first rest)) (h .parted)
+
+  all-known : allKnown b first rest ≡ raysBelow b (voxelCount b)
+  all-known = counted (λ s. endOf s .progress .rays) (λ s w. known b s w)
 
   pub demand-of-shares : DemandOfShares b first rest
   demand-of-shares =
       let e = joined-all .1 in
+      let reached = ap (progressOf (voxelCount b)) all-known in
       let z = sized b first one in
       record {
         none = joined-all .0;
@@ -202,9 +219,10 @@ module _ (b : BakeInput) (first : ShareBake) (rest : List JoinedShare) (h : Shar
             let n : r ≡ 0 = p .answer ∙ blur-accepted b (allJoined b first rest) scratch (axes-within b first one) long l fine in
             let v : volume' ≡ meanOver (b .axes) (unblurred (bakeOf b)) = p .volume-after ∙ sym (given r _ _ n) ∙ ap (meanOver (b .axes)) e in
             let s : scratch' ≡ unblurred (bakeOf b) = p .scratch-after ∙ sym (given r _ _ n) ∙ e in
-            (n, ap₂ (stage (voxelCount b)) v s ∙ sym (ends-blurred scratch t));
-        unblurred-end = λ t scratch. ap (λ (v : List Float). stage (voxelCount b) v scratch) e ∙ sym (ends-unblurred scratch t);
-        rays = reported-all b (sharesOf first rest) (h .baked) ∙ rays-add-up (bakeOf b) (map (asShare b) (sharesOf first rest)) (h .parted);
+            (n, ap (λ (q : Progress). stage q volume' scratch') reached ∙ ap₂ (stage atEnd) v s ∙ sym (ends-blurred scratch t));
+        unblurred-end = λ t scratch. ap₂ (λ (q : Progress) (v : List Float). stage q v scratch) reached e ∙ sym (ends-unblurred scratch t);
+        rays = counted (λ s. sum (reportedBy (callsOf s))) (λ s w. reported b s w);
+        known = all-known;
       }
 
   -- a share of every active voxel is parted
@@ -217,19 +235,22 @@ module _ (b : BakeInput) (first : ShareBake) (rest : List JoinedShare) (h : Shar
       ended b whole w
       ∙ same-unbroken (bakeOf b) (sized b first one) (asShare b whole) (whole .begun .scratch) (λ i l. ap (λ (m : List ℕ). isMarked (entriesOf m (voxelCount b)) i) e)
 
+  -- and counts the rays of all
+  as-whole : (f : ShareBake → ℕ) → ((s : ShareBake) → BakedToEnd b s → f s ≡ costs (overShare b s) (voxelCount b) 0)
+      → (whole : ShareBake) → whole .mask ≡ b .active → BakedToEnd b whole → f whole ≡ raysBelow b (voxelCount b)
+  as-whole f c whole e w =
+      sym (alone (f whole)) ∙ counted-all b f c (whole ∷ []) (w, tt) ∙ rays-add-up (bakeOf b) (asShare b whole ∷ []) (whole-parted whole e)
+
   pub as-one : (whole : ShareBake) → whole .mask ≡ b .active → BakedToEnd b whole → AsOne b first rest whole
   as-one whole e w =
       let d = demand-of-shares in
       let end = whole-ended whole e w in
       record {
         blurred = λ t scratch l r volume' scratch' p.
-            let same : stage (voxelCount b) volume' scratch' ≡ endOf whole
+            let same : stage (progressOf (voxelCount b) (allKnown b first rest)) volume' scratch' ≡ endOf whole
             = d .blurred t scratch l r volume' scratch' p .1 ∙ ends-blurred scratch t ∙ sym (ends-blurred (whole .begun .scratch) t) ∙ sym end in
             (ap (λ (x : Stage Float). x .volume) same, ap (λ (x : Stage Float). x .scratch) same);
         unblurred-end = λ t. ap (λ (x : Stage Float). x .volume) (d .unblurred-end t (whole .begun .scratch) ∙ sym end);
-        rays =
-            d .rays
-            ∙ sym (rays-add-up (bakeOf b) (asShare b whole ∷ []) (whole-parted whole e))
-            ∙ sym (reported-all b (whole ∷ []) (w, tt))
-            ∙ alone (sum (reportedBy (callsOf whole)));
+        rays = d .rays ∙ sym (as-whole (λ s. sum (reportedBy (callsOf s))) (λ s v. reported b s v) whole e w);
+        known = d .known ∙ sym (as-whole (λ s. endOf s .progress .rays) (λ s v. known b s v) whole e w);
       }

@@ -9,7 +9,8 @@ use native.Mathlib.Nat.{add-mul, one-mul, zero-mul}
 use lib.ListN.{length}
 use Rattle.lists.specs.Any.{any-same}
 use Rattle.lists.specs.Laid.{voxelPart, laid-same, length-laid, part-of-laid}
-use Rattle.spread.specs.Spread.{stage, Bake, anyActive, blurred, unblurred, unbroken, actives, costs, sum}
+use Rattle.spread.specs.declared.Progress.{Progress}
+use Rattle.spread.specs.Spread.{progressOf, stage, Bake, anyActive, blurred, unblurred, unbroken, actives, costs, sum}
 use Rattle.spread.specs.Demand.{Sized}
 use Rattle.shares.specs.LaidBelow.{voxel-long, part-below, length-below}
 use Rattle.shares.specs.Shares.{Share, bakeBy, holders, Parted, joinedBy, unblurredIn, joinedAll, addedOver}
@@ -34,94 +35,6 @@ module _ {A : Type 0} (size count : ℕ) (has : ℕ → Bool) (numbers joined : 
   length-joined = length-below size count (λ j. cond (has j) (voxelPart size j numbers) (voxelPart size j joined)) either-long
 
 module _ {A : Type 0} (b : Bake A) where
-  -- ---- joined
-
-  -- a finished bake has its unblurred volume where it is looked for
-  pub unblurred-in : (scratch : List A) → unblurredIn b (unbroken b scratch) ≡ unblurred b
-  unfolding unbroken
-  unblurred-in scratch = go (anyActive (b .active) (b .count))
-    where
-      go : (x : Bool)
-          → cond x (cond x (stage (b .count) (b .mean (unblurred b)) (unblurred b)) (stage (b .count) (unblurred b) scratch) .scratch)
-          (cond x (stage (b .count) (b .mean (unblurred b)) (unblurred b)) (stage (b .count) (unblurred b) scratch) .volume)
-          ≡ unblurred b
-      go true = refl
-      go false = refl
-
-  module _ (sized : Sized b) where
-    -- what voxel i holds, unblurred, where it is had and where it is not
-    abbrev holding : Bool → ℕ → List A
-    holding had i = cond had (b .gathered i) (b .ambient i)
-
-    length-holding : (had : Bool) (i : ℕ) → length (holding had i) ≡ b .size
-    length-holding true i = sized .gathered i
-    length-holding false i = sized .ambient i
-
-    pub unblurred-voxel : (share : Share A) (i : ℕ) → i < b .count → voxelPart (b .size) i (unblurred (bakeBy b share)) ≡ holding (share .has i) i
-    unfolding unblurred
-    unblurred-voxel share i h = part-of-laid (b .size) (λ j. holding (share .has j) j) (λ j. length-holding (share .has j) j) i (b .count) h
-
-    pub length-unblurred : (share : Share A) → length (unblurred (bakeBy b share)) ≡ b .count * b .size
-    unfolding unblurred
-    length-unblurred share = length-laid (b .size) (λ j. holding (share .has j) j) (λ j. length-holding (share .has j) j) (b .count) 0
-
-    -- the voxels of two shares
-    abbrev both : Share A → Share A → Share A
-    both s t = record { has = λ i. s .has i || t .has i; refusal = t .refusal }
-
-    -- two joined are the bake over the voxels of both
-    pub two-joined : (s t : Share A) → joinedBy (b .size) (b .count) (s .has) (unblurred (bakeBy b s)) (unblurred (bakeBy b t)) ≡ unblurred (bakeBy b (both s t))
-    unfolding joinedBy unblurred
-    two-joined s t = laid-same _ _ (b .count) 0 (λ i p q. one i (omega arith))
-      where
-        go : (x y : Bool) (i : ℕ) → cond x (holding x i) (holding y i) ≡ holding (x || y) i
-        go true y i = refl
-        go false y i = refl
-
-        one : (i : ℕ) → i < b .count
-            → cond (s .has i) (voxelPart (b .size) i (unblurred (bakeBy b s))) (voxelPart (b .size) i (unblurred (bakeBy b t))) ≡ holding (s .has i || t .has i) i
-        one i h =
-            ap₂ (λ (x y : List A). cond (s .has i) x y) (unblurred-voxel s i h) (unblurred-voxel t i h)
-            ∙ go (s .has i) (t .has i) i
-
-    -- a bake over the active voxels is the bake
-    same-voxels : (s : Share A) → ((i : ℕ) → i < b .count → s .has i ≡ b .active i) → unblurred (bakeBy b s) ≡ unblurred b
-    unfolding unblurred
-    same-voxels s e = laid-same _ _ (b .count) 0 (λ i p q. ap (λ (x : Bool). holding x i) (e i (omega arith)))
-
-    pub same-unbroken : (s : Share A) (scratch : List A) → ((i : ℕ) → i < b .count → s .has i ≡ b .active i)
-        → unbroken (bakeBy b s) scratch ≡ unbroken b scratch
-    unfolding unbroken
-    same-unbroken s scratch e =
-        ap₂ (λ (x : Bool) (v : List A). cond x (stage (b .count) (b .mean v) v) (stage (b .count) v scratch))
-        (any-same (s .has) (b .active) (b .count) 0 (λ i p q. e i (omega arith))) (same-voxels s e)
-
-    -- all joined are the unblurred volume of the bake
-    pub all-joined : (first : Share A) (rest : List (Share A)) → Parted b (first ∷ rest) → joinedAll b rest (unblurred (bakeBy b first)) ≡ unblurred b
-    unfolding joinedAll holders
-    all-joined first [] parted = same-voxels first (λ i h. go (first .has i) (b .active i) (parted i h))
-      where
-        go : (x y : Bool) → cond x 1 0 + 0 ≡ cond y 1 0 → x ≡ y
-        go true true e = refl
-        go false false e = refl
-        go true false e = absurd (omega arith)
-        go false true e = absurd (omega arith)
-    all-joined first (s ∷ rest) parted =
-        ap (joinedAll b rest) (two-joined s first)
-        ∙ all-joined (both s first) rest (λ i h. go (s .has i) (first .has i) (b .active i) (holders rest i) (parted i h))
-      where
-        go : (x y a : Bool) (n : ℕ) → cond y 1 0 + (cond x 1 0 + n) ≡ cond a 1 0 → cond (x || y) 1 0 + n ≡ cond a 1 0
-        go true true true n e = absurd (omega arith)
-        go true true false n e = absurd (omega arith)
-        go true false a n e = omega arith
-        go false y a n e = omega arith
-
-    -- and so, after the mean where any voxel is active, all is as the unbroken bake leaves it
-    pub joined-unbroken : (first : Share A) (rest : List (Share A)) (scratch : List A) → Parted b (first ∷ rest)
-        → blurred b (joinedAll b rest (unblurred (bakeBy b first))) scratch ≡ unbroken b scratch
-    unfolding unbroken
-    joined-unbroken first rest scratch parted = ap (λ (v : List A). blurred b v scratch) (all-joined first rest parted)
-
   -- ---- added
 
   -- a count over the voxels that a share has, c for voxel i, which `part` gives of k voxels from i on
@@ -175,3 +88,102 @@ module _ {A : Type 0} (b : Bake A) where
       either : (x : Bool) (n : ℕ) → cond x (suc n) n ≡ cond x 1 0 + n
       either true n = omega arith
       either false n = omega arith
+
+  -- ---- joined
+
+  -- a finished bake has its unblurred volume where it is looked for
+  pub unblurred-in : (scratch : List A) → unblurredIn b (unbroken b scratch) ≡ unblurred b
+  unfolding unbroken
+  unblurred-in scratch = go (anyActive (b .active) (b .count)) (progressOf (b .count) (costs b (b .count) 0))
+    where
+      go : (x : Bool) (p : Progress)
+          → cond x (cond x (stage p (b .mean (unblurred b)) (unblurred b)) (stage p (unblurred b) scratch) .scratch)
+          (cond x (stage p (b .mean (unblurred b)) (unblurred b)) (stage p (unblurred b) scratch) .volume)
+          ≡ unblurred b
+      go true p = refl
+      go false p = refl
+
+  module _ (sized : Sized b) where
+    -- what voxel i holds, unblurred, where it is had and where it is not
+    abbrev holding : Bool → ℕ → List A
+    holding had i = cond had (b .gathered i) (b .ambient i)
+
+    length-holding : (had : Bool) (i : ℕ) → length (holding had i) ≡ b .size
+    length-holding true i = sized .gathered i
+    length-holding false i = sized .ambient i
+
+    pub unblurred-voxel : (share : Share A) (i : ℕ) → i < b .count → voxelPart (b .size) i (unblurred (bakeBy b share)) ≡ holding (share .has i) i
+    unfolding unblurred
+    unblurred-voxel share i h = part-of-laid (b .size) (λ j. holding (share .has j) j) (λ j. length-holding (share .has j) j) i (b .count) h
+
+    pub length-unblurred : (share : Share A) → length (unblurred (bakeBy b share)) ≡ b .count * b .size
+    unfolding unblurred
+    length-unblurred share = length-laid (b .size) (λ j. holding (share .has j) j) (λ j. length-holding (share .has j) j) (b .count) 0
+
+    -- the voxels of two shares
+    abbrev both : Share A → Share A → Share A
+    both s t = record { has = λ i. s .has i || t .has i; refusal = t .refusal }
+
+    -- two joined are the bake over the voxels of both
+    pub two-joined : (s t : Share A) → joinedBy (b .size) (b .count) (s .has) (unblurred (bakeBy b s)) (unblurred (bakeBy b t)) ≡ unblurred (bakeBy b (both s t))
+    unfolding joinedBy unblurred
+    two-joined s t = laid-same _ _ (b .count) 0 (λ i p q. one i (omega arith))
+      where
+        go : (x y : Bool) (i : ℕ) → cond x (holding x i) (holding y i) ≡ holding (x || y) i
+        go true y i = refl
+        go false y i = refl
+
+        one : (i : ℕ) → i < b .count
+            → cond (s .has i) (voxelPart (b .size) i (unblurred (bakeBy b s))) (voxelPart (b .size) i (unblurred (bakeBy b t))) ≡ holding (s .has i || t .has i) i
+        one i h =
+            ap₂ (λ (x y : List A). cond (s .has i) x y) (unblurred-voxel s i h) (unblurred-voxel t i h)
+            ∙ go (s .has i) (t .has i) i
+
+    -- a bake over the active voxels is the bake
+    same-voxels : (s : Share A) → ((i : ℕ) → i < b .count → s .has i ≡ b .active i) → unblurred (bakeBy b s) ≡ unblurred b
+    unfolding unblurred
+    same-voxels s e = laid-same _ _ (b .count) 0 (λ i p q. ap (λ (x : Bool). holding x i) (e i (omega arith)))
+
+    same-costs : (s : Share A) → ((i : ℕ) → i < b .count → s .has i ≡ b .active i) → costs (bakeBy b s) (b .count) 0 ≡ costs b (b .count) 0
+    unfolding costs
+    same-costs s e = go (b .count) 0 (λ i h. e i (omega arith))
+      where
+        go : (k i : ℕ) → ((j : ℕ) → j < i + k → s .has j ≡ b .active j) → costs (bakeBy b s) k i ≡ costs b k i
+        go zero i h = refl
+        go (suc k) i h = rw (h i (omega arith), go k (i + 1) (λ j l. h j (omega arith))) refl
+
+    pub same-unbroken : (s : Share A) (scratch : List A) → ((i : ℕ) → i < b .count → s .has i ≡ b .active i)
+        → unbroken (bakeBy b s) scratch ≡ unbroken b scratch
+    unfolding unbroken
+    same-unbroken s scratch e =
+        ap (λ (n : ℕ). blurred (bakeBy b s) (progressOf (b .count) n) (unblurred (bakeBy b s)) scratch) (same-costs s e)
+        ∙ ap₂ (λ (x : Bool) (v : List A). let p = progressOf (b .count) (costs b (b .count) 0) in cond x (stage p (b .mean v) v) (stage p v scratch))
+        (any-same (s .has) (b .active) (b .count) 0 (λ i p q. e i (omega arith))) (same-voxels s e)
+
+    -- all joined are the unblurred volume of the bake
+    pub all-joined : (first : Share A) (rest : List (Share A)) → Parted b (first ∷ rest) → joinedAll b rest (unblurred (bakeBy b first)) ≡ unblurred b
+    unfolding joinedAll holders
+    all-joined first [] parted = same-voxels first (λ i h. go (first .has i) (b .active i) (parted i h))
+      where
+        go : (x y : Bool) → cond x 1 0 + 0 ≡ cond y 1 0 → x ≡ y
+        go true true e = refl
+        go false false e = refl
+        go true false e = absurd (omega arith)
+        go false true e = absurd (omega arith)
+    all-joined first (s ∷ rest) parted =
+        ap (joinedAll b rest) (two-joined s first)
+        ∙ all-joined (both s first) rest (λ i h. go (s .has i) (first .has i) (b .active i) (holders rest i) (parted i h))
+      where
+        go : (x y a : Bool) (n : ℕ) → cond y 1 0 + (cond x 1 0 + n) ≡ cond a 1 0 → cond (x || y) 1 0 + n ≡ cond a 1 0
+        go true true true n e = absurd (omega arith)
+        go true true false n e = absurd (omega arith)
+        go true false a n e = omega arith
+        go false y a n e = omega arith
+
+    -- and so, after the mean where any voxel is active, all is as the unbroken bake leaves it; its progress is the count and the rays of all shares
+    pub joined-unbroken : (first : Share A) (rest : List (Share A)) (scratch : List A) → Parted b (first ∷ rest)
+        → blurred b (progressOf (b .count) (addedOver (λ s. costs (bakeBy b s) (b .count) 0) (first ∷ rest))) (joinedAll b rest (unblurred (bakeBy b first))) scratch
+        ≡ unbroken b scratch
+    unfolding unbroken
+    joined-unbroken first rest scratch parted =
+        ap₂ (λ (n : ℕ) (v : List A). blurred b (progressOf (b .count) n) v scratch) (rays-add-up (first ∷ rest) parted) (all-joined first rest parted)

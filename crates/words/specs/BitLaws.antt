@@ -4,8 +4,7 @@ use mathlib.Core.Logic.{_⊎_, inl, inr}
 use mathlib.Core.Bool.{Bool, true, false, cond}
 use Prim.Native.Nat.{ℕ, zero, suc, _+_, _-_, _*_, _/_, _%_, _^_, _≤_, _<_}
 use native.Mathlib.Omega.{arith}
-use native.Mathlib.Numerals.{add-one}
-use native.Mathlib.Nat.{pow-suc, div-one, div-eq-of-lt, div-lt-iff-lt-mul, add-mul, add-zero, zero-add, mod-lt, lt-of-lt-of-le}
+use native.Mathlib.Nat.{pow-suc, div-one, div-eq-of-lt, add-mul, add-zero, zero-add, mod-lt, lt-of-lt-of-le}
 use lib.Pow.{pow-pos, pow-mono, pow-add, shr-shr, split, high, low, field, mod-mod-pow, shr-lt, shl-exact}
 use lib.Dec.{ltb, eqb}
 use borrow.Author.Tests.{ltb-true, ltb-false, eqb-true, eqb-false}
@@ -189,6 +188,10 @@ module _ (w k : ℕ) where
   below-k : w % 2 ^ k < 2 ^ k
   below-k = mod-lt w (pow-pos k)
 
+  -- the bits below k are those of the lower part
+  pub low-bit : (j : ℕ) → j < k → bitOf w j ≡ bitOf (w % 2 ^ k) j
+  low-bit j p = ap (λ (y : ℕ). bitOf y j) in-parts ∙ lower-bit (w / 2 ^ k / 2) (bitOf w k) (w % 2 ^ k) k (bit-lt w k) below-k j p
+
   pub put-parts : (v : ℕ) → putBit w k v ≡ (w / 2 ^ k / 2 * 2 + v) * 2 ^ k + w % 2 ^ k
   put-parts v =
       let h : ℕ = w / 2 ^ k / 2 * 2 in
@@ -280,6 +283,12 @@ unfolding total
 total-zero f zero i e = refl
 total-zero f (suc k) i e = omega (arith, e i (omega arith), total-zero f k (i + 1) (λ j p. e j (omega arith)))
 
+-- values of 0 and 1 add up to at most their number
+pub total-most : (f : ℕ → ℕ) (k i : ℕ) → ((j : ℕ) → f j < 2) → total f k i ≤ k
+unfolding total
+total-most f zero i e = omega arith
+total-most f (suc k) i e = omega (arith, e i, total-most f k (i + 1) e)
+
 -- the set bits of a word are its ones
 pub ones-total : (d w : ℕ) → w < 2 ^ d → total (bitOf w) d 0 ≡ ones w
 unfolding total ones
@@ -290,6 +299,10 @@ ones-total (suc d) w h =
     let b : j ≡ 0 + j = omega arith in
     ap (bitOf w) a ∙ bit-suc w j ∙ ap (bitOf (w / 2)) b) in
     omega (arith, bit-zero w, ones-step w, ones-total d (w / 2) (half-lt d w h))
+
+-- those below place d are the ones of what they make
+pub low-ones : (d w : ℕ) → total (bitOf w) d 0 ≡ ones (w % 2 ^ d)
+low-ones d w = total-same (bitOf w) (bitOf (w % 2 ^ d)) d 0 0 (λ j h. low-bit w d (0 + j) (omega arith)) ∙ ones-total d (w % 2 ^ d) (mod-lt w (pow-pos d))
 
 -- ---- the lowest set bit
 

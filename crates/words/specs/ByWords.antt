@@ -1,19 +1,11 @@
--- How the code works on words: it counts by whole words, changes one bit, looks for the next mark, and takes eight bits at a time apart. Nothing here is part of what a mask means. Assumes nothing.
+-- How the code works on words: it changes one bit, looks for the next mark, and takes eight bits at a time apart. Nothing here is part of what a mask means. Assumes nothing.
 use mathlib.Core.Bool.{Bool, cond}
 use mathlib.Core.List.{List, [], _∷_}
 use Prim.Native.Nat.{ℕ, zero, suc, _+_, _-_, _*_, _/_, _%_, _^_}
 use lib.Bits.{bitAnd}
-use lib.Count.{ones}
-use lib.ListN.{length, getD, set}
-use Rattle.lists.specs.Fold.{fold, tab}
+use lib.ListN.{getD, set}
+use Rattle.lists.specs.Fold.{tab}
 use Rattle.words.specs.Words.{bitOf}
-
--- how many bits of words are set
-abbrev pub addOnes : List ℕ → ℕ → ℕ → ℕ
-addOnes words k n = n + ones (getD words k 0)
-
-unfoldable pub onesCount : List ℕ → ℕ
-onesCount words = fold (addOnes words) (length words) 0 0
 
 -- a word with v for its bit j
 abbrev pub putBit : ℕ → ℕ → ℕ → ℕ

@@ -9,11 +9,10 @@ use native.Mathlib.Nat.{add-zero, lt-of-le-of-lt}
 use lib.Count.{trailingZeros}
 use lib.Dec.{eqb}
 use lib.Pow.{shr-le}
-use lib.ListN.{length, getD}
-use borrow.Author.Tests.{eq-eqb}
+use lib.ListN.{getD}
 use Rattle.lists.specs.Fold.{ahead}
 use Rattle.marks.specs.Marks.{isMarked}
-use Rattle.words.specs.Words.{bitOf, bitAt, entriesOf, wordCount, AreWords, Tidy}
+use Rattle.words.specs.Words.{bitOf, bitAt, entriesOf, AreWords, Tidy}
 use Rattle.words.specs.ByWords.{nextFrom}
 use Rattle.words.specs.BitLaws.{below-or-from, zero-bits, Lowest, lowest, bit-shifted, bit-beyond}
 use Rattle.words.specs.WordsLaws.{entries-at, entries-past, clean-bits}
@@ -50,7 +49,11 @@ module _ (f : ℕ → Bool) (n : ℕ) where
       go true e rest = p
       go false e rest = rest (on i (omega arith) e p)
 
-  -- and of that f holds
+  -- the next one lies from i on
+  pub next-from : (k i : ℕ) → i + k ≡ n → i ≤ nextFrom f n k i
+  next-from k i h = next-carries (λ j. i ≤ j) (λ j l e p. omega arith) k i h (omega arith)
+
+  -- and of it f holds
   pub next-there : (k i : ℕ) → i + k ≡ n → nextFrom f n k i < n → f (nextFrom f n k i) ≡ true
   unfolding nextFrom
   next-there zero i h l = absurd (omega arith)

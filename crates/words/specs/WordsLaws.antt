@@ -5,20 +5,19 @@ use mathlib.Core.Bool.{Bool, true, false, cond, not, _&&_, and-eq-true-iff, fals
 use mathlib.Core.List.{List}
 use Prim.Native.Nat.{ℕ, zero, suc, _+_, _-_, _*_, _/_, _%_, _^_, _≤_, _<_}
 use native.Mathlib.Omega.{arith}
-use native.Mathlib.Nat.{add-zero, zero-add, div-eq-of-lt, div-one, zero-div, le-trans, pos-of-ne-zero}
+use native.Mathlib.Nat.{zero-add, mod-eq-of-lt, pos-of-ne-zero}
 use lib.Dec.{leb, eqb}
 use borrow.Author.Tests.{eqb-true, eqb-false, eq-eqb, ne-eqb, leb-true, le-leb, not-true}
-use lib.Pow.{pow-pos, shr-shr, shr-lt}
+use lib.Pow.{shr-shr, shr-lt}
 use lib.Count.{ones}
 use lib.ListN.{length, getD, set, length-set, List·getD-eq-default}
-use lib.Seq.{ext-getD, getD-set-same, getD-set-other, set-out}
-use Rattle.lists.specs.Fold.{fold, fold-step, tab, length-tab, getD-tab, tab-same}
+use lib.Seq.{ext-getD, getD-set-same, getD-set-other}
+use Rattle.lists.specs.Fold.{tab, length-tab, getD-tab, tab-same}
 use Rattle.lists.specs.Any.{any, any-in, any-out}
-use Rattle.marks.specs.Marks.{isMarked, tally, markedCount}
-use Rattle.marks.specs.MarksLaws.{marked-most}
-use Rattle.words.specs.Words.{bitOf, bitAt, entriesOf, wordCount, packed, wordOf, wordsOf, unusedSet, AreWords, Tidy, Holds}
-use Rattle.words.specs.ByWords.{addOnes, onesCount, putBit, putAt, noBits}
-use Rattle.words.specs.BitLaws.{alike, below-or-from, same-or-not, bit-lt, bits-same, zero-bits, some-bit, one-below, packed-lt, packed-bit, packed-same, put-bit, put-other, put-lt, total, total-same, total-split, total-zero, fold-total, ones-total}
+use Rattle.marks.specs.Marks.{isMarked, markedBelow, markedCount}
+use Rattle.words.specs.Words.{bitOf, bitAt, entriesOf, wordCount, wordOf, wordsOf, unusedSet, AreWords, Tidy, Holds}
+use Rattle.words.specs.ByWords.{putBit, putAt, noBits}
+use Rattle.words.specs.BitLaws.{alike, below-or-from, same-or-not, bit-lt, bits-same, zero-bits, some-bit, packed-lt, packed-bit, put-bit, put-other, put-lt, total, total-same, total-split, total-zero, total-most, fold-total, low-ones}
 
 -- entries of 0 and 1
 abbrev pub AreEntries : List ℕ → Type 0
@@ -302,52 +301,60 @@ put-words entries i v h p =
 
 -- ---- counts
 
-pub marked-total : (entries : List ℕ) → markedCount entries ≡ total (λ i. cond (isMarked entries i) 1 0) (length entries) 0
-unfolding markedCount
-marked-total entries = fold-total (λ i. cond (isMarked entries i) 1 0) (length entries) 0 0 ∙ zero-add _
-
-module _ (words : List ℕ) (a : AreWords words) where
-  runs : (m k : ℕ) → total (bitAt words) (m * 64) (k * 64) ≡ total (λ j. ones (getD words j 0)) m k
-  unfolding total
-  runs zero k = refl
-  runs (suc m) k =
-      let s : suc m * 64 ≡ 64 + m * 64 = omega arith in
-      let n : k * 64 + 64 ≡ (k + 1) * 64 = omega arith in
-      let first : total (bitAt words) 64 (k * 64) ≡ ones (getD words k 0) = total-same (bitAt words) (bitOf (getD words k 0)) 64 (k * 64) 0 (λ j h.
-      let d : (k * 64 + j) / 64 ≡ k = omega arith in
-      let r : (k * 64 + j) % 64 ≡ 0 + j = omega arith in
-      ap₂ (λ (x y : ℕ). bitOf (getD words x 0) y) d r) ∙ ones-total 64 (getD words k 0) (a k) in
-      let rest : total (bitAt words) (m * 64) (k * 64 + 64) ≡ total (λ j. ones (getD words j 0)) m (k + 1) = ap (total (bitAt words) (m * 64)) n ∙ runs m (k + 1) in
-      ap (λ (y : ℕ). total (bitAt words) y (k * 64)) s ∙ total-split (bitAt words) 64 (m * 64) (k * 64) ∙ ap₂ (λ (x y : ℕ). x + y) first rest
-
-  -- the ones of a tidy mask are its marked entries
-  pub ones-marked : (n : ℕ) → Tidy words n → onesCount words ≡ markedCount (entriesOf words n)
-  unfolding onesCount
-  ones-marked n t =
-      let m : ℕ = length words * 64 - n in
-      let l : length words * 64 ≡ n + m = omega (arith, t .long) in
-      let whole : total (bitAt words) (length words * 64) 0 ≡ total (λ j. ones (getD words j 0)) (length words) 0 = runs (length words) 0 in
-      let used : total (bitAt words) (length words * 64) 0 ≡ total (bitAt words) n 0 + total (bitAt words) m (0 + n) = ap (λ (y : ℕ). total (bitAt words) y 0) l ∙ total-split (bitAt words) n m 0 in
-      let unused : total (bitAt words) m (0 + n) ≡ 0 = total-zero (bitAt words) m (0 + n) (λ j h. clean-bits words n t j (omega arith)) in
+module _ (words : List ℕ) where
+  -- the marks below p are the set bits below p
+  pub marked-bits : (n p : ℕ) → p ≤ n → markedBelow (entriesOf words n) p ≡ total (bitAt words) p 0
+  marked-bits n p h =
       let e : List ℕ = entriesOf words n in
-      let marked : markedCount e ≡ total (bitAt words) n 0 = marked-total e ∙ ap (λ (y : ℕ). total (λ i. cond (isMarked e i) 1 0) y 0) (entries-length words n) ∙ total-same (λ i. cond (isMarked e i) 1 0) (bitAt words) n 0 0 (λ j h.
-      ap (λ (y : ℕ). cond {A = ℕ} (eqb y 1) 1 0) (entries-at words n (0 + j) (omega arith)) ∙ bit-says (bitAt words (0 + j)) (bit-at-lt words (0 + j))) in
-      fold-total (λ j. ones (getD words j 0)) (length words) 0 0 ∙ omega arith
+      fold-total (λ i. cond (isMarked e i) 1 0) p 0 0 ∙ zero-add _ ∙ total-same (λ i. cond (isMarked e i) 1 0) (bitAt words) p 0 0 (λ j q.
+      ap (λ (y : ℕ). cond {A = ℕ} (eqb y 1) 1 0) (entries-at words n (0 + j) (omega arith)) ∙ bit-says (bitAt words (0 + j)) (bit-at-lt words (0 + j)))
 
-  -- while they are counted, there is room for the next word's
-  pub ones-room : (n k c : ℕ) → Tidy words n → k < length words → onesCount words ≡ fold (addOnes words) (length words - k) k c → c + ones (getD words k 0) ≤ n
-  ones-room n k c t h e =
-      let s : onesCount words ≡ c + ones (getD words k 0) + total (λ j. ones (getD words j 0)) (length words - (k + 1)) (k + 1) =
-      e ∙ fold-step (addOnes words) k (length words) c h ∙ fold-total (λ j. ones (getD words j 0)) (length words - (k + 1)) (k + 1) (c + ones (getD words k 0)) in
-      omega (arith, ones-marked n t, marked-most (entriesOf words n), entries-length words n)
+  -- at most p
+  pub bits-most : (p : ℕ) → total (bitAt words) p 0 ≤ p
+  bits-most p = total-most (bitAt words) p 0 (bit-at-lt words)
+
+  -- those below place r of word k: the ones of the words before it, and of its lowest r bits
+  pub bits-part : (k r : ℕ) → r ≤ 64 → total (bitAt words) (k * 64) 0 + ones (getD words k 0 % 2 ^ r) ≡ total (bitAt words) (k * 64 + r) 0
+  bits-part k r h =
+      let w : ℕ = getD words k 0 in
+      let here : total (bitAt words) r (0 + k * 64) ≡ total (bitOf w) r 0 = total-same (bitAt words) (bitOf w) r (0 + k * 64) 0 (λ j q.
+      let d : (0 + k * 64 + j) / 64 ≡ k = omega arith in
+      let m : (0 + k * 64 + j) % 64 ≡ 0 + j = omega arith in
+      ap₂ (λ (x y : ℕ). bitOf (getD words x 0) y) d m) in
+      omega (arith, here, low-ones r w, total-split (bitAt words) (k * 64) r 0)
+
+  -- and of all of it
+  pub bits-word : AreWords words → (k : ℕ) → total (bitAt words) (k * 64) 0 + ones (getD words k 0) ≡ total (bitAt words) ((k + 1) * 64) 0
+  bits-word a k =
+      let w : getD words k 0 % 2 ^ 64 ≡ getD words k 0 = mod-eq-of-lt (a k) in
+      let n : k * 64 + 64 ≡ (k + 1) * 64 = omega arith in
+      ap (λ (y : ℕ). total (bitAt words) (k * 64) 0 + ones y) (sym w) ∙ bits-part k 64 (omega arith) ∙ ap (λ (y : ℕ). total (bitAt words) y 0) n
+
+  -- tidy words have no bit set from n on
+  module _ (n : ℕ) (t : Tidy words n) where
+    -- so that all the marks are counted below any place from n on
+    pub ones-marked : (p : ℕ) → n ≤ p → total (bitAt words) p 0 ≡ markedCount (entriesOf words n)
+    unfolding markedCount
+    ones-marked p h =
+        let m : ℕ = p - n in
+        let l : p ≡ n + m = omega arith in
+        let unused : total (bitAt words) m (0 + n) ≡ 0 = total-zero (bitAt words) m (0 + n) (λ j q. clean-bits words n t j (omega arith)) in
+        let used : total (bitAt words) p 0 ≡ total (bitAt words) n 0 + total (bitAt words) m (0 + n) = ap (λ (y : ℕ). total (bitAt words) y 0) l ∙ total-split (bitAt words) n m 0 in
+        let e : List ℕ = entriesOf words n in
+        let all : markedBelow e (length e) ≡ markedBelow e n = ap (markedBelow e) (entries-length words n) in
+        omega (arith, used, unused, all, marked-bits n n (omega arith))
+
+    -- and are at most n
+    pub bits-room : (p : ℕ) → total (bitAt words) p 0 ≤ n
+    bits-room p = go (below-or-from p n)
+      where
+        go : (p < n) ⊎ (n ≤ p) → total (bitAt words) p 0 ≤ n
+        go (inl h) = omega (arith, bits-most p)
+        go (inr h) = omega (arith, ones-marked p h, ones-marked n (omega arith), bits-most n)
 
 -- words that hold a mask are its words
 pub holds-words : {words : List ℕ} {n : ℕ} {entries : List ℕ} → AreWords words → Holds words n entries → words ≡ wordsOf entries
 holds-words {words} {n} a h = sym (words-entries words n a (h .tidy)) ∙ ap wordsOf (h .same)
-
--- the ones of a mask's words are its marked entries
-pub ones-words : (entries : List ℕ) → AreEntries entries → onesCount (wordsOf entries) ≡ markedCount entries
-ones-words entries h = ones-marked (wordsOf entries) (words-are entries) (length entries) (words-tidy entries) ∙ ap markedCount (entries-words entries h)
 
 -- ---- no bit set
 

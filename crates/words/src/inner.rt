@@ -1,7 +1,7 @@
 // Reads and changes of a mask in words.
 ghost use mathlib.Core.Path.{_≡_};
 ghost use mathlib.Core.Bool.{cond};
-ghost use Prim.Native.Nat.{ℕ, _+_, _-_, _*_, _/_, _<_, _≤_};
+ghost use Prim.Native.Nat.{ℕ, _+_, _-_, _*_, _/_, _%_, _^_, _<_, _≤_};
 ghost use lib.Count.{ones, trailingZeros};
 ghost use lib.Dec.{eqb};
 ghost use lib.ListN.{length, set};
@@ -19,7 +19,7 @@ pub fn bit_at(words: &[u64], i: usize) -> u8
     ((words[i / 64] >> (i % 64)) % 2) as u8
 }
 
-// Whether voxel i is marked, as it is in the entries of any number of voxels that has it. Code that reads a mask asks here.
+// Whether voxel i is marked, as it is in the entries of any number of voxels that has it. Code that asks of one voxel asks here.
 pub fn is_marked(words: &[u64], i: usize) -> bool
     requires { ⌜ i / 64 < length (now words) ⌝ }
     ensures { λ r. ⌜ ((n : ℕ) → i < n → r ≡ isMarked (entriesOf (now (words .entry)) n) i) ⌝ }
@@ -245,13 +245,21 @@ pub fn count_below(words: &[u64], p: usize) -> u64
     if p % 64 == 0 {
         return c;
     }
-    c + ones_of(words[last] << (64 - p % 64))
+    c + ones_below(words[last], p % 64)
 }
 
 fn ones_of(w: u64) -> u64
     ensures { λ r. ⌜ (r ≡ ones w) × (r ≤ 64) ⌝ }
 {
     u64::count_ones(w) as u64
+}
+
+// The ones below place j.
+fn ones_below(w: u64, j: usize) -> u64
+    requires { ⌜ j < 64 ⌝ }
+    ensures { λ r. ⌜ (r ≡ ones (w % 2 ^ j)) × (r ≤ j) ⌝ }
+{
+    ones_of(w % (1 << j))
 }
 
 // Whether a bit past the last of n voxels is set.
