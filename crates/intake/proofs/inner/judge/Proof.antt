@@ -114,22 +114,18 @@ returns-8 c =
 voxel-cost-requires : tie.Need-voxel-cost-requires
 voxel-cost-requires c κs = lamps-row _ .0 (sym (c .before .bad-lamps .ensures) ∙ c .if8 .left) .0
 
+bad-progress-requires : tie.Need-bad-progress-requires
+bad-progress-requires c κs =
+    let t = c .before .before .before .before .before .before .before .before .before .before .before in (
+      rw (t .before .before .before .voxel-count .ensures)
+          (voxels-most _ (axes-row _ .0 (sym (t .before .before .before .before .before .before .before .bad-axes .ensures) ∙ t .before .before .before .before .before .before .if1 .left))),
+      long (sym (t .before .wrong-lengths .ensures) ∙ either (t .before .before .wrong-scene .result) _ .0 (t .if3 .left) .1) .active,
+      lamps-row _ .0 (sym (c .before .before .bad-lamps .ensures) ∙ c .before .if8 .left) .0,
+    )
+
 returns-9 : tie.Need-returns-9
 unfolding bakeRefusal bakeRows
 returns-9 c =
-    row-passed _ _ _ _ (sym (c .before .before .before .before .before .before .before .before .before .before .before .before .before .before .before .before .before .before .before .bad-axes .ensures) ∙ c .before .before .before .before .before .before .before .before .before .before .before .before .before .before .before .before .before .before .if1 .left)
-    (row-passed _ _ _ _ (sym (c .before .before .before .before .before .before .before .before .before .before .before .before .before .before .before .before .before .bad-grid .ensures) ∙ c .before .before .before .before .before .before .before .before .before .before .before .before .before .before .before .before .if2 .left)
-    (row-passed _ _ _ _ (lists-row _ _ (c .before .before .before .before .before .before .before .before .before .before .before .before .before .before .before .voxel-count .ensures) (c .before .before .before .before .before .before .before .before .before .before .before .before .before .before .wrong-scene .ensures) (c .before .before .before .before .before .before .before .before .before .before .before .before .before .wrong-lengths .ensures) (c .before .before .before .before .before .before .before .before .before .before .before .before .if3 .left))
-    (row-passed _ _ _ _ (sym (c .before .before .before .before .before .before .before .before .before .before .before .too-many .ensures) ∙ c .before .before .before .before .before .before .before .before .before .before .if4 .left)
-    (row-passed _ _ _ _ (sym (c .before .before .before .before .before .before .before .before .before .bad-points .ensures) ∙ c .before .before .before .before .before .before .before .before .if5 .left)
-    (row-passed _ _ _ _ (sym (c .before .before .before .before .before .before .before .bad-materials .ensures) ∙ c .before .before .before .before .before .before .if6 .left)
-    (row-passed _ _ _ _ (sym (c .before .before .before .before .before .bad-lighting .ensures) ∙ c .before .before .before .before .if7 .left)
-    (row-passed _ _ _ _ (sym (c .before .before .before .bad-lamps .ensures) ∙ c .before .before .if8 .left)
-    (row-holds _ _ _ (rw (← c .before .before .before .before .before .before .before .before .before .before .before .before .before .before .before .voxel-count .ensures) (lt-ltb _ _ (c .if9 .taken)))))))))))
-
-returns-10 : tie.Need-returns-10
-unfolding bakeRefusal bakeRows
-returns-10 c =
     row-passed _ _ _ _ (sym (c .before .before .before .before .before .before .before .before .before .before .before .before .before .before .before .before .before .before .before .before .bad-axes .ensures) ∙ c .before .before .before .before .before .before .before .before .before .before .before .before .before .before .before .before .before .before .before .if1 .left)
     (row-passed _ _ _ _ (sym (c .before .before .before .before .before .before .before .before .before .before .before .before .before .before .before .before .before .before .bad-grid .ensures) ∙ c .before .before .before .before .before .before .before .before .before .before .before .before .before .before .before .before .before .if2 .left)
     (row-passed _ _ _ _ (lists-row _ _ (c .before .before .before .before .before .before .before .before .before .before .before .before .before .before .before .before .voxel-count .ensures) (c .before .before .before .before .before .before .before .before .before .before .before .before .before .before .before .wrong-scene .ensures) (c .before .before .before .before .before .before .before .before .before .before .before .before .before .before .wrong-lengths .ensures) (c .before .before .before .before .before .before .before .before .before .before .before .before .before .if3 .left))
@@ -138,43 +134,56 @@ returns-10 c =
     (row-passed _ _ _ _ (sym (c .before .before .before .before .before .before .before .before .bad-materials .ensures) ∙ c .before .before .before .before .before .before .before .if6 .left)
     (row-passed _ _ _ _ (sym (c .before .before .before .before .before .before .bad-lighting .ensures) ∙ c .before .before .before .before .before .if7 .left)
     (row-passed _ _ _ _ (sym (c .before .before .before .before .bad-lamps .ensures) ∙ c .before .before .before .if8 .left)
-    (row-passed _ _ _ _ (le-ltb _ _ (rw (c .before .before .before .before .before .before .before .before .before .before .before .before .before .before .before .before .voxel-count .ensures) at (c .before .if9 .left)))
-    (row-holds _ _ _ (lt-ltb _ _ (rw (c .before .before .voxel-cost .ensures) at (c .if10 .taken))))))))))))
+    (row-holds _ _ _ (rw (c .before .before .before .before .before .before .before .before .before .before .before .before .before .before .before .before .voxel-count .ensures) at (sym (c .before .bad-progress .ensures) ∙ c .if9 .taken))))))))))
+
+returns-10 : tie.Need-returns-10
+unfolding bakeRefusal bakeRows
+returns-10 c =
+    row-passed _ _ _ _ (sym (c .before .before .before .before .before .before .before .before .before .before .before .before .before .before .before .before .before .before .before .before .before .bad-axes .ensures) ∙ c .before .before .before .before .before .before .before .before .before .before .before .before .before .before .before .before .before .before .before .before .if1 .left)
+    (row-passed _ _ _ _ (sym (c .before .before .before .before .before .before .before .before .before .before .before .before .before .before .before .before .before .before .before .bad-grid .ensures) ∙ c .before .before .before .before .before .before .before .before .before .before .before .before .before .before .before .before .before .before .if2 .left)
+    (row-passed _ _ _ _ (lists-row _ _ (c .before .before .before .before .before .before .before .before .before .before .before .before .before .before .before .before .before .voxel-count .ensures) (c .before .before .before .before .before .before .before .before .before .before .before .before .before .before .before .before .wrong-scene .ensures) (c .before .before .before .before .before .before .before .before .before .before .before .before .before .before .before .wrong-lengths .ensures) (c .before .before .before .before .before .before .before .before .before .before .before .before .before .before .if3 .left))
+    (row-passed _ _ _ _ (sym (c .before .before .before .before .before .before .before .before .before .before .before .before .before .too-many .ensures) ∙ c .before .before .before .before .before .before .before .before .before .before .before .before .if4 .left)
+    (row-passed _ _ _ _ (sym (c .before .before .before .before .before .before .before .before .before .before .before .bad-points .ensures) ∙ c .before .before .before .before .before .before .before .before .before .before .if5 .left)
+    (row-passed _ _ _ _ (sym (c .before .before .before .before .before .before .before .before .before .bad-materials .ensures) ∙ c .before .before .before .before .before .before .before .before .if6 .left)
+    (row-passed _ _ _ _ (sym (c .before .before .before .before .before .before .before .bad-lighting .ensures) ∙ c .before .before .before .before .before .before .if7 .left)
+    (row-passed _ _ _ _ (sym (c .before .before .before .before .before .bad-lamps .ensures) ∙ c .before .before .before .before .if8 .left)
+    (row-passed _ _ _ _ (rw (c .before .before .before .before .before .before .before .before .before .before .before .before .before .before .before .before .before .voxel-count .ensures) at (sym (c .before .before .bad-progress .ensures) ∙ c .before .if9 .left))
+    (row-holds _ _ _ (lt-ltb _ _ (rw (c .before .before .before .voxel-cost .ensures) at (c .if10 .taken))))))))))))
 
 bad-contents-requires : tie.Need-bad-contents-requires
 bad-contents-requires c κs =
-    let t = c .before .before .before .before .before .before .before .before .before .before .before .before .before in
+    let t = c .before .before .before .before .before .before .before .before .before .before .before .before .before .before in
     long (sym (t .before .wrong-lengths .ensures) ∙ either (t .before .before .wrong-scene .result) _ .0 (t .if3 .left) .1) .active
 
 returns-11 : tie.Need-returns-11
 unfolding bakeRefusal bakeRows
 returns-11 c =
-    row-passed _ _ _ _ (sym (c .before .before .before .before .before .before .before .before .before .before .before .before .before .before .before .before .before .before .before .before .before .before .bad-axes .ensures) ∙ c .before .before .before .before .before .before .before .before .before .before .before .before .before .before .before .before .before .before .before .before .before .if1 .left)
-    (row-passed _ _ _ _ (sym (c .before .before .before .before .before .before .before .before .before .before .before .before .before .before .before .before .before .before .before .before .bad-grid .ensures) ∙ c .before .before .before .before .before .before .before .before .before .before .before .before .before .before .before .before .before .before .before .if2 .left)
-    (row-passed _ _ _ _ (lists-row _ _ (c .before .before .before .before .before .before .before .before .before .before .before .before .before .before .before .before .before .before .voxel-count .ensures) (c .before .before .before .before .before .before .before .before .before .before .before .before .before .before .before .before .before .wrong-scene .ensures) (c .before .before .before .before .before .before .before .before .before .before .before .before .before .before .before .before .wrong-lengths .ensures) (c .before .before .before .before .before .before .before .before .before .before .before .before .before .before .before .if3 .left))
-    (row-passed _ _ _ _ (sym (c .before .before .before .before .before .before .before .before .before .before .before .before .before .before .too-many .ensures) ∙ c .before .before .before .before .before .before .before .before .before .before .before .before .before .if4 .left)
-    (row-passed _ _ _ _ (sym (c .before .before .before .before .before .before .before .before .before .before .before .before .bad-points .ensures) ∙ c .before .before .before .before .before .before .before .before .before .before .before .if5 .left)
-    (row-passed _ _ _ _ (sym (c .before .before .before .before .before .before .before .before .before .before .bad-materials .ensures) ∙ c .before .before .before .before .before .before .before .before .before .if6 .left)
-    (row-passed _ _ _ _ (sym (c .before .before .before .before .before .before .before .before .bad-lighting .ensures) ∙ c .before .before .before .before .before .before .before .if7 .left)
-    (row-passed _ _ _ _ (sym (c .before .before .before .before .before .before .bad-lamps .ensures) ∙ c .before .before .before .before .before .if8 .left)
-    (row-passed _ _ _ _ (le-ltb _ _ (rw (c .before .before .before .before .before .before .before .before .before .before .before .before .before .before .before .before .before .before .voxel-count .ensures) at (c .before .before .before .if9 .left)))
-    (row-passed _ _ _ _ (le-ltb _ _ (rw (c .before .before .before .before .voxel-cost .ensures) at (c .before .before .if10 .left)))
-    (row-holds _ _ _ (rw (c .before .before .before .before .before .before .before .before .before .before .before .before .before .before .before .before .before .before .voxel-count .ensures) at (sym (c .before .bad-contents .ensures) ∙ c .if11 .taken))))))))))))
+    row-passed _ _ _ _ (sym (c .before .before .before .before .before .before .before .before .before .before .before .before .before .before .before .before .before .before .before .before .before .before .before .bad-axes .ensures) ∙ c .before .before .before .before .before .before .before .before .before .before .before .before .before .before .before .before .before .before .before .before .before .before .if1 .left)
+    (row-passed _ _ _ _ (sym (c .before .before .before .before .before .before .before .before .before .before .before .before .before .before .before .before .before .before .before .before .before .bad-grid .ensures) ∙ c .before .before .before .before .before .before .before .before .before .before .before .before .before .before .before .before .before .before .before .before .if2 .left)
+    (row-passed _ _ _ _ (lists-row _ _ (c .before .before .before .before .before .before .before .before .before .before .before .before .before .before .before .before .before .before .before .voxel-count .ensures) (c .before .before .before .before .before .before .before .before .before .before .before .before .before .before .before .before .before .before .wrong-scene .ensures) (c .before .before .before .before .before .before .before .before .before .before .before .before .before .before .before .before .before .wrong-lengths .ensures) (c .before .before .before .before .before .before .before .before .before .before .before .before .before .before .before .before .if3 .left))
+    (row-passed _ _ _ _ (sym (c .before .before .before .before .before .before .before .before .before .before .before .before .before .before .before .too-many .ensures) ∙ c .before .before .before .before .before .before .before .before .before .before .before .before .before .before .if4 .left)
+    (row-passed _ _ _ _ (sym (c .before .before .before .before .before .before .before .before .before .before .before .before .before .bad-points .ensures) ∙ c .before .before .before .before .before .before .before .before .before .before .before .before .if5 .left)
+    (row-passed _ _ _ _ (sym (c .before .before .before .before .before .before .before .before .before .before .before .bad-materials .ensures) ∙ c .before .before .before .before .before .before .before .before .before .before .if6 .left)
+    (row-passed _ _ _ _ (sym (c .before .before .before .before .before .before .before .before .before .bad-lighting .ensures) ∙ c .before .before .before .before .before .before .before .before .if7 .left)
+    (row-passed _ _ _ _ (sym (c .before .before .before .before .before .before .before .bad-lamps .ensures) ∙ c .before .before .before .before .before .before .if8 .left)
+    (row-passed _ _ _ _ (rw (c .before .before .before .before .before .before .before .before .before .before .before .before .before .before .before .before .before .before .before .voxel-count .ensures) at (sym (c .before .before .before .before .bad-progress .ensures) ∙ c .before .before .before .if9 .left))
+    (row-passed _ _ _ _ (le-ltb _ _ (rw (c .before .before .before .before .before .voxel-cost .ensures) at (c .before .before .if10 .left)))
+    (row-holds _ _ _ (rw (c .before .before .before .before .before .before .before .before .before .before .before .before .before .before .before .before .before .before .before .voxel-count .ensures) at (sym (c .before .bad-contents .ensures) ∙ c .if11 .taken))))))))))))
 
 returns-12 : tie.Need-returns-12
 unfolding bakeRefusal bakeRows
 returns-12 c =
-    row-passed _ _ _ _ (sym (c .before .before .before .before .before .before .before .before .before .before .before .before .before .before .before .before .before .before .before .before .before .before .bad-axes .ensures) ∙ c .before .before .before .before .before .before .before .before .before .before .before .before .before .before .before .before .before .before .before .before .before .if1 .left)
-    (row-passed _ _ _ _ (sym (c .before .before .before .before .before .before .before .before .before .before .before .before .before .before .before .before .before .before .before .before .bad-grid .ensures) ∙ c .before .before .before .before .before .before .before .before .before .before .before .before .before .before .before .before .before .before .before .if2 .left)
-    (row-passed _ _ _ _ (lists-row _ _ (c .before .before .before .before .before .before .before .before .before .before .before .before .before .before .before .before .before .before .voxel-count .ensures) (c .before .before .before .before .before .before .before .before .before .before .before .before .before .before .before .before .before .wrong-scene .ensures) (c .before .before .before .before .before .before .before .before .before .before .before .before .before .before .before .before .wrong-lengths .ensures) (c .before .before .before .before .before .before .before .before .before .before .before .before .before .before .before .if3 .left))
-    (row-passed _ _ _ _ (sym (c .before .before .before .before .before .before .before .before .before .before .before .before .before .before .too-many .ensures) ∙ c .before .before .before .before .before .before .before .before .before .before .before .before .before .if4 .left)
-    (row-passed _ _ _ _ (sym (c .before .before .before .before .before .before .before .before .before .before .before .before .bad-points .ensures) ∙ c .before .before .before .before .before .before .before .before .before .before .before .if5 .left)
-    (row-passed _ _ _ _ (sym (c .before .before .before .before .before .before .before .before .before .before .bad-materials .ensures) ∙ c .before .before .before .before .before .before .before .before .before .if6 .left)
-    (row-passed _ _ _ _ (sym (c .before .before .before .before .before .before .before .before .bad-lighting .ensures) ∙ c .before .before .before .before .before .before .before .if7 .left)
-    (row-passed _ _ _ _ (sym (c .before .before .before .before .before .before .bad-lamps .ensures) ∙ c .before .before .before .before .before .if8 .left)
-    (row-passed _ _ _ _ (le-ltb _ _ (rw (c .before .before .before .before .before .before .before .before .before .before .before .before .before .before .before .before .before .before .voxel-count .ensures) at (c .before .before .before .if9 .left)))
-    (row-passed _ _ _ _ (le-ltb _ _ (rw (c .before .before .before .before .voxel-cost .ensures) at (c .before .before .if10 .left)))
-    (row-passed _ _ _ _ (rw (c .before .before .before .before .before .before .before .before .before .before .before .before .before .before .before .before .before .before .voxel-count .ensures) at (sym (c .before .bad-contents .ensures) ∙ c .if11 .left))
+    row-passed _ _ _ _ (sym (c .before .before .before .before .before .before .before .before .before .before .before .before .before .before .before .before .before .before .before .before .before .before .before .bad-axes .ensures) ∙ c .before .before .before .before .before .before .before .before .before .before .before .before .before .before .before .before .before .before .before .before .before .before .if1 .left)
+    (row-passed _ _ _ _ (sym (c .before .before .before .before .before .before .before .before .before .before .before .before .before .before .before .before .before .before .before .before .before .bad-grid .ensures) ∙ c .before .before .before .before .before .before .before .before .before .before .before .before .before .before .before .before .before .before .before .before .if2 .left)
+    (row-passed _ _ _ _ (lists-row _ _ (c .before .before .before .before .before .before .before .before .before .before .before .before .before .before .before .before .before .before .before .voxel-count .ensures) (c .before .before .before .before .before .before .before .before .before .before .before .before .before .before .before .before .before .before .wrong-scene .ensures) (c .before .before .before .before .before .before .before .before .before .before .before .before .before .before .before .before .before .wrong-lengths .ensures) (c .before .before .before .before .before .before .before .before .before .before .before .before .before .before .before .before .if3 .left))
+    (row-passed _ _ _ _ (sym (c .before .before .before .before .before .before .before .before .before .before .before .before .before .before .before .too-many .ensures) ∙ c .before .before .before .before .before .before .before .before .before .before .before .before .before .before .if4 .left)
+    (row-passed _ _ _ _ (sym (c .before .before .before .before .before .before .before .before .before .before .before .before .before .bad-points .ensures) ∙ c .before .before .before .before .before .before .before .before .before .before .before .before .if5 .left)
+    (row-passed _ _ _ _ (sym (c .before .before .before .before .before .before .before .before .before .before .before .bad-materials .ensures) ∙ c .before .before .before .before .before .before .before .before .before .before .if6 .left)
+    (row-passed _ _ _ _ (sym (c .before .before .before .before .before .before .before .before .before .bad-lighting .ensures) ∙ c .before .before .before .before .before .before .before .before .if7 .left)
+    (row-passed _ _ _ _ (sym (c .before .before .before .before .before .before .before .bad-lamps .ensures) ∙ c .before .before .before .before .before .before .if8 .left)
+    (row-passed _ _ _ _ (rw (c .before .before .before .before .before .before .before .before .before .before .before .before .before .before .before .before .before .before .before .voxel-count .ensures) at (sym (c .before .before .before .before .bad-progress .ensures) ∙ c .before .before .before .if9 .left))
+    (row-passed _ _ _ _ (le-ltb _ _ (rw (c .before .before .before .before .before .voxel-cost .ensures) at (c .before .before .if10 .left)))
+    (row-passed _ _ _ _ (rw (c .before .before .before .before .before .before .before .before .before .before .before .before .before .before .before .before .before .before .before .voxel-count .ensures) at (sym (c .before .bad-contents .ensures) ∙ c .if11 .left))
     rows-passed))))))))))
 
 pub judge-spec : {M : Type 1} → statement M
@@ -200,6 +209,7 @@ judge-spec =
     bad-lamps-requires
     returns-8
     voxel-cost-requires
+    bad-progress-requires
     returns-9
     returns-10
     bad-contents-requires
