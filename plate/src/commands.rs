@@ -178,7 +178,7 @@ fn bake_one(hall: &Hall, out: &Path, asked: &Baking, stop: &AtomicBool) -> Resul
             eprintln!("{}: going on from {}, {} rays so far", hall.name, part_path.display(), thousands(rays));
         }
     }
-    let begun = Instant::now();
+    let (begun, before) = (Instant::now(), from.as_ref().map_or(0.0, |part| part.seconds));
     // when the last line of JSON was written, and how many voxels were done at the start
     let last_line = std::sync::Mutex::new((None::<Instant>, None::<u64>));
     let tell = |told: Told| {
@@ -193,7 +193,7 @@ fn bake_one(hall: &Hall, out: &Path, asked: &Baking, stop: &AtomicBool) -> Resul
         if asked.json && last.0.map_or(true, |at| at.elapsed() >= Duration::from_secs(1)) {
             last.0 = Some(Instant::now());
             let line = serde_json::json!({ "event": "progress", "hall": hall.name, "voxels": told.voxels, "of": prepared.marked.active,
-                "rays": told.rays, "calls": told.calls, "seconds": begun.elapsed().as_secs_f64() });
+                "rays": told.rays, "calls": told.calls, "seconds": before + begun.elapsed().as_secs_f64() });
             println!("{line}");
         }
     };
