@@ -111,6 +111,30 @@ module _ {b : BakeInput} {p : Progress} {a : ℕ} {v x : List Float} (f : Fits b
         hits = w .hits;
       })
 
+-- ---- the rays so far
+
+module _ (b : BakeInput) (s : Stage Float) (a : ℕ) where
+  -- the rays that the answer is to know: what was handed in, and what the call fired
+  total : {n : ℕ} {r : Reached} {v x d d' : List Float} {q q' : List ℕ} → n ≡ bakeRefusal b s a → n ≡ 0 → Accepts (accepted (bakeOf b) a s) r v x d d' q q'
+      → s .progress .rays + r .rays ≡ bakeCall b s a .stage .progress .rays
+  total e z w =
+      ap (λ (n : ℕ). s .progress .rays + n) (w .rays ∙ sym (ap (λ (y : Called Float). y .rays) (accepted-call b s a (sym e ∙ z))))
+      ∙ sym (call-adds (bakeOf b) a s)
+
+  -- they are no more than what the active voxels below next may cost
+  pub total-fits : {n : ℕ} {r : Reached} {v x d d' : List Float} {q q' : List ℕ} → n ≡ bakeRefusal b s a → n ≡ 0 → Accepts (accepted (bakeOf b) a s) r v x d d' q q'
+      → s .progress .rays + r .rays < 18446744073709551616
+  total-fits e z w =
+      let r = sym e ∙ z in
+      let f = fits b s a (none-refused b s a .0 r) in
+      let k = call-leaves b s a r in
+      let p = bakeCall b s a .stage .progress in
+      let few : markedBelow (activeEntries b) (p .next) ≤ voxelLimit
+      = omega (arith, count-within (activeEntries b) (p .next) 0, k .within, voxels-most (b .axes) (f .axes)) in
+      let cost : bakeCost b ≤ 896 = omega (arith, f .lamps) in
+      let bound : markedBelow (activeEntries b) (p .next) * bakeCost b ≤ voxelLimit * 896 = mul-le-mul few cost in
+      omega (arith, total e z w, k .most)
+
 -- ---- and with the refusals
 
 module _ {b : BakeInput} {s : Stage Float} {a : ℕ} where
@@ -132,27 +156,6 @@ module _ {b : BakeInput} {s : Stage Float} {a : ℕ} where
   pub accepts : {n : ℕ} → n ≡ bakeRefusal b s a → n ≡ 0 → Fits b s a
   accepts e z = fits b s a (none-refused b s a .0 (sym e ∙ z))
 
-  -- the rays that the answer is to know: what was handed in, and what the call fired
-  total : {n : ℕ} {r : Reached} {v x d d' : List Float} {q q' : List ℕ} → n ≡ bakeRefusal b s a → n ≡ 0 → Accepts (accepted (bakeOf b) a s) r v x d d' q q'
-      → s .progress .rays + r .rays ≡ bakeCall b s a .stage .progress .rays
-  total e z w =
-      ap (λ (n : ℕ). s .progress .rays + n) (w .rays ∙ sym (ap (λ (y : Called Float). y .rays) (accepted-call b s a (sym e ∙ z))))
-      ∙ sym (call-adds (bakeOf b) a s)
-
-  -- they are no more than what the active voxels below next may cost
-  pub total-fits : {n : ℕ} {r : Reached} {v x d d' : List Float} {q q' : List ℕ} → n ≡ bakeRefusal b s a → n ≡ 0 → Accepts (accepted (bakeOf b) a s) r v x d d' q q'
-      → s .progress .rays + r .rays < 18446744073709551616
-  total-fits e z w =
-      let r = sym e ∙ z in
-      let f = accepts e z in
-      let k = call-leaves b s a r in
-      let p = bakeCall b s a .stage .progress in
-      let few : markedBelow (activeEntries b) (p .next) ≤ voxelLimit
-      = omega (arith, count-within (activeEntries b) (p .next) 0, k .within, voxels-most (b .axes) (f .axes)) in
-      let cost : bakeCost b ≤ 896 = omega (arith, f .lamps) in
-      let bound : markedBelow (activeEntries b) (p .next) * bakeCost b ≤ voxelLimit * 896 = mul-le-mul few cost in
-      omega (arith, total e z w, k .most)
-
   pub answers : {n : ℕ} {r : Reached} {v x d d' : List Float} {q q' : List ℕ} → n ≡ bakeRefusal b s a → n ≡ 0
       → Accepts (accepted (bakeOf b) a s) r v x d d' q q'
       → length d' ≡ length d
@@ -162,7 +165,7 @@ module _ {b : BakeInput} {s : Stage Float} {a : ℕ} where
       let c = sym (accepted-call b s a (sym e ∙ z)) in
       record {
         refusal = sym (accepted-none b s a) ∙ ap (λ (y : Called Float). y .refusal) c;
-        progress = ap₂ progressOf (w .next ∙ ap (λ (y : Called Float). y .stage .progress .next) c) (total e z w);
+        progress = ap₂ progressOf (w .next ∙ ap (λ (y : Called Float). y .stage .progress .next) c) (total b s a e z w);
         rays = w .rays ∙ ap (λ (y : Called Float). y .rays) c;
         volume = w .volume ∙ ap (λ (y : Called Float). y .stage .volume) c;
         scratch = w .scratch ∙ ap (λ (y : Called Float). y .stage .scratch) c;

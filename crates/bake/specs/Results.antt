@@ -4,7 +4,7 @@
 -- each active voxel; so A active voxels at allowances of k·384 or more, k at least 1, take at most ⌈A/k⌉ calls; no active voxel, one call." With L lamps
 -- 384+64L stands for 384. Document 02, C-16: "In demand 3, the counts' sum is also the record's last number." Definitions only; `demand-of-results` of ResultsLaws shows it of whatever satisfies the calls' contract.
 use mathlib.Core.Path.{_≡_}
-use mathlib.Core.Bool.{true}
+use mathlib.Core.Bool.{true, false}
 use mathlib.Core.Logic.{_⊎_}
 use mathlib.Core.List.{List, [], _∷_, map}
 use Prim.Native.Nat.{ℕ, _+_, _*_, _/_, _≤_, _<_}

@@ -105,11 +105,12 @@ pub fn bake(
         progress,
         allowance,
     );
+    let total = progress.rays + r.rays;
     BakeAnswer {
         refusal: 0,
         progress: Progress {
             next: r.next,
-            rays: progress.rays + r.rays,
+            rays: total,
         },
         rays: r.rays,
     }

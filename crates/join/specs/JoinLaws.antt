@@ -146,10 +146,6 @@ join-done axes share unblurred joined joined' e l = record { answer = e; joined-
 
 -- ---- how the copy goes, from mark to mark: below i all is joined, and i is marked or the end
 
--- the next mark from i on lies from i on
-pub next-onward : (f : ℕ → Bool) (n i : ℕ) → i ≤ n → i ≤ nextFrom f n (n - i) i
-next-onward f n i h = next-carries f n (λ j. i ≤ j) (λ j l e p. omega arith) (n - i) i (omega arith) (omega arith)
-
 module _ (n : ℕ) (has : ℕ → Bool) (from to : List Float) where
   abbrev below : ℕ → ℕ → Bool
   below i j = ltb j i && has j

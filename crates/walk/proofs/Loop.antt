@@ -12,6 +12,7 @@ use Rattle.lists.specs.Laid.{length-replaced}
 use Rattle.marks.specs.Marks.{isMarked}
 use Rattle.words.specs.Words.{entriesOf, Tidy}
 use Rattle.words.specs.ByWords.{nextFrom}
+use Rattle.words.specs.NextLaws.{next-from}
 use Rattle.grid.specs.GridLaws.{voxels-most}
 use Rattle.spread.specs.Spread.{Walked, walked, more, walk}
 use Rattle.spread.specs.Walks.{so-far-stop, so-far-end, so-far-skip, so-far-take}
@@ -19,7 +20,7 @@ use Rattle.gather.specs.Gather.{gatheredOf}
 use Rattle.gather.specs.GatherLaws.{length-gathered, cost-least, cost-most}
 use Rattle.intake.specs.Intake.{BakeInput, voxelNumbers, voxelCount, activeEntries, bakeCost}
 use Rattle.demand.specs.Bake.{gatherInput, bakeOf}
-use Rattle.walk.specs.Next.{next-from, so-far-next}
+use Rattle.walk.specs.Next.{so-far-next}
 use Rattle.walk.specs.Reports.{Takeable, Taken, Walkable, Unhit, Reports}
 
 pub record SoFar (b : BakeInput) (v₀ d₀ : List Float) (p₀ : List ℕ) (start allowance : ℕ) (v d : List Float) (p : List ℕ) (i r : ℕ) : Type 0 where

@@ -2,21 +2,11 @@
 use mathlib.Core.Path.{_≡_, refl, ap, _∙_}
 use mathlib.Core.Bool.{Bool, true, false, cond}
 use mathlib.Core.List.{List}
-use Prim.Native.Nat.{ℕ, zero, suc, _+_, _-_, _≤_}
+use Prim.Native.Nat.{ℕ, zero, suc, _+_, _-_}
 use native.Mathlib.Omega.{arith}
 use Rattle.words.specs.ByWords.{nextFrom}
 use Rattle.spread.specs.Spread.{Bake, Walked, more, walk}
 use Rattle.spread.specs.Walks.{so-far-skip}
-
--- the next one lies from i on
-pub next-from : (f : ℕ → Bool) (n k i : ℕ) → i + k ≡ n → i ≤ nextFrom f n k i
-unfolding nextFrom
-next-from f n zero i h = omega arith
-next-from f n (suc k) i h = go (f i) (next-from f n k (i + 1) (omega arith))
-  where
-    go : (x : Bool) → i + 1 ≤ nextFrom f n k (i + 1) → i ≤ cond x i (nextFrom f n k (i + 1))
-    go true s = omega arith
-    go false s = omega arith
 
 -- w is a walk that has fired r rays of a and stands at voxel i of n with the volume v
 module _ {A : Type 0} (b : Bake A) {w : Walked A} (r a n : ℕ) (v : List A) where

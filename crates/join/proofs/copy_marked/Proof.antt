@@ -4,7 +4,8 @@ use Prim.Native.Nat.{_+_, _-_}
 use native.Mathlib.Omega.{arith}
 use Rattle.marks.specs.Marks.{isMarked}
 use Rattle.words.specs.Words.{entriesOf}
-use Rattle.join.specs.JoinLaws.{next-onward, Copied, copied-none, copied-next, copied-all, copied-long}
+use Rattle.words.specs.NextLaws.{next-from}
+use Rattle.join.specs.JoinLaws.{Copied, copied-none, copied-next, copied-all, copied-long}
 use Rattle.join.proofs.copy_marked.Statement.{statement}
 use Rattle.join.proofs.copy_marked.Tie as tie
 
@@ -42,7 +43,7 @@ loop-less : tie.Need-loop-less Inv-loop μ-loop
 loop-less c =
     let s = c .before .before .before .before .before .before .before .before .before .before .before in
     let l = c .before .before .before .before .before .before .loop in
-    omega (arith, c .next-marked2 .ensures, next-onward (isMarked (entriesOf (s .args .share .now) (s .args .n))) (s .args .n) (l .i + 1) (omega arith))
+    omega (arith, c .next-marked2 .ensures, next-from (isMarked (entriesOf (s .args .share .now) (s .args .n))) (s .args .n) (s .args .n - (l .i + 1)) (l .i + 1) (omega arith))
 
 loop-again : tie.Need-loop-again Inv-loop μ-loop
 loop-again c =
