@@ -1,7 +1,7 @@
 /* Geaidnosa 0.3.0: the public calls of the light bake, for C and C++ on x86-64. Link libgeaidnosa.a.
  *
  * A bake, call by call. geaidnosa_masks marks the voxels at and near surfaces; geaidnosa_sun finds how much of the sun each of them sees;
- * geaidnosa_directions gives the directions along which the caller fills the sky; geaidnosa_bake, called until its progress has next at the voxel count, fills the
+ * geaidnosa_directions gives the directions along which the caller fills the sky; geaidnosa_bake, called until its progress is at the voxel count, fills the
  * volume; geaidnosa_coefficients_at, geaidnosa_light_at and the frame calls read it; geaidnosa_write_volume and geaidnosa_read_volume store it and bring
  * it back. tools/host/sky.c is such a program in a page.
  *

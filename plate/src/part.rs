@@ -8,6 +8,8 @@ use geaidnosa::{marked_count, Progress, LEAST_RAYS};
 use serde::{Deserialize, Serialize};
 use std::path::{Path, PathBuf};
 
+/// What a part file of any version begins with.
+pub const KIND: &[u8] = b"plate-part-";
 const MARK: &str = "plate-part-2";
 /// Of files whose shares were no record of the library's.
 const EARLIER: &str = "plate-part-1";

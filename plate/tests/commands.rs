@@ -438,6 +438,7 @@ fn stops_are_saved_and_changed_inputs_are_refused() {
     let counted = format!("{} of {} voxels, {} rays", hall::thousands(voxels), hall::thousands(marked_count(&active)), hall::thousands(rays));
     assert!(words(&output).contains(&format!("stopped at {counted} so far")), "{}", words(&output));
     says(at, &["plan", "hall.toml", "--sample", "5000"], 0, &[&format!("so far in hall.vgrd.part: {counted}")]);
+    says(at, &["stats", "hall.vgrd.part"], 3, &["hall.vgrd.part is the part of a bake", "plate plan"]);
     // a record that is no bake's: one ray too few, one too many, a voxel more or less, past the grid, near 2^64
     let (at_next, cost) = (begun.shares[0].next, hall.voxel_cost());
     let first = marked_voxels(&active).next().unwrap();
