@@ -1,5 +1,5 @@
 //! The Rust's answer to each call: the refusal by the table, else what the copies give.
-use crate::calls::{bits, halves, word, Answer, Bake, Call, Grid, Lists, Ray, Scratch};
+use crate::calls::{bits, halves, word, Answer, Bake, Call, Grid, Lists, Progress, Ray, Scratch};
 use crate::math::Vec3x4;
 use crate::raytracer::{ray_triangle_intersect, RayTracer};
 use crate::scene::Scene;
@@ -123,11 +123,18 @@ pub fn blurred_volume(grid: &Grid, volume: &[f32]) -> Vec<f32> {
     flat(voxels.gi_sh4())
 }
 
-/// One call of the bake, by module 7's rule over the Rust's own figures of each voxel. Answers progress and rays.
-pub fn bake_call(bake: &mut Bake, figures: &Baked) -> (u64, u64) {
+/// One call of the bake, by module 7's rule over the Rust's own figures of each voxel. Answers C-16's record, whose rays have grown by
+/// those of this call, and the rays of this call.
+pub fn bake_call(bake: &mut Bake, figures: &Baked) -> (Progress, u64) {
+    let (next, rays) = walked(bake, figures);
+    (Progress { next, rays: bake.progress.rays + rays }, rays)
+}
+
+/// What a call does to the lists; answers the next voxel and the rays of this call.
+fn walked(bake: &mut Bake, figures: &Baked) -> (u64, u64) {
     let active = flags(&bake.active, &bake.grid);
     let n = active.len();
-    let start = bake.progress as usize;
+    let start = bake.progress.next as usize;
     if start == n {
         return (n as u64, 0);
     }
@@ -260,7 +267,7 @@ pub fn answer(call: &Call) -> Answer {
         }
         Call::Bake(bake) => {
             let mut after = (**bake).clone();
-            let (progress, rays) = if good { bake_call(&mut after, &baked(bake, Some(&bake.active))) } else { (bake.progress, 0) };
+            let (progress, rays) = if good { bake_call(&mut after, &baked(bake, Some(&bake.active))) } else { as_handed_in(bake) };
             bake_answer(&after, refusal, progress, rays)
         }
         Call::LightLookup { grid, light, position } => {
@@ -300,10 +307,16 @@ pub fn answer(call: &Call) -> Answer {
     }
 }
 
+/// A refused call's record and rays.
+pub fn as_handed_in(bake: &Bake) -> (Progress, u64) {
+    (bake.progress, 0)
+}
+
 /// The answer of a bake whose lists stand as in `after`. Hit scratch is held to what it was where no ray is traced.
-pub fn bake_answer(after: &Bake, refusal: u32, progress: u64, rays: u64) -> Answer {
+pub fn bake_answer(after: &Bake, refusal: u32, progress: Progress, rays: u64) -> Answer {
     let mut words = vec![refusal];
-    words.extend(low_high(progress));
+    words.extend(low_high(progress.next));
+    words.extend(low_high(progress.rays));
     words.extend(low_high(rays));
     let mut lists = vec![bits(&after.volume), bits(&after.scratch)];
     if refusal != 0 || rays == 0 {

@@ -1,23 +1,31 @@
 //! Calls that break each accepted number in turn, by the least step and in both directions, several at once, lengths one off either
-//! way, of masks in words, 4,097 triangles, 257 materials, nine lamps, unused bits, NaN and infinities; and beside each the accepted number
-//! next to it.
-use crate::calls::{Bake, Call, Grid, Lists, Ray, Scratch};
+//! way, of masks in words, 4,097 triangles, 257 materials, nine lamps, unused bits, a bake's record, NaN and infinities; and beside each the
+//! accepted number next to it.
+use crate::calls::{Bake, Call, Grid, Lists, Progress, Ray, Scratch};
 use crate::chance::Chance;
+use crate::progress_places;
 use crate::table;
 use crate::words;
 use crate::worlds::{self, step, voxels, World};
 use std::rc::Rc;
 
-/// One change of a good call: what it is, the number that it alone must give (None: whatever the table says), and the change.
+/// One change of a good call: what it is, the number that it alone must give (None: whatever the table says), and the change. Rays so far are
+/// made to fit what is changed, unless they are what is changed.
 #[derive(Clone)]
 pub struct Change {
     pub name: String,
     pub number: Option<u32>,
+    pub sets_rays: bool,
     pub make: Rc<dyn Fn(&mut Call)>,
 }
 
 fn change(name: impl Into<String>, number: Option<u32>, make: impl Fn(&mut Call) + 'static) -> Change {
-    Change { name: name.into(), number, make: Rc::new(make) }
+    Change { name: name.into(), number, sets_rays: false, make: Rc::new(make) }
+}
+
+/// Stops where an input is not answered with the number that it was made for.
+pub fn meant(given: u32, number: u32, what: &str) {
+    assert!(given == number, "{what} gives {given}, meant was {number}");
 }
 
 type Visit<'a> = &'a mut dyn FnMut(&mut f32, &str, f32, f32, u32);
@@ -88,7 +96,7 @@ fn slots(call: &mut Call, visit: Visit) {
                 }
             }
             each(&mut b.light, "light", -light_bound, light_bound, 13, visit);
-            if 0 < b.progress && b.progress < b.active.len() as u64 {
+            if 0 < b.progress.next && b.progress.next < b.active.len() as u64 {
                 each(&mut b.volume, "coefficient", -coefficient_bound, coefficient_bound, 13, visit);
             }
         }
@@ -209,7 +217,7 @@ fn resized(call: &mut Call, which: usize, by: i64) -> Option<&'static str> {
 
 fn grow(l: &mut Lists, triangles: usize) {
     while l.uses.len() < triangles {
-        let k = l.uses.len() % 2;
+        let k = l.uses.len() % l.uses.len().min(2);
         let p = l.points[9 * k..9 * k + 9].to_vec();
         l.points.extend(p);
         l.uses.push(l.uses[k]);
@@ -224,7 +232,7 @@ fn more_materials(l: &mut Lists, count: usize) {
     }
 }
 
-fn lamps_to(lamps: &mut Vec<f32>, count: usize) {
+pub fn lamps_to(lamps: &mut Vec<f32>, count: usize) {
     lamps.truncate(lamps.len() / 6 * 6);
     while lamps.len() < 6 * count {
         let k = (lamps.len() / 6) as f32;
@@ -402,8 +410,10 @@ pub fn changes(call: &Call, few: bool) -> Vec<Change> {
         }
         out.push(change("no material at all", Some(6), |call| {
             let l = lists_of(call).expect("lists");
+            // lengths that another change made not to fit still do not
+            let misfit = l.numbers.len() != 7 * l.kinds.len();
             l.kinds.clear();
-            l.numbers.clear();
+            l.numbers = vec![0.5; misfit as usize];
         }));
         out.push(change("a use past the list, of an absent triangle", Some(6), |call| {
             let l = lists_of(call).expect("lists");
@@ -449,7 +459,7 @@ pub fn changes(call: &Call, few: bool) -> Vec<Change> {
         for (progress, number) in [(n + 1, Some(9)), (u64::MAX, Some(9)), (n, None), (n - 1, None)] {
             out.push(change(format!("progress := {progress}"), number, move |call| {
                 if let Call::Bake(b) = call {
-                    b.progress = progress;
+                    b.progress.next = progress;
                     if !b.volume.iter().all(|x| x.is_finite()) {
                         b.volume.fill(0.25);
                     }
@@ -467,7 +477,7 @@ pub fn changes(call: &Call, few: bool) -> Vec<Change> {
         for progress in [0, n] {
             out.push(change(format!("NaN in the volume at progress {progress}"), None, move |call| {
                 if let Call::Bake(b) = call {
-                    b.progress = progress;
+                    b.progress.next = progress;
                     b.volume.fill(f32::NAN);
                     b.scratch.fill(f32::INFINITY);
                 }
@@ -475,7 +485,7 @@ pub fn changes(call: &Call, few: bool) -> Vec<Change> {
         }
         out.push(change("allowance one short at the end", Some(10), move |call| {
             if let Call::Bake(b) = call {
-                b.progress = n;
+                b.progress.next = n;
                 b.allowance = cost - 1;
             }
         }));
@@ -490,6 +500,64 @@ pub fn changes(call: &Call, few: bool) -> Vec<Change> {
                 }
             }));
         }
+    }
+    out
+}
+
+/// A bake's record: its rays at both bounds and one beside them, and far above; its next voxel one off. `few` leaves out the next voxels
+/// between.
+fn record_changes(bake: &Bake, few: bool) -> Vec<Change> {
+    let n = bake.active.len() as u64;
+    let here = bake.progress;
+    let mut records = Vec::new();
+    for next in (0..=n).filter(|next| !few || [0, here.next, n].contains(next)) {
+        let (least, most) = progress_places::least_and_most(bake, next);
+        records.extend([least.wrapping_sub(1), least, most, most + 1].map(|rays| (next, rays)));
+    }
+    records.extend(progress_places::far(bake, here.next).into_iter().map(|rays| (here.next, rays)));
+    records.extend([here.next.wrapping_sub(1), here.next + 1].map(|next| (next, here.rays)));
+    records.dedup();
+    records
+        .into_iter()
+        .map(|(next, rays)| {
+            let (least, most) = progress_places::least_and_most(bake, next);
+            let number = if next > n || rays < least || rays > most { Some(9) } else { None };
+            let made = change(format!("record := {next}, {rays}"), number, move |call| {
+                if let Call::Bake(b) = call {
+                    b.progress = Progress { next, rays };
+                    if !b.volume.iter().all(|x| x.is_finite()) {
+                        b.volume.fill(0.25);
+                    }
+                }
+            });
+            Change { sets_rays: true, ..made }
+        })
+        .collect()
+}
+
+/// The changes of a bake's record, each alone, and beside one of every other row.
+fn of_records(bake: &Bake, base: &Call, others: &[Change], few: bool) -> Vec<Bad> {
+    // numbers of their own, so that the calls without them stay what they were
+    let mut c = Chance::new(0xC16 ^ bake.light[0].to_bits() as u64 ^ bake.lamps.len() as u64);
+    let all = record_changes(bake, few);
+    let mut out: Vec<Bad> = all.iter().map(|change| applied(base, &[change])).collect();
+    let rows = [1, 2, 3, 4, 5, 6, 7, 19, 9, 10, 13];
+    for (place, row) in rows.into_iter().enumerate() {
+        let fit: Vec<&Change> = others.iter().filter(|change| change.number == Some(row) && !change.name.contains("triangles")).collect();
+        if row == 9 || fit.is_empty() {
+            continue;
+        }
+        let other = fit[c.below(fit.len())];
+        let wrong: Vec<Bad> = all
+            .iter()
+            .map(|record| applied(base, &[other, record]))
+            // axes and lengths come first, and without good ones there is nothing to count
+            .filter(|both| row < 4 || matches!(&both.call, Call::Bake(b) if !progress_places::keeps(b)))
+            .collect();
+        let k = c.below(wrong.len());
+        let both = wrong.into_iter().nth(k).expect("a record that breaks the rule");
+        meant(table::refusal(&both.call), if place < 8 { row } else { 9 }, &both.what);
+        out.push(both);
     }
     out
 }
@@ -559,17 +627,18 @@ fn lamp_changes(out: &mut Vec<Change>) {
     lamps("a bad one and a bad sky", Some(7), |b| {
         allowed(b, 2, 0);
         b.lamps[0] = f32::NAN;
-        b.sky[1727] = f32::NAN;
+        // another change may have shortened the list
+        b.sky.get_mut(1727).into_iter().for_each(|x| *x = f32::NAN);
     });
     lamps("a bad one and a bad material", Some(6), |b| {
         allowed(b, 2, 0);
         b.lamps[0] = f32::NAN;
-        b.lists.kinds[0] = 2;
+        b.lists.kinds.first_mut().into_iter().for_each(|kind| *kind = 2);
     });
     lamps("a bad one and too much progress", Some(19), |b| {
         allowed(b, 2, 0);
         b.lamps[11] = f32::NEG_INFINITY;
-        b.progress = b.active.len() as u64 + 1;
+        b.progress.next = b.active.len() as u64 + 1;
     });
     lamps("nine and no allowance", Some(19), |b| {
         allowed(b, 9, 0);
@@ -577,7 +646,7 @@ fn lamp_changes(out: &mut Vec<Change>) {
     });
     lamps("too much progress and a ray too few", Some(9), |b| {
         allowed(b, 3, 1);
-        b.progress = b.active.len() as u64 + 1;
+        b.progress.next = b.active.len() as u64 + 1;
     });
     lamps("a bad one and a bad mask", Some(19), |b| {
         allowed(b, 2, 0);
@@ -591,7 +660,7 @@ fn lamp_changes(out: &mut Vec<Change>) {
     lamps("a bad one at the end", Some(19), |b| {
         allowed(b, 2, 0);
         b.lamps[7] = f32::NAN;
-        b.progress = b.active.len() as u64;
+        b.progress.next = b.active.len() as u64;
     });
 }
 
@@ -606,11 +675,12 @@ pub fn bases(c: &mut Chance, world: &World) -> Vec<Call> {
     let light = unit(c, n);
     let mut bake = worlds::bake(c, world, light);
     let whole = bake.clone();
-    bake.progress = 1;
+    bake.progress = progress_places::chosen(&bake, 1);
     bake.allowance = 500;
     bake.volume = unit(c, 16 * n);
     let mut lamped = bake.clone();
     lamps_to(&mut lamped.lamps, 3);
+    lamped.progress = progress_places::chosen(&lamped, 1);
     lamped.allowance += 3 * 64;
     let position = [0, 1, 2].map(|i| c.between(world.grid.corners[i], world.grid.corners[3 + i]));
     vec![
@@ -660,21 +730,24 @@ fn applied(base: &Call, changes: &[&Change]) -> Bad {
     for change in changes {
         (change.make)(&mut call);
     }
+    if !changes.iter().any(|change| change.sets_rays) {
+        progress_places::choose(&mut call);
+    }
     readable(&mut call);
     let what = changes.iter().map(|c| c.name.clone()).collect::<Vec<_>>().join("; ");
     let number = table::refusal(&call);
     if let [one] = changes {
-        if let Some(meant) = one.number {
-            assert!(number == meant, "{what} gives {number}, meant was {meant}");
+        if let Some(other) = one.number {
+            meant(number, other, &what);
         }
     }
     Bad { what, call }
 }
 
 /// Every single change of a base; for every two numbers that it can be refused with one call that earns both, of which the one is given
-/// whose row comes first: 19 stands after 7, else the lower; and `several` random sets of two to four.
+/// whose row comes first: 19 stands after 7, else the lower; `several` random sets of two to four; and the changes of a bake's record.
 pub fn of(c: &mut Chance, base: &Call, few: bool, several: usize) -> Vec<Bad> {
-    assert!(table::refusal(base) == 0, "a base is good: {}", table::refusal(base));
+    meant(table::refusal(base), 0, "a base");
     let mut all = changes(base, few);
     if few && matches!(base, Call::Bake(b) if !b.lamps.is_empty()) {
         // beside what concerns the lamps, a fault of each row that they stand among
@@ -698,8 +771,7 @@ pub fn of(c: &mut Chance, base: &Call, few: bool, several: usize) -> Vec<Bad> {
                     // the second change undid the first
                     both = applied(base, &[b, a]);
                 }
-                let number = table::refusal(&both.call);
-                assert!(number == first, "{} gives {number}, meant was {first}", both.what);
+                meant(table::refusal(&both.call), first, &both.what);
                 out.push(both);
             }
         }
@@ -710,6 +782,9 @@ pub fn of(c: &mut Chance, base: &Call, few: bool, several: usize) -> Vec<Bad> {
         if set.iter().all(|s| !s.name.contains("triangles")) {
             out.push(applied(base, &set));
         }
+    }
+    if let Call::Bake(bake) = base {
+        out.extend(of_records(bake, base, &all, few));
     }
     out
 }

@@ -46,6 +46,13 @@ pub enum Call {
     Part { axes: [u64; 3], volume: Vec<f32>, scratch: Vec<f32>, index: u64, choice: bool },
 }
 
+/// C-16's record: the next voxel, and the rays of all calls so far.
+#[derive(Clone, Copy, Debug, Default, PartialEq)]
+pub struct Progress {
+    pub next: u64,
+    pub rays: u64,
+}
+
 #[derive(Clone, Debug)]
 pub struct Bake {
     pub grid: Grid,
@@ -62,7 +69,7 @@ pub struct Bake {
     pub volume: Vec<f32>,
     pub scratch: Vec<f32>,
     pub hits: Scratch,
-    pub progress: u64,
+    pub progress: Progress,
     pub allowance: u64,
 }
 

@@ -1,6 +1,7 @@
 //! The commands. Everything that can be wrong with their words or files is said in one line and ends with status 2.
 use crate::gi;
 use crate::items::{self, Item, MODULES};
+use crate::progress_places;
 use crate::records::Record;
 use crate::scene::recorded_bits;
 use crate::watch;
@@ -131,20 +132,20 @@ fn run(words: &[String]) -> Result<bool, String> {
         ["bad", name, first, count] => {
             let name = module(name)?;
             for seed in seeds(first, count)? {
-                for item in items::bad_and_words(name, seed, true, 60) {
+                for item in items::all_bad(name, seed, true, 60) {
                     put(&item.bytes())?;
                 }
             }
             Ok(true)
         }
         ["every", name, seed] => {
-            for item in items::bad_and_words(module(name)?, number(seed, "SEED")?, false, 0) {
+            for item in items::all_bad(module(name)?, number(seed, "SEED")?, false, 0) {
                 put(&item.bytes())?;
             }
             Ok(true)
         }
         ["every", name, seed, place] => {
-            let (all, at) = (items::bad_and_words(module(name)?, number(seed, "SEED")?, false, 0), number(place, "PLACE")?);
+            let (all, at) = (items::all_bad(module(name)?, number(seed, "SEED")?, false, 0), number(place, "PLACE")?);
             let item = all.get(at as usize).ok_or_else(|| format!("there are {} records, none at {at}", all.len()))?;
             say(&format!("{item:?}\n"))?;
             Ok(true)
@@ -240,8 +241,10 @@ fn recorded(name: &str) -> (Vec<Item>, Vec<Item>) {
         out.extend(items::good(name, seed));
     }
     out.extend(word_places::made(name));
+    out.extend(progress_places::made(name));
     let mut bad: Vec<Item> = (0..bases).flat_map(|seed| items::bad(name, seed, true, 10)).collect();
     bad.extend(word_places::bad(name, 0));
+    bad.extend(progress_places::bad(name, 0));
     (out, bad)
 }
 

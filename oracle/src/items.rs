@@ -1,9 +1,10 @@
 //! What is compared, module by module: for a seed the records of one seeded scene, and for a seed of bad inputs those of one base.
 use crate::answers::{baked, sunned};
 use crate::bad;
-use crate::calls::{Bake, Call, Grid, Lists, Ray, Scratch};
+use crate::calls::{Bake, Call, Grid, Lists, Progress, Ray, Scratch};
 use crate::chance::Chance;
 use crate::lamp_places;
+use crate::progress_places;
 use crate::records::{self, Record};
 use crate::table;
 use crate::word_places;
@@ -15,7 +16,7 @@ pub enum Item {
     Rays { lists: Lists, hits: Scratch, asked: Vec<(bool, Ray)> },
     LightLookups { grid: Grid, light: Vec<f32>, positions: Vec<[f32; 3]> },
     CoefficientLookups { grid: Grid, volume: Vec<f32>, positions: Vec<[f32; 3]> },
-    Bakes { bake: Box<Bake>, calls: Vec<(u64, u64)> },
+    Bakes { bake: Box<Bake>, calls: Vec<(Progress, u64)> },
     Fired(Box<Bake>),
 }
 
@@ -75,17 +76,19 @@ pub fn bad(module: &str, seed: u64, few: bool, several: usize) -> Vec<Item> {
     out
 }
 
-/// What of a seed is streamed: its scene's records, then those of a grid of whole words or nearly so.
+/// What of a seed is streamed: its scene's records, then those of a grid of whole words or nearly so, then those of a bake's progress.
 pub fn seeded(module: &str, seed: u64) -> Vec<Item> {
     let mut out = good(module, seed);
     out.extend(word_places::seeded(module, seed));
+    out.extend(progress_places::seeded(module, seed));
     out
 }
 
-/// The bad inputs of a seed, then those of masks in words.
-pub fn bad_and_words(module: &str, seed: u64, few: bool, several: usize) -> Vec<Item> {
+/// The bad inputs of a seed, then those of masks in words and of a bake's progress.
+pub fn all_bad(module: &str, seed: u64, few: bool, several: usize) -> Vec<Item> {
     let mut out = bad(module, seed, few, several);
     out.extend(word_places::bad(module, seed));
+    out.extend(progress_places::bad(module, seed));
     out
 }
 
@@ -141,7 +144,7 @@ pub fn made(module: &str) -> Vec<Item> {
 
 /// A bake in one call.
 fn whole(bake: Bake) -> Item {
-    Item::Bakes { bake: Box::new(bake), calls: vec![(0, u64::MAX)] }
+    Item::Bakes { bake: Box::new(bake), calls: vec![(Progress::default(), u64::MAX)] }
 }
 
 /// Single triangles about the two bounds of the test: |det| at 1e-8 and the cross's squared length at 1e-12, each with the floats next to it.
@@ -265,7 +268,7 @@ fn single(lists: Lists, sunlight: [f32; 6], ambient: [f32; 12], sky: [f32; 3]) -
         volume: vec![0.0; 16],
         scratch: vec![0.0; 16],
         hits,
-        progress: 0,
+        progress: Progress::default(),
         allowance: u64::MAX,
     }
 }
@@ -496,16 +499,17 @@ fn bakes(c: &mut Chance, world: &World) -> Vec<Item> {
         let none = baked(&bake, None);
         assert!(none.rays == figures.rays && crate::calls::bits(&none.after) == crate::calls::bits(&figures.after), "a mask of ones equals the Rust's None");
     }
-    let mut out = vec![Item::Bakes { bake: Box::new(bake.clone()), calls: vec![(0, u64::MAX), (n, cost)] }];
+    let done = Progress { next: n, rays: figures.rays.len() as u64 };
+    let mut out = vec![Item::Bakes { bake: Box::new(bake.clone()), calls: vec![(Progress::default(), u64::MAX), (done, cost)] }];
     if n <= 40 {
         // interrupted, each call going on from the last; then once more at the end
         let mut calls = Vec::new();
         let mut now = bake.clone();
-        let mut progress = 0;
+        let mut progress = Progress::default();
         while calls.len() < 12 {
             let allowance = if calls.len() == 11 { u64::MAX } else { cost + c.pick(&[0, 0, 1, 63, 64, 116, cost - 1, cost, 616, 2616]) };
             calls.push((progress, allowance));
-            if progress == n {
+            if progress.next == n {
                 break;
             }
             now.progress = progress;
@@ -519,7 +523,8 @@ fn bakes(c: &mut Chance, world: &World) -> Vec<Item> {
         let mut middle = bake;
         middle.volume = worlds::coefficient_list(c, world);
         let start = 1 + c.below(n as usize - 1) as u64;
-        out.push(Item::Bakes { bake: Box::new(middle), calls: vec![(start, c.pick(&[cost, cost + 616, u64::MAX]))] });
+        let progress = Progress { next: start, rays: figures.rays_of[..start as usize].iter().sum() };
+        out.push(Item::Bakes { bake: Box::new(middle), calls: vec![(progress, c.pick(&[cost, cost + 616, u64::MAX]))] });
     }
     out
 }

@@ -9,6 +9,7 @@ mod command;
 mod items;
 mod lamp_places;
 mod lamps;
+mod progress_places;
 mod records;
 mod scene;
 mod shrink;

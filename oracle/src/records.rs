@@ -8,8 +8,8 @@
 //! Beside its bytes a record says how many comparisons its program makes of it, counted here from what was recorded: one that the lists fit
 //! (not for a triangle, which has none), one for each word or group of words held to the answer, one for each list, and one where hit scratch
 //! must stand as it was.
-use crate::answers::{self, bake_call, baked, bake_answer};
-use crate::calls::{bits, bytes, halves, Answer, Bake, Call, Grid, Lists, Ray, Scratch};
+use crate::answers::{self, as_handed_in, bake_answer, bake_call, baked};
+use crate::calls::{bits, bytes, halves, Answer, Bake, Call, Grid, Lists, Progress, Ray, Scratch};
 use crate::table;
 
 /// A record, led by its length; the comparisons that its program makes of it; and the refusals among its answers, 0 for none.
@@ -275,8 +275,10 @@ fn bake_arguments(w: &mut Writer, b: &Bake) {
     w.hits(&b.hits);
 }
 
-/// Calls of the bake one after another over the same lists: each with its progress and allowance.
-pub fn bakes(bake: &Bake, calls: &[(u64, u64)]) -> Record {
+/// Calls of the bake one after another over the same lists, each with its record and allowance. A call stands as fourteen words, a u64 as
+/// two of them: next voxel, rays so far and allowance handed in, whether hit scratch is held, the refusal, next voxel and rays so far answered,
+/// and the rays of this call; then volume and scratch.
+pub fn bakes(bake: &Bake, calls: &[(Progress, u64)]) -> Record {
     let mut w = Writer::default();
     w.word(BAKE);
     bake_arguments(&mut w, bake);
@@ -288,17 +290,19 @@ pub fn bakes(bake: &Bake, calls: &[(u64, u64)]) -> Record {
         now.progress = *progress;
         now.allowance = *allowance;
         let refusal = table::refusal(&Call::Bake(Box::new(now.clone())));
-        let (next, rays) = if refusal == 0 {
+        let (answered, rays) = if refusal == 0 {
             let figures = figures.get_or_insert_with(|| baked(bake, Some(&bake.active)));
             bake_call(&mut now, figures)
         } else {
-            (*progress, 0)
+            as_handed_in(&now)
         };
-        w.wide(*progress);
+        w.wide(progress.next);
+        w.wide(progress.rays);
         w.wide(*allowance);
-        let answer = bake_answer(&now, refusal, next, rays);
+        let answer = bake_answer(&now, refusal, answered, rays);
         w.word((answer.lists.len() > 2) as u32);
-        w.held(5 + (answer.lists.len() > 2) as u64, refusal);
+        // refusal, next voxel, rays so far, rays of this call, volume, scratch
+        w.held(6 + (answer.lists.len() > 2) as u64, refusal);
         w.answer(&Answer { words: answer.words, lists: answer.lists[..2].to_vec() });
     }
     w.record()

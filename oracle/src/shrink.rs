@@ -1,13 +1,14 @@
 //! From a record that the port answers otherwise to the smallest one that still shows it.
 use crate::calls::{Bake, Call, Lists, Scratch};
 use crate::items::{self, Item};
+use crate::progress_places::fitted;
 use std::io::Write;
 use std::process::{Command, Stdio};
 
 /// Record `place` of a seed: its good records first, then its bad ones.
 fn found(module: &str, seed: u64, place: usize) -> Result<Item, String> {
     let mut all = items::seeded(module, seed);
-    all.extend(items::bad_and_words(module, seed, true, 60));
+    all.extend(items::all_bad(module, seed, true, 60));
     let count = all.len();
     all.into_iter().nth(place).ok_or_else(|| format!("seed {seed} has {count} records for {module}, none at {place}"))
 }
@@ -89,20 +90,28 @@ fn smaller(item: &Item) -> Vec<Item> {
             if calls.len() > 1 {
                 out.push(Item::Bakes { bake: bake.clone(), calls: calls[..calls.len() - 1].to_vec() });
             }
+            if calls.len() > 1 {
+                out.push(Item::Bakes { bake: bake.clone(), calls: calls[calls.len() - 1..].to_vec() });
+            }
             for (l, _) in fewer_triangles(&bake.lists, None) {
                 let mut b = bake.clone();
                 b.lists = l;
                 out.push(Item::Bakes { bake: b, calls: calls.clone() });
             }
             for b in fewer_lamps(bake) {
-                out.push(Item::Bakes { bake: b, calls: calls.clone() });
+                // with a record as it was, and with one that still keeps the rule
+                let fit = calls.iter().map(|(p, allowance)| (fitted(&b, *p), *allowance)).collect();
+                out.push(Item::Bakes { bake: b.clone(), calls: calls.clone() });
+                out.push(Item::Bakes { bake: b, calls: fit });
             }
             let on: Vec<usize> = (0..bake.active.len()).filter(|i| bake.active[*i] == 1).collect();
             if on.len() > 1 && calls.len() == 1 {
                 for i in on {
                     let mut b = bake.clone();
                     b.active[i] = 0;
-                    out.push(Item::Bakes { bake: b, calls: calls.clone() });
+                    let fit = calls.iter().map(|(p, allowance)| (fitted(&b, *p), *allowance)).collect();
+                    out.push(Item::Bakes { bake: b.clone(), calls: calls.clone() });
+                    out.push(Item::Bakes { bake: b, calls: fit });
                 }
             }
         }

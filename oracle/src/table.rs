@@ -1,6 +1,6 @@
-//! Document 01's table of refusals with what document 02's C-12 and C-18 make of it, and the order in which each call tests them, written
+//! Document 01's table of refusals with what document 02's C-12, C-16 and C-18 make of it, and the order in which each call tests them, written
 //! from these and the open points alone: which numbers are accepted, and for each call the first number whose condition holds, 0 if none.
-use crate::calls::{Bake, Call, Grid, Lists, Ray, Scratch};
+use crate::calls::{Bake, Call, Grid, Lists, Progress, Ray, Scratch};
 use crate::words;
 
 const AXIS: u64 = 32;
@@ -19,6 +19,8 @@ const LIGHT: f32 = 18446744073709551616.0;
 const COEFFICIENT: f32 = 79228162514264337593543950336.0;
 const SKY: usize = 1728;
 const LAMPS: usize = 8;
+/// The fewest rays that an active voxel costs.
+const LEAST: u64 = 64;
 
 /// The most rays that a voxel may cost, which is the least allowance: "With L lamps a voxel may cost 384+64L rays".
 pub fn cost(lamps: &[f32]) -> u64 {
@@ -124,12 +126,12 @@ fn bake_refusal(bake: &Bake) -> u32 {
                 || beyond(&bake.sky, COLOUR)
         }),
         (19, &|| bad_lamps(&bake.lamps)),
-        (9, &|| bake.progress > count(grid.axes) as u64),
+        (9, &|| bad_progress(bake)),
         (10, &|| bake.allowance < cost(&bake.lamps)),
         (13, &|| {
             bad_mask(&bake.active, grid)
                 || beyond(&bake.light, LIGHT)
-                || 0 < bake.progress && bake.progress < count(grid.axes) as u64 && beyond(&bake.volume, COEFFICIENT)
+                || 0 < bake.progress.next && bake.progress.next < count(grid.axes) as u64 && beyond(&bake.volume, COEFFICIENT)
         }),
     ])
 }
@@ -215,6 +217,17 @@ fn bad_mask(mask: &[u8], grid: &Grid) -> bool {
 
 fn bad_lamps(lamps: &[f32]) -> bool {
     lamps.len() / 6 > LAMPS || lamps.chunks(6).any(|lamp| beyond(&lamp[..3], POINT) || beyond(&lamp[3..], COLOUR))
+}
+
+/// "9 also when the record breaks that rule": rays so far lies "between 64 and W for each mask entry 1 below next, and is zero at zero", where
+/// no entry is. No product comes near 2^64.
+fn bad_progress(bake: &Bake) -> bool {
+    let Progress { next, rays } = bake.progress;
+    if next > count(bake.grid.axes) as u64 {
+        return true;
+    }
+    let taken = words::counted_below(&words::lent(&bake.active), next as usize);
+    rays < LEAST * taken || rays > cost(&bake.lamps) * taken
 }
 
 /// The eight cells that a lookup reads: on each axis the floored cell clamped to the grid, and the one after it, clamped too.

@@ -15,7 +15,7 @@
 //!   lookup X Y Z         in the baked volume and the sun pass's light
 //!   allowances A B ..    an interrupted bake, call by call, until it ends
 use crate::answers::{answer, bake_call, baked, sunned};
-use crate::calls::{bits, Bake, Call, Grid, Lists, Ray, Scratch};
+use crate::calls::{bits, Bake, Call, Grid, Lists, Progress, Ray, Scratch};
 use crate::table;
 use crate::worlds::{active_of, voxels, World};
 use std::fmt::Write;
@@ -236,7 +236,7 @@ pub fn bake_with(asked: &Asked, light: Vec<f32>) -> Result<Bake, String> {
         volume: vec![0.0; 16 * n],
         scratch: vec![0.0; 16 * n],
         hits: Scratch { distances: vec![0.0; t], places: vec![0; t] },
-        progress: 0,
+        progress: Progress::default(),
         allowance: u64::MAX,
     };
     let refusal = table::refusal(&Call::Bake(Box::new(bake.clone())));
@@ -289,18 +289,23 @@ pub fn answers(asked: &Asked) -> Result<String, String> {
             continue;
         }
         let (progress, rays) = bake_call(&mut now, &b);
-        let _ = writeln!(out, "call allowance {allowance} progress {progress} rays {rays}");
+        let _ = writeln!(out, "call allowance {allowance} progress {} rays {rays} so far {}", progress.next, progress.rays);
         volume_text(&mut out, "volume-now", &now.volume);
         now.progress = progress;
     }
-    if progress_done(&now) && bits(&now.volume) != bits(&b.after) && !asked.allowances.is_empty() {
-        return Err("the interrupted bake ends elsewhere than the unbroken one".into());
+    if progress_done(&now) && !asked.allowances.is_empty() {
+        if bits(&now.volume) != bits(&b.after) {
+            return Err("the interrupted bake ends elsewhere than the unbroken one".into());
+        }
+        if now.progress.rays != b.rays.len() as u64 {
+            return Err("the interrupted bake's record has not the rays of the unbroken one".into());
+        }
     }
     Ok(out)
 }
 
 fn progress_done(now: &Bake) -> bool {
-    now.progress == now.active.len() as u64
+    now.progress.next == now.active.len() as u64
 }
 
 /// Every ray of the sun pass and of the bake.

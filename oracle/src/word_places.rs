@@ -2,9 +2,10 @@
 //! shorter than the grid that are the same words, and the inputs that it refuses.
 use crate::answers::{bake_call, baked};
 use crate::bad::{self, set_bit, unused};
-use crate::calls::{Bake, Call, Grid, Lists, Scratch};
+use crate::calls::{Bake, Call, Grid, Lists, Progress, Scratch};
 use crate::chance::Chance;
 use crate::items::Item;
+use crate::progress_places;
 use crate::table;
 use crate::words::needed;
 use crate::worlds::voxels;
@@ -21,16 +22,22 @@ const MIDDLING: [u64; 3] = [32, 32, 4];
 /// Rows that end at a word's end, beside it and across it.
 const ROWS: [[u64; 3]; 9] = [[32, 3, 1], [31, 3, 2], [30, 4, 2], [17, 4, 2], [5, 13, 2], [3, 11, 4], [2, 32, 2], [1, 32, 3], [1, 1, 32]];
 
+/// Grids of some words or nearly so.
+pub const SHAPES: [[u64; 3]; 20] = [
+    [1, 1, 1], [31, 1, 2], [7, 9, 1], [3, 3, 7], [21, 1, 3], [4, 4, 4], [32, 2, 1], [1, 2, 32], [2, 32, 1], [13, 5, 1], [1, 13, 5], [6, 11, 1],
+    [9, 7, 2], [8, 4, 4], [32, 2, 2], [2, 2, 32], [10, 13, 1], [3, 4, 16], [32, 6, 1], [5, 13, 3],
+];
+
 /// Voxels with edges of 1, the first corner at 0.
-fn grid(axes: [u64; 3]) -> Grid {
+pub fn grid(axes: [u64; 3]) -> Grid {
     Grid { axes, corners: [0.0, 0.0, 0.0, axes[0] as f32, axes[1] as f32, axes[2] as f32] }
 }
 
-fn random(c: &mut Chance, n: usize, one_in: usize) -> Vec<u8> {
+pub fn random(c: &mut Chance, n: usize, one_in: usize) -> Vec<u8> {
     (0..n).map(|_| c.one_in(one_in) as u8).collect()
 }
 
-fn only(n: usize, voxel: usize) -> Vec<u8> {
+pub fn only(n: usize, voxel: usize) -> Vec<u8> {
     (0..n).map(|i| (i == voxel) as u8).collect()
 }
 
@@ -135,14 +142,14 @@ fn good_masks(c: &mut Chance) -> Vec<Item> {
     out
 }
 
-fn add(lists: &mut Lists, points: [f32; 9], kind: u8, numbers: [f32; 7]) {
+pub fn add(lists: &mut Lists, points: [f32; 9], kind: u8, numbers: [f32; 7]) {
     lists.points.extend(points);
     lists.uses.push(lists.kinds.len() as u32);
     lists.kinds.push(kind);
     lists.numbers.extend(numbers);
 }
 
-fn hits(lists: &Lists) -> Scratch {
+pub fn hits(lists: &Lists) -> Scratch {
     Scratch { distances: vec![-7.5; lists.uses.len()], places: vec![99; lists.uses.len()] }
 }
 
@@ -193,7 +200,7 @@ fn good_sun(c: &mut Chance) -> Vec<Item> {
 }
 
 /// A bake over a floor, from its beginning.
-fn room(axes: [u64; 3], active: Vec<u8>, floor: bool) -> Bake {
+pub fn room(axes: [u64; 3], active: Vec<u8>, floor: bool) -> Bake {
     let n = voxels(&grid(axes));
     let mut lists = Lists::default();
     if floor {
@@ -211,13 +218,13 @@ fn room(axes: [u64; 3], active: Vec<u8>, floor: bool) -> Bake {
         light: (0..n).map(|i| (i % 7) as f32 / 8.0).collect(),
         volume: vec![f32::NAN; 16 * n],
         scratch: vec![f32::INFINITY; 16 * n],
-        progress: 0,
+        progress: Progress::default(),
         allowance: u64::MAX,
     }
 }
 
-/// Calls one after another with these allowances, each going on from the last, until the end.
-fn calls(bake: &Bake, allowances: &[u64]) -> Item {
+/// Calls one after another with these allowances, each going on from the last.
+pub fn calls(bake: &Bake, allowances: &[u64]) -> Item {
     let figures = baked(bake, Some(&bake.active));
     let mut now = bake.clone();
     let mut calls = Vec::new();
@@ -230,10 +237,11 @@ fn calls(bake: &Bake, allowances: &[u64]) -> Item {
 }
 
 /// A bake that goes on from a voxel, over a volume that no bake wrote.
-fn from(axes: [u64; 3], active: Vec<u8>, progress: usize, allowance: u64) -> Item {
+fn from(axes: [u64; 3], active: Vec<u8>, next: usize, allowance: u64) -> Item {
     let mut bake = room(axes, active, true);
     bake.volume.fill(0.25);
-    Item::Bakes { bake: Box::new(bake), calls: vec![(progress as u64, allowance)] }
+    let progress = progress_places::chosen(&bake, next as u64);
+    Item::Bakes { bake: Box::new(bake), calls: vec![(progress, allowance)] }
 }
 
 fn good_bakes(c: &mut Chance) -> Vec<Item> {
@@ -307,11 +315,7 @@ pub fn made(module: &str) -> Vec<Item> {
 pub fn seeded(module: &str, seed: u64) -> Vec<Item> {
     let mut chance = Chance::new(seed ^ 0x3027_D5);
     let c = &mut chance;
-    let shapes = [
-        [1, 1, 1], [31, 1, 2], [7, 9, 1], [3, 3, 7], [21, 1, 3], [4, 4, 4], [32, 2, 1], [1, 2, 32], [2, 32, 1], [13, 5, 1], [1, 13, 5], [6, 11, 1],
-        [9, 7, 2], [8, 4, 4], [32, 2, 2], [2, 2, 32], [10, 13, 1], [3, 4, 16], [32, 6, 1], [5, 13, 3],
-    ];
-    let axes = c.pick(&shapes);
+    let axes = c.pick(&SHAPES);
     let n = voxels(&grid(axes));
     let mut mask = match c.below(6) {
         0 => only(n, c.below(n)),
@@ -372,7 +376,7 @@ fn base(module: &str, axes: [u64; 3]) -> Call {
             let mut bake = room(axes, turns(n), true);
             bake.lamps = vec![0.5, 0.5, 3.0, 1.0, 0.5, 0.25];
             bake.volume.fill(0.25);
-            bake.progress = n as u64 / 2;
+            bake.progress = progress_places::chosen(&bake, n as u64 / 2);
             bake.allowance = 500;
             Call::Bake(Box::new(bake))
         }
@@ -390,9 +394,9 @@ pub fn bad(module: &str, seed: u64) -> Vec<Item> {
         _ => &[],
     };
     let mut out = Vec::new();
-    let mut put = |call: Call, number: u32, what: &str| {
-        let given = table::refusal(&call);
-        assert!(given == number, "{what} gives {given}, meant was {number}");
+    let mut put = |mut call: Call, number: u32, what: &str| {
+        progress_places::choose(&mut call);
+        bad::meant(table::refusal(&call), number, what);
         out.push(Item::One(call));
     };
     for axes in grids.iter().cloned() {
@@ -446,7 +450,7 @@ pub fn bad(module: &str, seed: u64) -> Vec<Item> {
         if let Call::Bake(bake) = &good {
             for progress in [0, n as u64] {
                 let mut bake = bake.clone();
-                bake.progress = progress;
+                bake.progress.next = progress;
                 put(with_bit(&Call::Bake(bake), bits.start), 13, "an unused bit at the beginning or the end");
             }
         }

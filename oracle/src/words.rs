@@ -37,6 +37,11 @@ pub fn counted(words: &[u64]) -> u32 {
     words.iter().map(|word| word.count_ones()).sum()
 }
 
+/// How many of the voxels below `next` are in a mask.
+pub fn counted_below(words: &[u64], next: usize) -> u64 {
+    (0..next).filter(|i| voxel(words, *i)).count() as u64
+}
+
 /// Whether a bit is set that stands for none of so many voxels, in as many words as they need.
 pub fn unused_set(words: &[u64], voxels: usize) -> bool {
     voxels % 64 != 0 && words[voxels / 64] >> (voxels % 64) != 0

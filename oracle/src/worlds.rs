@@ -1,6 +1,6 @@
 //! Seeded scenes inside the limits. `FAMILIES` names the corners; seed s makes family s mod their number.
 use crate::answers::{answer, vector};
-use crate::calls::{word, Bake, Call, Grid, Lists, Ray, Scratch};
+use crate::calls::{word, Bake, Call, Grid, Lists, Progress, Ray, Scratch};
 use crate::chance::Chance;
 use crate::lamp_places;
 
@@ -602,7 +602,7 @@ pub fn bake(c: &mut Chance, world: &World, light: Vec<f32>) -> Bake {
         volume: vec![junk; 16 * n],
         scratch: vec![-junk; 16 * n],
         hits: hits(c, &world.lists),
-        progress: 0,
+        progress: Progress::default(),
         allowance: u64::MAX,
     }
 }

@@ -156,16 +156,17 @@ module _ {b : BakeInput} {s : Stage Float} {a : ℕ} where
   pub accepts : {n : ℕ} → n ≡ bakeRefusal b s a → n ≡ 0 → Fits b s a
   accepts e z = fits b s a (none-refused b s a .0 (sym e ∙ z))
 
-  pub answers : {n : ℕ} {r : Reached} {v x d d' : List Float} {q q' : List ℕ} → n ≡ bakeRefusal b s a → n ≡ 0
+  pub answers : {n t : ℕ} {r : Reached} {v x d d' : List Float} {q q' : List ℕ} → n ≡ bakeRefusal b s a → n ≡ 0
       → Accepts (accepted (bakeOf b) a s) r v x d d' q q'
+      → t ≡ s .progress .rays + r .rays
       → length d' ≡ length d
       → length q' ≡ length q
-      → Baked b s a (record { refusal = 0; progress = progressOf (r .next) (s .progress .rays + r .rays); rays = r .rays }) v x d d' q q'
-  answers e z w m n =
+      → Baked b s a (record { refusal = 0; progress = progressOf (r .next) t; rays = r .rays }) v x d d' q q'
+  answers e z w k m n =
       let c = sym (accepted-call b s a (sym e ∙ z)) in
       record {
         refusal = sym (accepted-none b s a) ∙ ap (λ (y : Called Float). y .refusal) c;
-        progress = ap₂ progressOf (w .next ∙ ap (λ (y : Called Float). y .stage .progress .next) c) (total b s a e z w);
+        progress = ap₂ progressOf (w .next ∙ ap (λ (y : Called Float). y .stage .progress .next) c) (k ∙ total b s a e z w);
         rays = w .rays ∙ ap (λ (y : Called Float). y .rays) c;
         volume = w .volume ∙ ap (λ (y : Called Float). y .stage .volume) c;
         scratch = w .scratch ∙ ap (λ (y : Called Float). y .stage .scratch) c;

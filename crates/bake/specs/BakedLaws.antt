@@ -1,15 +1,21 @@
--- The contract leaves one answer; which row refuses; and a refusal fires no ray.
-use mathlib.Core.Path.{_≡_, sym, ap, _∙_}
+-- The contract leaves one answer; which row refuses; a refusal and a finished bake fire no ray and leave all as it was; and what record an accepted call is
+-- handed and answers.
+use mathlib.Core.Path.{_≡_, refl, sym, ap, _∙_}
 use mathlib.Core.List.{List}
-use Prim.Native.Nat.{ℕ}
+use Prim.Native.Nat.{ℕ, zero, suc}
 use native.Mathlib.Omega.{arith}
+use lib.Dec.{eqb}
 use lib.ListN.{length}
 use lib.Ieee.{Float}
+use borrow.Author.Tests.{eq-eqb}
 use Rattle.names.specs.Refusals.{RefusedBy, refused-by}
 use Rattle.spread.specs.declared.Progress.{Progress}
 use Rattle.spread.specs.Spread.{Stage, Called}
-use Rattle.intake.specs.Intake.{BakeInput, bakeRows, bakeRefusal}
-use Rattle.demand.specs.Calls.{refused-call, answers-refusal}
+use Rattle.intake.specs.Intake.{BakeInput, voxelCount, bakeRows, bakeRefusal}
+use Rattle.intake.specs.IntakeLaws.{GoodProgress, fits, none-refused}
+use Rattle.demand.specs.Bake.{bakeCall}
+use Rattle.demand.specs.Calls.{refused-call, accepted-call, answers-refusal}
+use Rattle.demand.specs.Lasting.{call-leaves}
 use Rattle.bake.specs.declared.BakeAnswer.{BakeAnswer}
 use Rattle.bake.specs.Baked.{Baked}
 
@@ -75,3 +81,29 @@ refused-untouched b s a r v x d d' p p' f n =
       distances = f .hits .distances none;
       places = f .hits .places none;
     }
+
+-- an accepted call, at any stage, was handed a record that row 9 passes, and answers one: a wrong record is refused, not repaired
+pub accepted-good : (b : BakeInput) (s : Stage Float) (a : ℕ) (r : BakeAnswer) (v x d d' : List Float) (p p' : List ℕ) → Baked b s a r v x d d' p p' → r .refusal ≡ 0
+    → GoodProgress b (s .progress) × GoodProgress b (r .progress)
+accepted-good b s a r v x d d' p p' f z =
+    let e : bakeRefusal b s a ≡ 0 = sym (answers-refusal b s a) ∙ sym (f .refusal) ∙ z in
+    (fits b s a (none-refused b s a .0 e) .progress, rw (f .progress) (call-leaves b s a e))
+
+-- a finished bake, refused or not, answers the record as handed in, fires nothing and writes nothing
+pub finished-untouched : (b : BakeInput) (s : Stage Float) (a : ℕ) (r : BakeAnswer) (v x d d' : List Float) (p p' : List ℕ) → Baked b s a r v x d d' p p'
+    → s .progress .next ≡ voxelCount b → Untouched s r v x d d' p p'
+finished-untouched b s a r v x d d' p p' f h = go (bakeRefusal b s a) refl
+  where
+    go : (n : ℕ) → bakeRefusal b s a ≡ n → Untouched s r v x d d' p p'
+    go (suc n) e = refused-untouched b s a r v x d d' p p' f (λ z. omega (arith, e, z, f .refusal, answers-refusal b s a))
+    go zero e =
+        let c : bakeCall b s a ≡ record { refusal = 0; rays = 0; stage = s } = accepted-call b s a e ∙ rw (eq-eqb (s .progress .next) (voxelCount b) h) refl in
+        let none : r .rays ≡ 0 = f .rays ∙ ap (λ (y : Called Float). y .rays) c in
+        record {
+          rays = none;
+          progress = f .progress ∙ ap (λ (y : Called Float). y .stage .progress) c;
+          volume = f .volume ∙ ap (λ (y : Called Float). y .stage .volume) c;
+          scratch = f .scratch ∙ ap (λ (y : Called Float). y .stage .scratch) c;
+          distances = f .hits .distances none;
+          places = f .hits .places none;
+        }

@@ -4,7 +4,7 @@
 -- each active voxel; so A active voxels at allowances of k·384 or more, k at least 1, take at most ⌈A/k⌉ calls; no active voxel, one call." With L lamps
 -- 384+64L stands for 384. Document 02, C-16: "In demand 3, the counts' sum is also the record's last number." Definitions only; `demand-of-results` of ResultsLaws shows it of whatever satisfies the calls' contract.
 use mathlib.Core.Path.{_≡_}
-use mathlib.Core.Bool.{true, false}
+use mathlib.Core.Bool.{true}
 use mathlib.Core.Logic.{_⊎_}
 use mathlib.Core.List.{List, [], _∷_, map}
 use Prim.Native.Nat.{ℕ, _+_, _*_, _/_, _≤_, _<_}
@@ -14,11 +14,11 @@ use Rattle.names.specs.Numbers.{primaryRays}
 use Rattle.spread.specs.declared.Progress.{Progress}
 use Rattle.spread.specs.Spread.{Stage, stage, unbroken, actives, costs, stands, sum, EachAtLeast, NoneRefused}
 use Rattle.spread.specs.Demand.{roundedUp}
-use Rattle.limits.specs.Limits.{lampCount}
 use Rattle.marks.specs.Marks.{isMarked}
 use Rattle.gather.specs.Gather.{costOf}
 use Rattle.gather.specs.Cost.{raysOf}
-use Rattle.intake.specs.Intake.{BakeInput, inputOf, voxelCount, activeEntries, bakeCost, badProgress}
+use Rattle.intake.specs.Intake.{BakeInput, inputOf, voxelCount, activeEntries, bakeCost}
+use Rattle.intake.specs.IntakeLaws.{GoodProgress}
 use Rattle.demand.specs.Bake.{gatherInput, bakeOf}
 use Rattle.bake.specs.declared.BakeAnswer.{BakeAnswer}
 use Rattle.bake.specs.Baked.{Baked}
@@ -66,7 +66,7 @@ reportedBy results = map (λ (c : Result). c .answer .rays) results
 
 -- ---- what is demanded of them
 
--- the active voxels below a progress, and the rays that the definition fires for them
+-- the active voxels below voxel p, and the rays that the definition fires for them
 abbrev pub activeBelow : BakeInput → ℕ → ℕ
 activeBelow b p = actives (bakeOf b) p 0
 
@@ -83,13 +83,18 @@ pub record OneCall (b : BakeInput) (p : Progress) (c : Result) : Type 0 where
   pub reports : raysBelow b (p .next) + c .answer .rays ≡ raysBelow b (c .answer .progress .next)
   -- and is added to the rays so far
   pub adds : c .answer .progress .rays ≡ p .rays + c .answer .rays
-  -- the progress that it answers is one that row 9 accepts
-  pub accepted : badProgress (voxelCount b) (activeEntries b) (lampCount (b .lamps)) (c .answer .progress) ≡ false
+  -- "rays so far lies between 64 and W for each mask entry 1 below next, and is zero at zero", which is what row 9 asks of the next call's
+  pub good : GoodProgress b (c .answer .progress)
 
 -- of each, by the progress that the one before it answered
 abbrev pub EachCall : BakeInput → Progress → List Result → Type 0
 EachCall b p [] = Unit
 EachCall b p (c ∷ rest) = OneCall b p c × EachCall b (c .answer .progress) rest
+
+-- after each call the rays so far are the sum of what the calls reported, of which so many were reported before
+abbrev pub EachKnows : ℕ → List Result → Type 0
+EachKnows before [] = Unit
+EachKnows before (c ∷ rest) = (c .answer .progress .rays ≡ before + c .answer .rays) × EachKnows (before + c .answer .rays) rest
 
 -- of calls from the stage s on, of which there is at least one
 module _ (b : BakeInput) (s : Stage Float) (first : Result) (rest : List Result) where
@@ -111,7 +116,8 @@ module _ (b : BakeInput) (s : Stage Float) (first : Result) (rest : List Result)
     pub calls : EachCall b (s .progress) all
     -- "the reported counts add up to the rays the definition fires"
     pub sums : last .progress .next ≡ voxelCount b → sum (reportedBy all) ≡ raysBelow b (voxelCount b)
-    -- "In demand 3, the counts' sum is also the record's last number": after each call, and it is the rays that the definition fires below next
+    -- "In demand 3, the counts' sum is also the record's last number": after each call, and at the last; and it is the rays that the definition fires below next
+    pub knows : EachKnows 0 all
     pub known : (last .progress .rays ≡ sum (reportedBy all)) × (last .progress .rays ≡ raysBelow b (last .progress .next))
     -- which are for voxel i `raysOf`: 64, and the extra rays of its hits
     pub fires : (i : ℕ) → costOf (gatherInput b) i ≡ raysOf (gatherInput b) i

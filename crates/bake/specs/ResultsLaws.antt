@@ -14,13 +14,13 @@ use Rattle.spread.specs.Demand.{Demand}
 use Rattle.spread.specs.Walks.{call-adds, actives-split, costs-split, costs-least, costs-most}
 use Rattle.gather.specs.CostLaws.{cost-counted}
 use Rattle.intake.specs.Intake.{BakeInput, inputOf, voxelCount, bakeCost, bakeRefusal}
-use Rattle.intake.specs.IntakeLaws.{progress-row, fits, none-refused}
+use Rattle.intake.specs.IntakeLaws.{zero-at-zero, fits, none-refused}
 use Rattle.demand.specs.Bake.{gatherInput, bakeOf, bakeCall}
 use Rattle.demand.specs.Calls.{answers-refusal}
 use Rattle.demand.specs.Demanded.{bake-fair, bake-demand}
 use Rattle.demand.specs.Lasting.{call-leaves}
 use Rattle.bake.specs.Baked.{Baked}
-use Rattle.bake.specs.Results.{Result, handedOn, lending, Successive, leftBy, allowancesOf, refusalsOf, reportedBy, OneCall, EachCall, DemandOfResults}
+use Rattle.bake.specs.Results.{Result, handedOn, lending, Successive, leftBy, allowancesOf, refusalsOf, reportedBy, OneCall, EachCall, EachKnows, DemandOfResults}
 use Rattle.bake.specs.GoesOn.{never-refused}
 
 -- ---- results are a run
@@ -98,7 +98,7 @@ module _ (b i : BakeInput) where
                 (demand .finishes (c .allowance) s accepted);
             reports = omega (arith, fired, ap (λ (y : Called Float). y .rays) e, rw (← reached) at (demand .reports (c .allowance) s accepted));
             adds = ap (λ (y : Called Float). y .stage .progress .rays) e ∙ call-adds (bakeOf i) (c .allowance) s ∙ ap (λ (n : ℕ). s .progress .rays + n) (sym (ap (λ (y : Called Float). y .rays) e));
-            accepted = progress-row i (c .answer .progress) .1 (rw left (call-leaves i s (c .allowance) (sym (answers-refusal i s (c .allowance)) ∙ accepted)));
+            good = rw left (call-leaves i s (c .allowance) (sym (answers-refusal i s (c .allowance)) ∙ accepted));
           }
 
     -- ---- each call
@@ -111,6 +111,14 @@ module _ (b i : BakeInput) where
         let a = called (h .0) ∙ ap (λ (x : BakeInput). bakeCall x s (c .allowance)) e in
         let r = each-call (handedOn c) (c .distances) (c .places) rest same (h .1) (n .1) in
         ((one-call s c a (n .0), r .0), omega (arith, forward s c a (n .0), r .1))
+
+-- ---- the rays so far
+
+each-knows : (b : BakeInput) (p : Progress) (n : ℕ) (results : List Result) → p .rays ≡ n → EachCall b p results → EachKnows n results
+each-knows b p n [] e h = tt
+each-knows b p n (c ∷ rest) e h =
+    let k = h .0 .adds ∙ ap (λ (m : ℕ). m + c .answer .rays) e in
+    (k, each-knows b (c .answer .progress) (n + c .answer .rays) rest k (h .1))
 
 -- ---- all of it
 
@@ -137,6 +145,7 @@ demand-of-results b s d p first rest h z m r =
     = total ∙ demand .known l s z ∙ ap (λ (n : ℕ). costs (bakeOf i) n 0) (sym end) in
     let unrefused = never-refused i s (first .allowance) accepts l m in
     let none : NoneRefused (refusalsOf results) = subst NoneRefused (sym (ap (λ (t : Ran Float). t .refusals) ran)) unrefused in
+    let every = each-call b i demand s d p results refl h none .0 in
     let later = each-call b i demand (handedOn first) (first .distances) (first .places) rest (same-input b d (first .distances) p (first .places) (h .0 .distances-long) (h .0 .places-long)) (h .1) (none .1) in
     record {
       none = none;
@@ -148,7 +157,8 @@ demand-of-results b s d p first rest h z m r =
             ap (λ (t : Stage Float). t .volume) left ∙ x .1 ∙ ap (stands (bakeOf i)) (sym end),
             ap (λ (t : Stage Float). t .scratch) left ∙ x .2,
           );
-      calls = each-call b i demand s d p results refl h none .0;
+      calls = every;
+      knows = each-knows i (s .progress) 0 results (ap (λ (q : Progress). q .rays) z) every;
       sums = λ q. ap (λ (t : Ran Float). sum (t .rays)) ran ∙ demand .sums l s z (sym end ∙ q);
       known = (total ∙ demand .last l s z ∙ sym (ap (λ (t : Ran Float). sum (t .rays)) ran), known);
       between = rw known (costs-least (bakeOf i) (fair .most) (fair .least) _ 0, costs-most (bakeOf i) (fair .most) (fair .least) _ 0);

@@ -2,12 +2,11 @@
 -- at an allowance of 384, every result that satisfies the contract answers no refusal, next 1, 64 rays so far and 64 rays, with voxel 0 gathered, voxels 1 and 2
 -- ambient and scratch untouched; and what is gathered for voxel 0 is not ambient. So none refuses everything, leaves the volume always ambient, bakes
 -- all in call one, or invents its count; and none leaves the volume untouched, since voxel 1 held zeros.
-use mathlib.Core.Path.{_≡_, refl, sym, ap, ap₂, _∙_}
+use mathlib.Core.Path.{_≡_, refl, sym, ap, _∙_}
 use mathlib.Core.Bool.{false≢true}
 use mathlib.Core.List.{List, [], _∷_}
 use Prim.Native.Nat.{ℕ}
 use native.Mathlib.Omega.{arith}
-use native.Mathlib.Nat.{zero-add}
 use lib.Dec.{lit<}
 use lib.ListN.{getD}
 use lib.Ieee as Ieee
@@ -16,8 +15,8 @@ use Rattle.names.specs.Bits.{one32}
 use Rattle.lists.specs.Fold.{tab}
 use Rattle.lists.specs.Laid.{voxelPart}
 use Rattle.words.specs.Words.{entriesOf}
+use Rattle.spread.specs.declared.Progress.{Progress}
 use Rattle.spread.specs.Spread.{progressOf, call, run}
-use Rattle.spread.specs.Walks.{call-adds}
 use Rattle.ends.specs.Ends.{ambientVoxel, ambientAt}
 use Rattle.gather.specs.Gather.{gatheredOf}
 use Rattle.intake.specs.Three.{three, begun, three-accepted}
@@ -44,14 +43,14 @@ pub record First (r : BakeAnswer) (v x : List Float) : Type 0 where
 pub after-the-first : (r : BakeAnswer) (v x d d' : List Float) (p p' : List ℕ) → Baked three begun 384 r v x d d' p p' → First r v x
 unfolding run entriesOf tab ambientVoxel ofBits Ieee.eq
 after-the-first r v x d d' p p' h =
-    let q : call (bakeOf three) 384 begun .stage .progress .next ≡ 1 = figure-first .2 in
+    let q : call (bakeOf three) 384 begun .stage .progress .next ≡ 1 = ap (λ (p : Progress). p .next) (figure-first .2) in
     let b = bake-demand three begun 384 (three-accepted .0) .before (384 ∷ []) begun refl (omega (arith, q)) (omega (arith, q)) in
     let e₀ : voxelPart 16 0 v ≡ gatheredOf (gatherInput three) 0 = ap (voxelPart 16 0) (h .volume) ∙ b .0 0 (lit< tt) ∙ rw q refl in
     let e₁ : voxelPart 16 1 v ≡ ambientAt (three .ambient) (three .lights) 1 = ap (voxelPart 16 1) (h .volume) ∙ b .0 1 (lit< tt) ∙ rw q refl in
     let e₂ : voxelPart 16 2 v ≡ ambientAt (three .ambient) (three .lights) 2 = ap (voxelPart 16 2) (h .volume) ∙ b .0 2 (lit< tt) ∙ rw q refl in
     record {
       refusal = h .refusal ∙ head-of (figure-first .0);
-      progress = h .progress ∙ ap₂ progressOf q (call-adds (bakeOf three) 384 begun ∙ zero-add _ ∙ head-of (figure-first .1));
+      progress = h .progress ∙ figure-first .2;
       rays = h .rays ∙ head-of (figure-first .1);
       baked = e₀;
       not-ambient = λ z. gathered-differs (sym e₀ ∙ z);

@@ -1,7 +1,7 @@
 -- Document 01's figure: 3×1×1 all active, no triangles: allowance 384 takes three calls of 64 rays; 448 takes two, 128 then 64; 383 is refused 10.
--- With one lamp the same 64 higher. What the rays come to follows from the costs alone, so the figures are read off the bare bake of three voxels of
+-- With one lamp the same 64 higher. At the end 192 rays are known. What the rays come to follows from the costs alone, so the figures are read off the bare bake of three voxels of
 -- 64 rays each.
-use mathlib.Core.Path.{_≡_, refl, ap, _∙_}
+use mathlib.Core.Path.{_≡_, refl, ap, ap₂, _∙_}
 use mathlib.Core.Bool.{true, false, false≢true}
 use mathlib.Core.List.{List, [], _∷_}
 use Prim.Native.Nat.{ℕ, zero, suc, _≤_, _<_}
@@ -10,7 +10,7 @@ use lib.Dec.{lit≤}
 use lib.ListN.{getD}
 use lib.Ieee as Ieee
 use lib.Ieee.{Float, nan, ofBits, ofInt}
-use Rattle.spread.specs.Spread.{atZero, stage, Bake, Called, walk, call, run, EachAtLeast, NoneRefused}
+use Rattle.spread.specs.Spread.{progressOf, atZero, stage, Bake, Called, walk, call, run, sum, EachAtLeast, NoneRefused}
 use Rattle.lists.specs.Any.{any}
 use Rattle.spread.specs.Bare.{bare, Agree, run-same}
 use Rattle.lists.specs.Some.{some}
@@ -33,7 +33,7 @@ use Rattle.intake.specs.IntakeLaws.{fits, none-refused, still-passed}
 use Rattle.intake.specs.Three.{threeWith, three, oneLamp, threeLit, begun, three-accepted, lit-accepted}
 use Rattle.demand.specs.Bake.{gatherInput, bakeOf}
 use Rattle.demand.specs.Calls.{refused-call}
-use Rattle.demand.specs.Demanded.{bake-fair}
+use Rattle.demand.specs.Demanded.{bake-fair, bake-demand}
 use Rattle.demand.specs.Lasting.{GathersWithin, bake-lasts}
 
 -- ---- no call is refused
@@ -61,6 +61,11 @@ module _ (lamps : List Float) (accepted : bakeRefusal (threeWith lamps) begun (b
   pub three-goes-on : (l : List ℕ) → EachAtLeast (bakeCost (threeWith lamps)) l → NoneRefused (run (bakeOf (threeWith lamps)) l begun .refusals)
   three-goes-on l h =
       no-call-refused (bakeOf (threeWith lamps)) three-fair (bake-lasts (threeWith lamps) (λ s a p. gathers-within lamps)) l begun h begins
+
+  -- where the reported rays are known, so are the rays so far
+  reaches : (l : List ℕ) {next : ℕ} {rays : List ℕ} → run (bakeOf (threeWith lamps)) l begun .stage .progress .next ≡ next → run (bakeOf (threeWith lamps)) l begun .rays ≡ rays
+      → run (bakeOf (threeWith lamps)) l begun .stage .progress ≡ progressOf next (sum rays)
+  reaches l e f = ap₂ progressOf e (bake-demand (threeWith lamps) begun _ accepted .last l begun refl ∙ ap sum f)
 
 -- ---- the rays, by the costs alone
 
@@ -98,24 +103,24 @@ bare-448 = (refl, refl)
 
 pub figure-384 : (run (bakeOf three) (384 ∷ 384 ∷ 384 ∷ []) begun .refusals ≡ 0 ∷ 0 ∷ 0 ∷ [])
     × (run (bakeOf three) (384 ∷ 384 ∷ 384 ∷ []) begun .rays ≡ 64 ∷ 64 ∷ 64 ∷ [])
-    × (run (bakeOf three) (384 ∷ 384 ∷ 384 ∷ []) begun .stage .progress .next ≡ 3)
-unfolding run call walk any
+    × (run (bakeOf three) (384 ∷ 384 ∷ 384 ∷ []) begun .stage .progress ≡ progressOf 3 192)
+unfolding run call walk any sum
 figure-384 =
     let n = three-goes-on [] (three-accepted .0) (384 ∷ 384 ∷ 384 ∷ []) (omega arith) in
     let r = run-same (bakeOf three) (threeBare 384) (agrees []) (384 ∷ 384 ∷ 384 ∷ []) begun (stage atZero [] []) refl (lit≤ tt) n bare-none in
-    (refusals-zero (bakeOf three) (three-fair [] (three-accepted .0)) (384 ∷ 384 ∷ 384 ∷ []) begun n, r .1 ∙ bare-384 .0, r .0 ∙ bare-384 .1)
+    (refusals-zero (bakeOf three) (three-fair [] (three-accepted .0)) (384 ∷ 384 ∷ 384 ∷ []) begun n, r .1 ∙ bare-384 .0, reaches [] (three-accepted .0) (384 ∷ 384 ∷ 384 ∷ []) (r .0 ∙ bare-384 .1) (r .1 ∙ bare-384 .0))
   where
     bare-none : NoneRefused (run (threeBare 384) (384 ∷ 384 ∷ 384 ∷ []) (stage atZero [] []) .refusals)
     bare-none = (refl, (refl, (refl, tt)))
 
 pub figure-448 : (run (bakeOf three) (448 ∷ 448 ∷ []) begun .refusals ≡ 0 ∷ 0 ∷ [])
     × (run (bakeOf three) (448 ∷ 448 ∷ []) begun .rays ≡ 128 ∷ 64 ∷ [])
-    × (run (bakeOf three) (448 ∷ 448 ∷ []) begun .stage .progress .next ≡ 3)
-unfolding run call walk any
+    × (run (bakeOf three) (448 ∷ 448 ∷ []) begun .stage .progress ≡ progressOf 3 192)
+unfolding run call walk any sum
 figure-448 =
     let n = three-goes-on [] (three-accepted .0) (448 ∷ 448 ∷ []) (omega arith) in
     let r = run-same (bakeOf three) (threeBare 384) (agrees []) (448 ∷ 448 ∷ []) begun (stage atZero [] []) refl (lit≤ tt) n bare-none in
-    (refusals-zero (bakeOf three) (three-fair [] (three-accepted .0)) (448 ∷ 448 ∷ []) begun n, r .1 ∙ bare-448 .0, r .0 ∙ bare-448 .1)
+    (refusals-zero (bakeOf three) (three-fair [] (three-accepted .0)) (448 ∷ 448 ∷ []) begun n, r .1 ∙ bare-448 .0, reaches [] (three-accepted .0) (448 ∷ 448 ∷ []) (r .0 ∙ bare-448 .1) (r .1 ∙ bare-448 .0))
   where
     bare-none : NoneRefused (run (threeBare 384) (448 ∷ 448 ∷ []) (stage atZero [] []) .refusals)
     bare-none = (refl, (refl, tt))
@@ -140,19 +145,19 @@ bare-lit = (refl, refl, refl, refl)
 
 pub figure-lit : (run (bakeOf threeLit) (448 ∷ 448 ∷ 448 ∷ []) begun .refusals ≡ 0 ∷ 0 ∷ 0 ∷ [])
     × (run (bakeOf threeLit) (448 ∷ 448 ∷ 448 ∷ []) begun .rays ≡ 64 ∷ 64 ∷ 64 ∷ [])
-    × (run (bakeOf threeLit) (448 ∷ 448 ∷ 448 ∷ []) begun .stage .progress .next ≡ 3)
-unfolding run call walk any
+    × (run (bakeOf threeLit) (448 ∷ 448 ∷ 448 ∷ []) begun .stage .progress ≡ progressOf 3 192)
+unfolding run call walk any sum
 figure-lit =
     let n = three-goes-on oneLamp (lit-accepted .0) (448 ∷ 448 ∷ 448 ∷ []) (omega arith) in
     let r = run-same (bakeOf threeLit) (threeBare 448) (agrees oneLamp) (448 ∷ 448 ∷ 448 ∷ []) begun (stage atZero [] []) refl (lit≤ tt) n (refl, (refl, (refl, tt))) in
-    (refusals-zero (bakeOf threeLit) (three-fair oneLamp (lit-accepted .0)) (448 ∷ 448 ∷ 448 ∷ []) begun n, r .1 ∙ bare-lit .0, r .0 ∙ bare-lit .1)
+    (refusals-zero (bakeOf threeLit) (three-fair oneLamp (lit-accepted .0)) (448 ∷ 448 ∷ 448 ∷ []) begun n, r .1 ∙ bare-lit .0, reaches oneLamp (lit-accepted .0) (448 ∷ 448 ∷ 448 ∷ []) (r .0 ∙ bare-lit .1) (r .1 ∙ bare-lit .0))
 
-pub figure-lit-512 : (run (bakeOf threeLit) (512 ∷ 512 ∷ []) begun .rays ≡ 128 ∷ 64 ∷ []) × (run (bakeOf threeLit) (512 ∷ 512 ∷ []) begun .stage .progress .next ≡ 3)
-unfolding run call walk any
+pub figure-lit-512 : (run (bakeOf threeLit) (512 ∷ 512 ∷ []) begun .rays ≡ 128 ∷ 64 ∷ []) × (run (bakeOf threeLit) (512 ∷ 512 ∷ []) begun .stage .progress ≡ progressOf 3 192)
+unfolding run call walk any sum
 figure-lit-512 =
     let n = three-goes-on oneLamp (lit-accepted .0) (512 ∷ 512 ∷ []) (omega arith) in
     let r = run-same (bakeOf threeLit) (threeBare 448) (agrees oneLamp) (512 ∷ 512 ∷ []) begun (stage atZero [] []) refl (lit≤ tt) n (refl, (refl, tt)) in
-    (r .1 ∙ bare-lit .2, r .0 ∙ bare-lit .3)
+    (r .1 ∙ bare-lit .2, reaches oneLamp (lit-accepted .0) (512 ∷ 512 ∷ []) (r .0 ∙ bare-lit .3) (r .1 ∙ bare-lit .2))
 
 pub figure-447 : run (bakeOf threeLit) (447 ∷ []) begun .refusals ≡ 10 ∷ []
 unfolding run
@@ -162,12 +167,12 @@ figure-447 =
 
 -- the first call of the three takes voxel 0 and no more
 pub figure-first : (run (bakeOf three) (384 ∷ []) begun .refusals ≡ 0 ∷ []) × (run (bakeOf three) (384 ∷ []) begun .rays ≡ 64 ∷ [])
-    × (run (bakeOf three) (384 ∷ []) begun .stage .progress .next ≡ 1)
-unfolding run call walk any
+    × (run (bakeOf three) (384 ∷ []) begun .stage .progress ≡ progressOf 1 64)
+unfolding run call walk any sum
 figure-first =
     let n = three-goes-on [] (three-accepted .0) (384 ∷ []) (omega arith) in
     let r = run-same (bakeOf three) (threeBare 384) (agrees []) (384 ∷ []) begun (stage atZero [] []) refl (lit≤ tt) n (refl, tt) in
-    (refusals-zero (bakeOf three) (three-fair [] (three-accepted .0)) (384 ∷ []) begun n, r .1, r .0)
+    (refusals-zero (bakeOf three) (three-fair [] (three-accepted .0)) (384 ∷ []) begun n, r .1, reaches [] (three-accepted .0) (384 ∷ []) (r .0) (r .1))
 
 -- what is gathered for voxel 0 is not what it holds before: its first number is not ambient's 1
 pub gathered-differs : gatheredOf (gatherInput three) 0 ≡ ambientAt (three .ambient) (three .lights) 0 → ⊥

@@ -17,14 +17,14 @@ use Rattle.grid.specs.declared.Axes.{Axes}
 use Rattle.grid.specs.Grid.{voxels, indexOf, xOf, yOf, zOf}
 use Rattle.grid.specs.GridLaws.{index-within, index-of-coordinates, x-within, y-within, z-within}
 use Rattle.words.specs.Words.{bitOf, bitAt, entriesOf, Tidy, Holds}
-use Rattle.words.specs.BitLaws.{alike, below-or-from, bit-shifted}
+use Rattle.words.specs.BitLaws.{alike, below-or-from, low-bit, bit-shifted}
 use Rattle.words.specs.WordsLaws.{bit-says, bit-at-lt, entries-length, entries-at, clean-bits, bits-clean}
 use Rattle.dilate.specs.Active.{activeOf}
 use Rattle.dilate.specs.ActiveLaws.{near-out, near-in}
 use Rattle.dilate.specs.ByAxes.{lineHas, dilateMiddle, middleX, middleZ, dilateByAxes}
 use Rattle.dilate.specs.ByAxesLaws.{middle-length, middle-entry, voxels-x, voxels-z, dilated-mask}
 use Rattle.dilate.specs.ByBlocks.{aboveWord, belowWord, Run, Ored, Merged, FromAbove, FromBelow, MarkedNear, SpreadTo, BlockSpread, BlockDilated, BlocksDilated}
-use Rattle.dilate.specs.RunLaws.{max-one-left, max-one-right, one-of-max, or-bit, low-bit, no-high-bit, up-bit, up-none}
+use Rattle.dilate.specs.RunLaws.{max-one-left, max-one-right, one-of-max, or-bit, no-high-bit, up-bit, up-none}
 
 -- ---- what a mark reaches
 

@@ -6,11 +6,11 @@ use Prim.Native.Nat.{ℕ, zero, suc, _+_, _-_, _*_, _/_, _%_, _^_, _≤_, _<_, m
 use native.Mathlib.Omega.{arith}
 use native.Mathlib.Nat.{zero-max, max-zero, mod-lt, mul-assoc}
 use lib.Bits.{bitOr, or-step}
-use lib.Pow.{pow-pos, pow-add, shl-shr, field, mod-mod-pow}
+use lib.Pow.{pow-pos, pow-add, shl-shr, field}
 use lib.ListN.{length, getD, set, length-set}
 use lib.Seq.{getD-set-same, getD-set-other}
 use Rattle.words.specs.Words.{bitOf, bitAt, AreWords}
-use Rattle.words.specs.BitLaws.{below-or-from, same-or-not, bit-suc, bit-zero, zero-bits, bit-shifted, bit-beyond}
+use Rattle.words.specs.BitLaws.{below-or-from, same-or-not, bit-suc, bit-zero, zero-bits, low-bit, bit-shifted, bit-beyond}
 use Rattle.dilate.specs.ByBlocks.{orWord, Run, Ored, Merged}
 
 -- ---- one of two bits
@@ -46,13 +46,6 @@ or-bit a b zero =
 or-bit a b (suc j) =
     let h : bitOr a b / 2 ≡ bitOr (a / 2) (b / 2) = omega (arith, or-step a b, max-lt (a % 2) (b % 2) (omega arith) (omega arith)) in
     bit-suc (bitOr a b) j ∙ ap (λ (x : ℕ). bitOf x j) h ∙ or-bit (a / 2) (b / 2) j ∙ sym (ap₂ max (bit-suc a j) (bit-suc b j))
-
--- the low bits of a number
-pub low-bit : (w m j : ℕ) → j < m → bitOf (w % 2 ^ m) j ≡ bitOf w j
-low-bit w m j h =
-    let n : ℕ = m - j - 1 in
-    let e : n + 1 + j ≡ m = omega arith in
-    sym (ap (λ (y : ℕ). bitOf (w % 2 ^ y) j) e) ∙ ap (λ (y : ℕ). y % 2) (field w (n + 1) j) ∙ mod-mod-pow (w / 2 ^ j) n 1
 
 pub no-high-bit : (w m j : ℕ) → m ≤ j → bitOf (w % 2 ^ m) j ≡ 0
 no-high-bit w m j h = bit-beyond (w % 2 ^ m) m j (mod-lt w (pow-pos m)) h

@@ -121,12 +121,12 @@ looked x =
     let a = lightAtOf (axesOf 2 1 1) (upToCorner (lit 0x40000000) one32 one32) (zero32 ∷ one32 ∷ []) (vec x zero32 zero32) in
     a .refusal ∷ bits (a .light ∷ [])
 
--- ---- bake: "3×1×1 all active, no triangles", called with each allowance in turn: refusals, rays, then the progress at the end
+-- ---- bake: "3×1×1 all active, no triangles", called with each allowance in turn: refusals, rays, then next and the rays so far at the end
 
 unfoldable pub bakeAnswers : List ℕ → List ℕ
 bakeAnswers allowances =
     let r = run (bakeOf three) allowances begun in
-    r .refusals ++ (r .rays ++ (r .stage .progress ∷ []))
+    r .refusals ++ (r .rays ++ (r .stage .progress .next ∷ r .stage .progress .rays ∷ []))
 
 -- ---- the figures
 
@@ -160,9 +160,9 @@ computed =
 -- those that follow from the laws of a spread bake
 unfoldable pub bakes : List Figure
 bakes =
-    figure (bakeAnswers (384 ∷ 384 ∷ 384 ∷ [])) (0 ∷ 0 ∷ 0 ∷ 64 ∷ 64 ∷ 64 ∷ 3 ∷ [])
-    ∷ figure (bakeAnswers (448 ∷ 448 ∷ [])) (0 ∷ 0 ∷ 128 ∷ 64 ∷ 3 ∷ [])
-    ∷ figure (bakeAnswers (383 ∷ [])) (10 ∷ 0 ∷ 0 ∷ [])
+    figure (bakeAnswers (384 ∷ 384 ∷ 384 ∷ [])) (0 ∷ 0 ∷ 0 ∷ 64 ∷ 64 ∷ 64 ∷ 3 ∷ 192 ∷ [])
+    ∷ figure (bakeAnswers (448 ∷ 448 ∷ [])) (0 ∷ 0 ∷ 128 ∷ 64 ∷ 3 ∷ 192 ∷ [])
+    ∷ figure (bakeAnswers (383 ∷ [])) (10 ∷ 0 ∷ 0 ∷ 0 ∷ [])
     ∷ []
 
 abbrev answers : List Figure → List (List ℕ)

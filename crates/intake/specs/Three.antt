@@ -70,8 +70,8 @@ pub mask-judged : (bakeRefusal (threeOf (15 ∷ []) []) begun 384 ≡ 13) × (ba
 unfolding bakeRefusal bakeRows firstOf some within upTo outsideV badAxes badCorners badEdges wrongShare wrongScene tooMany badPoints badKinds badFrom badUses badMaterials badDirection badLight badAmbient badSky unusedSet badLights badCoefficients wrongLengths wrongBakeLists badLighting badLamp badLamps lampAt any badProgress entriesOf tab fold badVolume badContents edgesOf dotV ofBits ofInt Ieee.add Ieee.sub Ieee.mul Ieee.div Ieee.neg Ieee.le Ieee.lt Ieee.eq
 mask-judged = (refl, refl, refl)
 
--- progress with voxel 0 done, whose rays were 64 to 384, or to 448 with a lamp; with none done, whose rays are 0; with all done, 192 to 1,152; next past the
--- count; and 9 comes before 10 and 13
+-- progress with voxel 0 done, whose rays were 64 to 384, or to 448 with a lamp; with none done, whose rays are 0; with all done, 192 to 1,152; with voxels 0
+-- and 1 passed, of which the mask 5 has voxel 0 alone; next past the count; 9 comes before 10 and 13, 19 and 7 before 9
 abbrev pub under : ℕ → ℕ → Stage Float
 under next rays = stage (progressOf next rays) (begun .volume) (begun .scratch)
 
@@ -79,7 +79,10 @@ pub progress-judged : (map (λ (r : ℕ). bakeRefusal three (under 1 r) 384) (63
     × (map (λ (r : ℕ). bakeRefusal threeLit (under 1 r) 448) (63 ∷ 64 ∷ 448 ∷ 449 ∷ []) ≡ 9 ∷ 0 ∷ 0 ∷ 9 ∷ [])
     × (map (λ (r : ℕ). bakeRefusal three (under 0 r) 384) (0 ∷ 1 ∷ []) ≡ 0 ∷ 9 ∷ [])
     × (map (λ (r : ℕ). bakeRefusal three (under 3 r) 384) (191 ∷ 192 ∷ 1152 ∷ 1153 ∷ []) ≡ 9 ∷ 0 ∷ 0 ∷ 9 ∷ [])
+    × (map (λ (r : ℕ). bakeRefusal (threeOf (5 ∷ []) []) (under 2 r) 384) (63 ∷ 64 ∷ 384 ∷ 385 ∷ []) ≡ 9 ∷ 0 ∷ 0 ∷ 9 ∷ [])
     × (bakeRefusal three (under 4 192) 384 ≡ 9)
     × (bakeRefusal (threeOf (15 ∷ []) []) (under 1 63) 383 ≡ 9)
+    × (bakeRefusal (threeWith (replicate 54 one32)) (under 0 1) 384 ≡ 19)
+    × (bakeRefusal (inputOf (three .axes) (three .corners) (three .scene) (record { direction = vec zero32 zero32 zero32; colour = vec one32 one32 one32 }) (three .ambient) (three .sky) [] (three .active) (three .lights) 0 0) (under 0 1) 384 ≡ 7)
 unfolding bakeRefusal bakeRows firstOf some within upTo outsideV badAxes badCorners badEdges wrongShare wrongScene tooMany badPoints badKinds badFrom badUses badMaterials badDirection badLight badAmbient badSky unusedSet badLights badCoefficients wrongLengths wrongBakeLists badLighting badLamp badLamps lampAt any badProgress entriesOf tab fold badVolume badContents edgesOf dotV ofBits ofInt Ieee.add Ieee.sub Ieee.mul Ieee.div Ieee.neg Ieee.le Ieee.lt Ieee.eq
-progress-judged = (refl, refl, refl, refl, refl, refl)
+progress-judged = (refl, refl, refl, refl, refl, refl, refl, refl, refl)

@@ -14,6 +14,7 @@ use limits::Ambient;
 use limits::Light;
 use names::BARE_COST;
 use names::LAMP_COST;
+use names::PRIMARY_RAYS;
 use names::SKY_NUMBERS;
 use spread::Progress;
 
@@ -130,9 +131,6 @@ fn bad_lighting(light: Light, ambient: Ambient, sky: &[f32]) -> bool
 }
 
 // ---- 9, of n voxels
-
-// The rays that an active voxel costs at least.
-const PRIMARY_RAYS: u64 = 64;
 
 fn bad_progress(n: usize, active: &[u64], lamps: &[f32], progress: Progress) -> bool
     requires { ⌜ (n ≤ voxelLimit) × (length (now active) ≡ wordCount n) × (lampCount (now lamps) ≤ lampLimit) ⌝ }

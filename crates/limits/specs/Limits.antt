@@ -160,10 +160,10 @@ unfoldable pub badRay : Ray → Bool
 badRay r =
     outsideV originLimit (r .origin) || outsideV directionLimit (r .direction) || not (upTo shortestLimit (r .shortest)) || isNan (r .longest)
 
--- ---- 9: progress above the voxel count
+-- ---- 9: progress whose next voxel is above the voxel count; of its rays see `badProgress` of the crate intake
 
 abbrev pub pastCount : ℕ → ℕ → Bool
-pastCount progress n = ltb n progress
+pastCount next n = ltb n next
 
 -- ---- 10: allowance below 384+64L, with L lamps
 

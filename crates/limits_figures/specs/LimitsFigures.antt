@@ -105,7 +105,7 @@ pub rays : badRay (ray 0 0x7f800000)
 unfolding badRay outsideV within upTo ofBits neg lt le eq isNan
 rays = refl
 
--- 9: progress at the count of three voxels, and one above it
+-- 9: next at the count of three voxels, and one above it; of the rays so far see `progress-judged` of the crate intake
 pub progress-figures : map (λ (p : ℕ). pastCount p 3) (0 ∷ 3 ∷ 4 ∷ []) ≡ false ∷ false ∷ true ∷ []
 progress-figures = refl
 

@@ -14,7 +14,10 @@ pub const LAMP_LIMIT: usize = 8;
 
 // ---- rays of a voxel
 
-// without lamps, and for each lamp more
+// at least
+pub const PRIMARY_RAYS: u64 = 64;
+
+// at most, without lamps, and for each lamp more
 pub const BARE_COST: u64 = 384;
 
 pub const LAMP_COST: u64 = 64;

@@ -1,22 +1,36 @@
-// Replays the oracle's recorded answers for the bake. A record of calls, whole and interrupted: at each call the refusal, the progress, the rays, the
-// volume and its scratch bit by bit, and the hit scratch where no ray is traced. A record of rays: each ray that the bake of a small scene fires, and their
+// Replays the oracle's recorded answers for the bake. A record of calls, whole and interrupted: at each call the refusal, the next voxel, the rays so far,
+// the call's rays, the volume and its scratch bit by bit, and the hit scratch where no ray is traced. A record of rays: each ray that the bake of a small scene fires, and their
 // number, which is also the one that the bake reports.
 use bake::BakeAnswer;
 use replay::Tally;
+use spread::Progress;
 
 // Where the lists begin: points, uses, kinds, numbers, sky, lamps, active, light, volume, scratch, distances, places.
 const FROM: usize = 31;
+
+// Where a call's lists begin: volume, scratch.
+const LISTS: usize = 14;
 
 // The two kinds of record.
 const CALLS: u32 = 7;
 
 const RAYS: u32 = 11;
 
+// The next voxel and the rays so far.
+fn progress(s: &[u8], at: usize) -> Progress {
+    Progress {
+        next: replay::whole(s, at),
+        rays: replay::long(s, replay::further(at, 2)),
+    }
+}
+
 // Holds a call's numbers to the record. A call is its progress, its allowance, whether hit scratch is held, then refusal, progress and rays.
 fn numbers_held(s: &[u8], t: Tally, at: usize, r: BakeAnswer) -> Tally {
-    let a = replay::held(t, r.refusal == replay::word(s, replay::further(at, 5)));
-    let b = replay::held(a, r.progress == replay::whole(s, replay::further(at, 6)));
-    replay::held(b, r.rays == replay::long(s, replay::further(at, 8)))
+    let left = progress(s, replay::further(at, 8));
+    let a = replay::held(t, r.refusal == replay::word(s, replay::further(at, 7)));
+    let b = replay::held(a, r.progress.next == left.next);
+    let c = replay::held(b, r.progress.rays == left.rays);
+    replay::held(c, r.rays == replay::long(s, replay::further(at, 12)))
 }
 
 // Holds the lists that a call may write to the record.
@@ -29,8 +43,8 @@ fn lists_held(
     distances: &[f32],
     places: &[usize],
 ) -> Tally {
-    let first = replay::further(at, 10);
-    let asked = replay::word(s, replay::further(at, 4)) != 0;
+    let first = replay::further(at, LISTS);
+    let asked = replay::word(s, replay::further(at, 6)) != 0;
     let a = replay::held(t, replay::same_floats(s, first, volume));
     let b = replay::held(a, replay::same_floats(s, replay::past(s, first), scratch));
     replay::held_if(
@@ -43,7 +57,7 @@ fn lists_held(
 // A call with the record's lists.
 fn answered(
     s: &[u8],
-    progress: usize,
+    begun: Progress,
     allowance: u64,
     points: &[f32],
     uses: &[u32],
@@ -79,7 +93,7 @@ fn answered(
         scratch,
         distances,
         places,
-        progress,
+        begun,
         allowance,
     )
 }
@@ -101,11 +115,10 @@ fn one(
     distances: &mut [f32],
     places: &mut [usize],
 ) -> Tally {
-    let progress = replay::whole(s, at);
-    let allowance = replay::long(s, replay::further(at, 2));
+    let allowance = replay::long(s, replay::further(at, 4));
     let r = answered(
         s,
-        progress,
+        progress(s, at),
         allowance,
         points,
         uses,
@@ -203,7 +216,7 @@ fn calls(
             distances,
             places,
         );
-        at = replay::nth(s, replay::further(at, 10), 2);
+        at = replay::nth(s, replay::further(at, LISTS), 2);
         i += 1;
     }
     tally
@@ -229,7 +242,7 @@ fn rays(
     let u = replay_fired::listed(s, t, points, uses, kinds, numbers, lamps, active);
     let r = answered(
         s,
-        0,
+        Progress { next: 0, rays: 0 },
         u64::MAX,
         points,
         uses,
@@ -245,7 +258,7 @@ fn rays(
         places,
     );
     let n = replay::half(s, replay::nth(s, FROM, 12));
-    replay::held(u, (r.refusal == 0) & (r.rays == n))
+    replay::held(u, (r.refusal == 0) & (r.rays == n) & (r.progress.rays == n))
 }
 
 fn stock(s: &[u8], volume: &mut [f32], scratch: &mut [f32]) {

@@ -9,7 +9,6 @@ use native.Mathlib.Nat.{add-mul, one-mul, zero-mul}
 use lib.ListN.{length}
 use Rattle.lists.specs.Any.{any-same}
 use Rattle.lists.specs.Laid.{voxelPart, laid-same, length-laid, part-of-laid}
-use Rattle.spread.specs.declared.Progress.{Progress}
 use Rattle.spread.specs.Spread.{progressOf, stage, Bake, anyActive, blurred, unblurred, unbroken, actives, costs, sum}
 use Rattle.spread.specs.Demand.{Sized}
 use Rattle.shares.specs.LaidBelow.{voxel-long, part-below, length-below}
@@ -94,14 +93,11 @@ module _ {A : Type 0} (b : Bake A) where
   -- a finished bake has its unblurred volume where it is looked for
   pub unblurred-in : (scratch : List A) → unblurredIn b (unbroken b scratch) ≡ unblurred b
   unfolding unbroken
-  unblurred-in scratch = go (anyActive (b .active) (b .count)) (progressOf (b .count) (costs b (b .count) 0))
+  unblurred-in scratch = go (anyActive (b .active) (b .count)) refl
     where
-      go : (x : Bool) (p : Progress)
-          → cond x (cond x (stage p (b .mean (unblurred b)) (unblurred b)) (stage p (unblurred b) scratch) .scratch)
-          (cond x (stage p (b .mean (unblurred b)) (unblurred b)) (stage p (unblurred b) scratch) .volume)
-          ≡ unblurred b
-      go true p = refl
-      go false p = refl
+      go : (x : Bool) → anyActive (b .active) (b .count) ≡ x → unblurredIn b (unbroken b scratch) ≡ unblurred b
+      go true e = rw e refl
+      go false e = rw e refl
 
   module _ (sized : Sized b) where
     -- what voxel i holds, unblurred, where it is had and where it is not
@@ -121,11 +117,11 @@ module _ {A : Type 0} (b : Bake A) where
     length-unblurred share = length-laid (b .size) (λ j. holding (share .has j) j) (λ j. length-holding (share .has j) j) (b .count) 0
 
     -- the voxels of two shares
-    abbrev both : Share A → Share A → Share A
-    both s t = record { has = λ i. s .has i || t .has i; refusal = t .refusal }
+    abbrev pub eitherOf : Share A → Share A → Share A
+    eitherOf s t = record { has = λ i. s .has i || t .has i; refusal = t .refusal }
 
     -- two joined are the bake over the voxels of both
-    pub two-joined : (s t : Share A) → joinedBy (b .size) (b .count) (s .has) (unblurred (bakeBy b s)) (unblurred (bakeBy b t)) ≡ unblurred (bakeBy b (both s t))
+    pub two-joined : (s t : Share A) → joinedBy (b .size) (b .count) (s .has) (unblurred (bakeBy b s)) (unblurred (bakeBy b t)) ≡ unblurred (bakeBy b (eitherOf s t))
     unfolding joinedBy unblurred
     two-joined s t = laid-same _ _ (b .count) 0 (λ i p q. one i (omega arith))
       where
@@ -140,7 +136,7 @@ module _ {A : Type 0} (b : Bake A) where
             ∙ go (s .has i) (t .has i) i
 
     -- a bake over the active voxels is the bake
-    same-voxels : (s : Share A) → ((i : ℕ) → i < b .count → s .has i ≡ b .active i) → unblurred (bakeBy b s) ≡ unblurred b
+    pub same-voxels : (s : Share A) → ((i : ℕ) → i < b .count → s .has i ≡ b .active i) → unblurred (bakeBy b s) ≡ unblurred b
     unfolding unblurred
     same-voxels s e = laid-same _ _ (b .count) 0 (λ i p q. ap (λ (x : Bool). holding x i) (e i (omega arith)))
 
@@ -172,7 +168,7 @@ module _ {A : Type 0} (b : Bake A) where
         go false true e = absurd (omega arith)
     all-joined first (s ∷ rest) parted =
         ap (joinedAll b rest) (two-joined s first)
-        ∙ all-joined (both s first) rest (λ i h. go (s .has i) (first .has i) (b .active i) (holders rest i) (parted i h))
+        ∙ all-joined (eitherOf s first) rest (λ i h. go (s .has i) (first .has i) (b .active i) (holders rest i) (parted i h))
       where
         go : (x y a : Bool) (n : ℕ) → cond y 1 0 + (cond x 1 0 + n) ≡ cond a 1 0 → cond (x || y) 1 0 + n ≡ cond a 1 0
         go true true true n e = absurd (omega arith)

@@ -206,7 +206,7 @@ module _ {A : Type 0} (b : Bake A) (fair : Fair b) where
           rw (ended-progress b (reachedBy b a s) (w .volume) (s .scratch), m)
           (walk-goes b (walks b (suc k) (s .progress .next) a (started b (s .progress .next) (s .volume))) f)
 
-  rests-done : (a : ℕ) (s : Stage A) → s .progress .next ≡ b .count → (call b a s .rays ≡ 0) × (call b a s .stage ≡ s)
+  pub rests-done : (a : ℕ) (s : Stage A) → s .progress .next ≡ b .count → (call b a s .rays ≡ 0) × (call b a s .stage ≡ s)
   rests-done a s h = go (call b a s) (calls a s)
     where
       go : (c : Called A) → Calls a s c → (c .rays ≡ 0) × (c .stage ≡ s)
@@ -216,21 +216,21 @@ module _ {A : Type 0} (b : Bake A) (fair : Fair b) where
 
   -- ---- what stands as a run goes: the unbroken bake, or short of the end what the progress says
 
-  record Short (x : List A) (s : Stage A) : Type 0 where
-    before : s .progress .next < b .count
-    known : s .progress .rays ≡ costs b (s .progress .next) 0
-    volume : started b (s .progress .next) (s .volume) ≡ stands b (s .progress .next)
-    scratch : s .scratch ≡ x
+  pub record Short (x : List A) (s : Stage A) : Type 0 where
+    pub before : s .progress .next < b .count
+    pub known : s .progress .rays ≡ costs b (s .progress .next) 0
+    pub volume : started b (s .progress .next) (s .volume) ≡ stands b (s .progress .next)
+    pub scratch : s .scratch ≡ x
 
-  -- where the bake stands after a run that began at progress 0 with the scratch x
-  abbrev Along : List A → Stage A → Type 0
+  -- where the bake stands after a run that began at progress zero with the scratch x
+  abbrev pub Along : List A → Stage A → Type 0
   Along x s = Short x s ⊎ (s ≡ unbroken b x)
 
   -- progress at the end
-  abbrev atEnd : Progress
+  abbrev pub atEnd : Progress
   atEnd = progressOf (b .count) (costs b (b .count) 0)
 
-  unbroken-progress : (x : List A) → unbroken b x .progress ≡ atEnd
+  pub unbroken-progress : (x : List A) → unbroken b x .progress ≡ atEnd
   unfolding unbroken
   unbroken-progress x = go (anyActive (b .active) (b .count))
     where
@@ -249,7 +249,7 @@ module _ {A : Type 0} (b : Bake A) (fair : Fair b) where
       let split : costs b (w .next) 0 ≡ costs b i 0 + costs b (w .next - i) i = rw (there, zero-add) at (costs-split b i (w .next - i) 0) in
       omega (arith, walk-fires b q)
 
-  along-call : (a : ℕ) (x : List A) (s : Stage A) → Along x s → Along x (call b a s .stage)
+  pub along-call : (a : ℕ) (x : List A) (s : Stage A) → Along x s → Along x (call b a s .stage)
   unfolding unbroken
   along-call a x s (inr e) = inr (rests-done a s (ap (λ (z : Stage A). z .progress .next) e ∙ ap (λ (p : Progress). p .next) (unbroken-progress x)) .1 ∙ e)
   along-call a x s (inl h) = go (call b a s) (calls a s)

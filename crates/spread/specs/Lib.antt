@@ -5,3 +5,4 @@ pub mod Walks
 pub mod Contents
 pub mod Holds
 pub mod Bare
+pub mod Carried

@@ -149,14 +149,13 @@ module _ {A : Type 0} (b : Bake A) where
   -- what a call reports is added to the rays so far
   pub call-adds : (a : ℕ) (s : Stage A) → call b a s .stage .progress .rays ≡ s .progress .rays + call b a s .rays
   unfolding call
-  call-adds a s = go (eqb (b .refusal s a) 0) (eqb (s .progress .next) (b .count))
+  call-adds a s = go (eqb (b .refusal s a) 0) refl (eqb (s .progress .next) (b .count)) refl
     where
-      go : (t u : Bool)
-          → cond t (cond u (record { refusal = 0; rays = 0; stage = s }) (baked b a s)) (record { refusal = b .refusal s a; rays = 0; stage = s }) .stage .progress .rays
-          ≡ s .progress .rays + cond t (cond u (record { refusal = 0; rays = 0; stage = s }) (baked b a s)) (record { refusal = b .refusal s a; rays = 0; stage = s }) .rays
-      go true true = omega arith
-      go true false = ap (λ (p : Progress). p .rays) (ended-progress (reachedBy b a s) (walkOf b a s .volume) (s .scratch))
-      go false u = omega arith
+      go : (t : Bool) → eqb (b .refusal s a) 0 ≡ t → (u : Bool) → eqb (s .progress .next) (b .count) ≡ u
+          → call b a s .stage .progress .rays ≡ s .progress .rays + call b a s .rays
+      go false p u q = rw p (omega arith)
+      go true p true q = rw (p, q) (omega arith)
+      go true p false q = rw (p, q) (ap (λ (p : Progress). p .rays) (ended-progress (reachedBy b a s) (walkOf b a s .volume) (s .scratch)))
 
   module _ (high : (i : ℕ) → b .cost i ≤ b .most) where
     -- it fires no more than it may

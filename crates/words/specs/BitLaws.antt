@@ -189,8 +189,8 @@ module _ (w k : ℕ) where
   below-k = mod-lt w (pow-pos k)
 
   -- the bits below k are those of the lower part
-  pub low-bit : (j : ℕ) → j < k → bitOf w j ≡ bitOf (w % 2 ^ k) j
-  low-bit j p = ap (λ (y : ℕ). bitOf y j) in-parts ∙ lower-bit (w / 2 ^ k / 2) (bitOf w k) (w % 2 ^ k) k (bit-lt w k) below-k j p
+  pub low-bit : (j : ℕ) → j < k → bitOf (w % 2 ^ k) j ≡ bitOf w j
+  low-bit j p = sym (ap (λ (y : ℕ). bitOf y j) in-parts ∙ lower-bit (w / 2 ^ k / 2) (bitOf w k) (w % 2 ^ k) k (bit-lt w k) below-k j p)
 
   pub put-parts : (v : ℕ) → putBit w k v ≡ (w / 2 ^ k / 2 * 2 + v) * 2 ^ k + w % 2 ^ k
   put-parts v =
@@ -302,7 +302,7 @@ ones-total (suc d) w h =
 
 -- those below place d are the ones of what they make
 pub low-ones : (d w : ℕ) → total (bitOf w) d 0 ≡ ones (w % 2 ^ d)
-low-ones d w = total-same (bitOf w) (bitOf (w % 2 ^ d)) d 0 0 (λ j h. low-bit w d (0 + j) (omega arith)) ∙ ones-total d (w % 2 ^ d) (mod-lt w (pow-pos d))
+low-ones d w = total-same (bitOf w) (bitOf (w % 2 ^ d)) d 0 0 (λ j h. sym (low-bit w d (0 + j) (omega arith))) ∙ ones-total d (w % 2 ^ d) (mod-lt w (pow-pos d))
 
 -- ---- the lowest set bit
 

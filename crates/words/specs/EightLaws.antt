@@ -6,12 +6,11 @@ use native.Mathlib.Omega.{arith}
 use native.Mathlib.Nat.{add-zero, zero-add}
 use native.Mathlib.Numerals.{add-one}
 use lib.ListN.{length, getD, take, set, length-set}
-use lib.Pow.{field, mod-mod-pow}
 use lib.Seq.{sets, length-sets}
 use Rattle.lists.specs.Fold.{tab, getD-tab, tab-step}
 use Rattle.words.specs.Words.{bitOf, bitAt}
 use Rattle.words.specs.ByWords.{spreadOf, eightBytes}
-use Rattle.words.specs.BitLaws.{bit-shifted}
+use Rattle.words.specs.BitLaws.{low-bit, bit-shifted}
 
 -- every byte, by computation
 spread-all : tab (λ b. eightBytes (spreadOf b)) 256 0 ≡ tab (λ b. tab (bitOf b) 8 0) 256 0
@@ -36,13 +35,6 @@ tab-moved f g (suc k) i i′ e =
     let b : i′ + suc j ≡ i′ + 1 + j = omega arith in
     ap f a ∙ e (suc j) (omega arith) ∙ ap g b) in
     ap₂ (λ (x : ℕ) (l : List ℕ). x ∷ l) z s
-
--- the low bits of a number are those of its low part
-low-bit : (x d j : ℕ) → j < d → bitOf (x % 2 ^ d) j ≡ bitOf x j
-low-bit x d j h =
-    let m : ℕ = d - j - 1 in
-    let e : d ≡ m + 1 + j = omega arith in
-    ap (λ (y : ℕ). x % 2 ^ y / 2 ^ j % 2) e ∙ ap (λ (y : ℕ). y % 2) (field x (m + 1) j) ∙ mod-mod-pow (x / 2 ^ j) m 1
 
 -- the next eight entries, where those before are whole eights
 pub eight-entries : (words : List ℕ) (i : ℕ) → i % 8 ≡ 0 → eightBytes (spreadOf (getD words (i / 64) 0 / 2 ^ (i % 64) % 256)) ≡ tab (bitAt words) 8 i

@@ -34,8 +34,10 @@ mul-result-2 c =
 returns-2 : tie.Need-returns-2
 unfolding badProgress
 returns-2 c =
-    let k = c .before .before .before .count-below in
-    rw (c .before .voxel-cost .ensures, k .ensures .0 _ (c .before .before .before .before .if1 .left), le-ltb _ _ (c .before .before .before .before .if1 .left)) refl
+    let t = c .before .before .before .before in
+    let n = t .before .before .before .before .args .n in
+    let marked = c .before .before .before .count-below .ensures .0 n (omega arith) in
+    rw (c .before .voxel-cost .ensures, marked, le-ltb _ _ (t .if1 .left)) refl
 
 pub bad-progress-spec : {M : Type 1} → statement M
 bad-progress-spec =
