@@ -1,7 +1,7 @@
-/* Geaidnosa 0.2.0: the public calls of the light bake, for C and C++ on x86-64. Link libgeaidnosa.a.
+/* Geaidnosa 0.3.0: the public calls of the light bake, for C and C++ on x86-64. Link libgeaidnosa.a.
  *
  * A bake, call by call. geaidnosa_masks marks the voxels at and near surfaces; geaidnosa_sun finds how much of the sun each of them sees;
- * geaidnosa_directions gives the directions along which the caller fills the sky; geaidnosa_bake, called until its progress is the voxel count, fills the
+ * geaidnosa_directions gives the directions along which the caller fills the sky; geaidnosa_bake, called until its progress is at the voxel count, fills the
  * volume; geaidnosa_coefficients_at, geaidnosa_light_at and the frame calls read it; geaidnosa_write_volume and geaidnosa_read_volume store it and bring
  * it back. tools/host/sky.c is such a program in a page.
  *
@@ -34,7 +34,7 @@
  * Floats. Every call asks for the default float environment: round to nearest, ties to even, no flush-to-zero, no denormals-are-zero.
  *
  * Refusals. Each call tests its input itself and answers the first number that holds, in the order named with it, or 0. Where it refuses, every
- * other number of the answer is zero (but a bake's progress, which comes back as handed in), and no list is written.
+ * other number of the answer is zero (but a bake's progress, both numbers of which come back as handed in), and no list is written.
  *
  *    1  an axis outside 1..32
  *    2  a corner not finite or beyond 4,096 in magnitude, or a voxel edge below 1/1024
@@ -44,7 +44,7 @@
  *    6  a kind other than 0 and 1, a material's colour not finite or beyond 65,536 in magnitude, a transmission outside 0..1, an index past the materials
  *    7  a light direction with a component beyond 4,096 or of squared length 1e-12 or less; a light, ambient or sky number not finite or beyond 65,536
  *    8  a ray's origin beyond 65,536, direction beyond 2, shortest distance outside 0..65,536, or longest distance NaN
- *    9  progress above the voxel count
+ *    9  progress with next above the voxel count, or with rays below 64 or above 384 + 64·lamps for each active voxel below next
  *   10  an allowance below 384 + 64·lamps
  *   11  a position not finite or beyond 4,096, or a voxel index past the grid
  *   12  any fault in a volume file
@@ -78,10 +78,10 @@ extern "C" {
 /* ---- the version: below 1.0 a new second number may change a call */
 
 #define GEAIDNOSA_VERSION_MAJOR 0
-#define GEAIDNOSA_VERSION_MINOR 2
+#define GEAIDNOSA_VERSION_MINOR 3
 #define GEAIDNOSA_VERSION_PATCH 0
-#define GEAIDNOSA_VERSION "0.2.0"
-#define GEAIDNOSA_VERSION_NUMBER 2000 /* major·1,000,000 + minor·1,000 + patch */
+#define GEAIDNOSA_VERSION "0.3.0"
+#define GEAIDNOSA_VERSION_NUMBER 3000 /* major·1,000,000 + minor·1,000 + patch */
 
 /* ---- what calls take */
 
@@ -124,6 +124,12 @@ typedef struct GeaidnosaLight {
     GeaidnosaVec3 colour;
 } GeaidnosaLight;
 
+/* How far a bake is: the index of the next voxel, which is the voxel count when the bake is done, and the rays fired so far, by all calls since {0, 0}. */
+typedef struct GeaidnosaProgress {
+    size_t next;
+    uint64_t rays;
+} GeaidnosaProgress;
+
 /* Four coefficients over the basis 1, y, z, x, each a colour: the irradiance of the whole sky. */
 typedef struct GeaidnosaAmbient {
     GeaidnosaVec3 c0;
@@ -161,10 +167,10 @@ typedef struct GeaidnosaSunned {
     uint64_t rays;
 } GeaidnosaSunned;
 
-/* progress is the index of the next voxel, and the voxel count when the bake is done; rays is what this call fired. */
+/* progress is what the next call is handed; rays is what this call fired. */
 typedef struct GeaidnosaBakeAnswer {
     uint32_t refusal;
-    size_t progress;
+    GeaidnosaProgress progress;
     uint64_t rays;
 } GeaidnosaBakeAnswer;
 
@@ -286,9 +292,11 @@ GeaidnosaSunned geaidnosa_sun(
 
 /* ---- the bake */
 
-/* Bakes the volume from progress on: an active voxel is taken while at least 384 + 64·lamps rays of the allowance remain. Call again with the progress
- * answered and the same lists until it is the voxel count. `light` is the sun, its direction and colour; `lights` is the list that geaidnosa_sun filled.
- * At progress 0 the volume's contents do not matter; scratch's never do. The last call leaves the volume before its 3×3×3 mean in scratch and the mean in
+/* Bakes the volume from progress on: an active voxel is taken while at least 384 + 64·lamps rays of the allowance remain. Begin at {0, 0}, and call again
+ * with the progress answered and the same lists until its next is the voxel count. Its rays are then those of all calls together, also where the bake was
+ * stopped and gone on with elsewhere: keep progress and volume, and hand both on. A progress whose rays cannot be those of the voxels below next is refused
+ * 9, not repaired. `light` is the sun, its direction and colour; `lights` is the list that geaidnosa_sun filled.
+ * At next 0 the volume's contents do not matter; scratch's never do. The last call leaves the volume before its 3×3×3 mean in scratch and the mean in
  * the volume; the others do not touch scratch, and where no voxel is active no call writes it.
  * Refuses 1, 2, 3, 4, 5, 6, 7, 19, 9, 10, 13. */
 GeaidnosaBakeAnswer geaidnosa_bake(
@@ -308,7 +316,7 @@ GeaidnosaBakeAnswer geaidnosa_bake(
     float *scratch, size_t scratch_length,
     float *distances, size_t distances_length,
     size_t *places, size_t places_length,
-    size_t progress,
+    GeaidnosaProgress progress,
     uint64_t allowance);
 
 /* Copies the sixteen numbers of each voxel of the share's mask from unblurred to joined, and leaves the other voxels of joined as they are. So a bake is

@@ -5,7 +5,7 @@
 //! takes the mean last. That calls made so end in the bits of the unbroken bake is proved (`demand-of-shares` of crate shared_bake); that they are made so is
 //! what stands here, and is tested (tests/).
 use crate::hall::Hall;
-use crate::part::{Only, Part, Share};
+use crate::part::{Only, Part};
 use crate::volume::Volume;
 use anyhow::{Context, Result};
 use geaidnosa::*;
@@ -28,7 +28,7 @@ pub struct Prepared {
 impl Prepared {
     /// What one machine bakes of it.
     pub fn share(self, only: Only) -> Prepared {
-        let active = shares_of(&self.active, only.of).swap_remove(only.share - 1);
+        let active = mask_of(&self.active, Some(only));
         let marked = Marked { active: marked_count(&active), ..self.marked };
         Prepared { active, marked, only: Some(only), ..self }
     }
@@ -79,12 +79,23 @@ impl Scratch {
     }
 }
 
+/// Both masks, occupied and active, and their counts.
+fn masked(hall: &Hall) -> Result<(Vec<u64>, Vec<u64>, Marked)> {
+    let (mut occupied, mut active) = (vec![0; hall.axes.words()], vec![0; hall.axes.words()]);
+    let marked = masks(hall.axes, hall.corners, &hall.points, &mut occupied, &mut active)?;
+    Ok((occupied, active, marked))
+}
+
+/// The hall's whole mask of active voxels.
+pub fn active_of(hall: &Hall) -> Result<Vec<u64>> {
+    Ok(masked(hall)?.1)
+}
+
 pub fn prepare(hall: &Hall) -> Result<Prepared> {
     let n = hall.axes.count();
-    let (mut occupied, mut active) = (vec![0; hall.axes.words()], vec![0; hall.axes.words()]);
     let (mut light, mut scratch) = (vec![0.0; n], vec![0.0; n]);
     let begun = Instant::now();
-    let marked = masks(hall.axes, hall.corners, &hall.points, &mut occupied, &mut active)?;
+    let (occupied, active, marked) = masked(hall)?;
     let masks_seconds = begun.elapsed().as_secs_f64();
     sun(hall.axes, hall.corners, hall.scene(), hall.sun.direction, &active, &mut light, &mut scratch, Scratch::new(hall).lent())?;
     let sun_seconds = begun.elapsed().as_secs_f64() - masks_seconds;
@@ -98,10 +109,18 @@ pub fn shares_of(active: &[u64], count: usize) -> Vec<Vec<u64>> {
     masks
 }
 
+/// What is baked of a hall's active voxels: all, or one machine's share.
+pub fn mask_of(active: &[u64], only: Option<Only>) -> Vec<u64> {
+    match only {
+        Some(only) => shares_of(active, only.of).swap_remove(only.share - 1),
+        None => active.to_vec(),
+    }
+}
+
 /// The voxels of a mask that a bake of it has passed.
-fn passed(mask: &[u64], progress: usize) -> Vec<u64> {
+pub fn passed(mask: &[u64], next: usize) -> Vec<u64> {
     let mut below = vec![0; mask.len()];
-    marked_voxels(mask).take_while(|voxel| *voxel < progress).for_each(|voxel| mark(&mut below, voxel));
+    marked_voxels(mask).take_while(|voxel| *voxel < next).for_each(|voxel| mark(&mut below, voxel));
     below
 }
 
@@ -120,6 +139,7 @@ pub struct Asked<'a> {
     pub save: &'a (dyn Fn(&Part) -> Result<()> + Sync),
 }
 
+/// Voxels and rays of the whole bake so far, also of runs before this one; calls of this run.
 #[derive(Clone, Copy, Debug)]
 pub struct Told {
     pub voxels: u64,
@@ -129,15 +149,14 @@ pub struct Told {
 
 pub enum Outcome {
     /// `part` has the unblurred numbers.
-    Done { volume: Volume, part: Part, rays: u64, seconds: f64 },
+    Done { volume: Volume, part: Part, seconds: f64 },
     Stopped { part: Part, done: u64 },
 }
 
 /// A share as it was after some call.
 #[derive(Clone)]
 struct State {
-    progress: usize,
-    rays: u64,
+    progress: Progress,
     volume: Vec<f32>,
 }
 
@@ -147,11 +166,11 @@ fn states_of(hall: &Hall, prepared: &Prepared, masks: &[Vec<u64>], part: &Part) 
     let mut ambient = vec![0.0; 16 * n];
     // a bake of no voxel fills the volume
     let none = vec![0; hall.axes.words()];
-    bake(hall.input(&none, &prepared.light), &mut ambient, &mut vec![0.0; 16 * n], Scratch::new(hall).lent(), 0, u64::MAX)?;
-    let state = |(share, mask): (&Share, &Vec<u64>)| -> Result<State> {
+    bake(hall.input(&none, &prepared.light), &mut ambient, &mut vec![0.0; 16 * n], Scratch::new(hall).lent(), Progress::ZERO, u64::MAX)?;
+    let state = |(progress, mask): (&Progress, &Vec<u64>)| -> Result<State> {
         let mut volume = ambient.clone();
-        join(hall.axes, &passed(mask, share.progress), &part.volume, &mut volume)?;
-        Ok(State { progress: share.progress, rays: share.rays, volume })
+        join(hall.axes, &passed(mask, progress.next), &part.volume, &mut volume)?;
+        Ok(State { progress: *progress, volume })
     };
     part.shares.iter().zip(masks).map(state).collect()
 }
@@ -163,14 +182,14 @@ pub fn run(hall: &Hall, prepared: &Prepared, from: Option<Part>, asked: &Asked) 
     let masks = shares_of(&prepared.active, count);
     let before = from.as_ref().map_or(0.0, |p| p.seconds);
     // how many active voxels each mask has below an index
-    let taken = |mask: &[u64], progress: usize| marked_count(&passed(mask, progress));
+    let taken = |mask: &[u64], next: usize| marked_count(&passed(mask, next));
     let begun_from = match &from {
         Some(part) => states_of(hall, prepared, &masks, part)?,
-        None => vec![State { progress: 0, rays: 0, volume: vec![0.0; 16 * n] }; count],
+        None => vec![State { progress: Progress::ZERO, volume: vec![0.0; 16 * n] }; count],
     };
     let kept: Vec<Mutex<State>> = begun_from.into_iter().map(Mutex::new).collect();
-    let voxels = AtomicU64::new(kept.iter().zip(&masks).map(|(k, m)| taken(m, k.lock().unwrap().progress)).sum());
-    let rays = AtomicU64::new(kept.iter().map(|k| k.lock().unwrap().rays).sum());
+    let voxels = AtomicU64::new(kept.iter().zip(&masks).map(|(k, m)| taken(m, k.lock().unwrap().progress.next)).sum());
+    let rays = AtomicU64::new(kept.iter().map(|k| k.lock().unwrap().progress.rays).sum());
     let calls = AtomicU64::new(0);
     let running = AtomicUsize::new(count);
     let halted = || asked.stop.load(SeqCst) || asked.until.map_or(false, |end| Instant::now() >= end);
@@ -187,16 +206,15 @@ pub fn run(hall: &Hall, prepared: &Prepared, from: Option<Part>, asked: &Asked) 
         let mut scratch = vec![0.0; 16 * n];
         let mut hits = Scratch::new(hall);
         let mut saved = Instant::now();
-        while state.progress < n && !halted() && !failed.load(SeqCst) {
+        while state.progress.next < n && !halted() && !failed.load(SeqCst) {
             let was = state.progress;
             let baked = bake(hall.input(mask, &prepared.light), &mut state.volume, &mut scratch, hits.lent(), was, asked.allowance)?;
             state.progress = baked.progress;
-            state.rays += baked.rays;
-            voxels.fetch_add(taken(mask, baked.progress) - taken(mask, was), SeqCst);
+            voxels.fetch_add(taken(mask, baked.progress.next) - taken(mask, was.next), SeqCst);
             rays.fetch_add(baked.rays, SeqCst);
             calls.fetch_add(1, SeqCst);
             (asked.tell)(told());
-            if state.progress == n {
+            if state.progress.next == n {
                 // the last call blurs the volume, unless nothing is active; what is kept for a save is the unblurred one
                 let unblurred = if marked_count(mask) > 0 { std::mem::take(&mut scratch) } else { state.volume.clone() };
                 let last = std::mem::replace(&mut state.volume, unblurred);
@@ -204,7 +222,7 @@ pub fn run(hall: &Hall, prepared: &Prepared, from: Option<Part>, asked: &Asked) 
                     *blurred.lock().unwrap() = Some(last);
                 }
             }
-            if state.progress == n || saved.elapsed() >= asked.save_every {
+            if state.progress.next == n || saved.elapsed() >= asked.save_every {
                 *kept[s].lock().unwrap() = state.clone();
                 saved = Instant::now();
             }
@@ -216,10 +234,10 @@ pub fn run(hall: &Hall, prepared: &Prepared, from: Option<Part>, asked: &Asked) 
     // What all shares are at: at their ends the unblurred volume, before them what each has passed, and ambient elsewhere. None where none has begun.
     let whole = || -> Result<Option<Part>> {
         let states: Vec<State> = kept.iter().map(|k| k.lock().unwrap().clone()).collect();
-        let done: Vec<Vec<u64>> = states.iter().zip(&masks).map(|(state, mask)| passed(mask, state.progress)).collect();
-        let volumes = done.iter().zip(&states).filter(|(_, state)| state.progress > 0).map(|(done, state)| (&done[..], &state.volume[..]));
+        let done: Vec<Vec<u64>> = states.iter().zip(&masks).map(|(state, mask)| passed(mask, state.progress.next)).collect();
+        let volumes = done.iter().zip(&states).filter(|(_, state)| state.progress.next > 0).map(|(done, state)| (&done[..], &state.volume[..]));
         let part = |volume| Part {
-            shares: states.iter().map(|s| Share { progress: s.progress, rays: s.rays }).collect(),
+            shares: states.iter().map(|s| s.progress).collect(),
             only: prepared.only,
             seconds: before + begun.elapsed().as_secs_f64(),
             volume,
@@ -260,9 +278,9 @@ pub fn run(hall: &Hall, prepared: &Prepared, from: Option<Part>, asked: &Asked) 
         return Err(error);
     }
     (asked.tell)(told());
-    let finished = kept.iter().all(|k| k.lock().unwrap().progress == n);
+    let finished = kept.iter().all(|k| k.lock().unwrap().progress.next == n);
     if !finished {
-        let part = whole()?.unwrap_or_else(|| Part { shares: vec![Share { progress: 0, rays: 0 }; count], only: prepared.only, seconds: before, volume: vec![0.0; 16 * n] });
+        let part = whole()?.unwrap_or_else(|| Part { shares: vec![Progress::ZERO; count], only: prepared.only, seconds: before, volume: vec![0.0; 16 * n] });
         return Ok(Outcome::Stopped { done: told().voxels, part });
     }
     let part = whole()?.expect("every share is at its end");
@@ -270,5 +288,5 @@ pub fn run(hall: &Hall, prepared: &Prepared, from: Option<Part>, asked: &Asked) 
         Some(volume) => prepared.volume(hall, volume),
         None => prepared.meant(hall, part.volume.clone())?,
     };
-    Ok(Outcome::Done { volume, part, rays: told().rays, seconds: before + begun.elapsed().as_secs_f64() })
+    Ok(Outcome::Done { volume, part, seconds: before + begun.elapsed().as_secs_f64() })
 }

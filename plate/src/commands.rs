@@ -7,7 +7,7 @@ use crate::picture::{self, Camera, Of, Picture};
 use crate::volume::{irradiance, Volume};
 use crate::{files, light, lists, Bake, Demo, FaceArgs, Look, Plan, Slice, ViewArgs, DIFFERS, GOOD, REFUSED, SAVED};
 use anyhow::{bail, ensure, Context, Result};
-use geaidnosa::{is_marked, mark, marked_count, marked_voxels, Refusal, Vec3};
+use geaidnosa::{is_marked, mark, marked_count, marked_voxels, Progress, Refusal, Vec3, LEAST_RAYS};
 use indicatif::{ProgressBar, ProgressDrawTarget, ProgressStyle};
 use std::path::{Path, PathBuf};
 use std::sync::atomic::{AtomicBool, Ordering::SeqCst};
@@ -138,25 +138,26 @@ fn removed(path: &Path) -> Result<()> {
 
 fn bake_one(hall: &Hall, out: &Path, asked: &Baking, stop: &AtomicBool) -> Result<u8> {
     let part_path = part::path_of(out);
+    let read = |path: &Path| Part::read(path, hall, &baking::active_of(hall)?, asked.share);
     files::clear_temporaries(out);
     files::clear_temporaries(&part_path);
     // a share that is done stays: a job that is run again costs nothing
     if asked.share.is_some() && out.exists() && !asked.fresh {
-        let part = Part::read(out, hall, asked.share)?;
+        let part = read(out)?;
         ensure!(part.finished(hall), "{} is the part of an unfinished bake", out.display());
         // a kill between the end and the part's removal left it; that of another share is not touched
-        if part_path.exists() && Part::read(&part_path, hall, asked.share).is_ok() {
+        if part_path.exists() && read(&part_path).is_ok() {
             removed(&part_path)?;
         }
         let rays = part.rays();
         match asked.json {
             true => println!("{}", serde_json::json!({ "event": "done", "hall": hall.name, "volume": out.display().to_string(), "rays": rays, "seconds": part.seconds })),
-            false => println!("{}: {} is there and done, {} rays (--fresh bakes it anew)", hall.name, out.display(), thousands(rays)),
+            false => println!("{}: {} is there and done, {} rays in all (--fresh bakes it anew)", hall.name, out.display(), thousands(rays)),
         }
         return Ok(GOOD);
     }
     let from = match part_path.exists() && !asked.fresh {
-        true => Some(Part::read(&part_path, hall, asked.share)?),
+        true => Some(read(&part_path)?),
         false if asked.resume => bail!("{}: there is no part file to go on from", part_path.display()),
         false => None,
     };
@@ -174,10 +175,10 @@ fn bake_one(hall: &Hall, out: &Path, asked: &Baking, stop: &AtomicBool) -> Resul
     if let Some(part) = &from {
         let rays = part.rays();
         if !asked.json {
-            eprintln!("{}: going on from {}, {} rays", hall.name, part_path.display(), thousands(rays));
+            eprintln!("{}: going on from {}, {} rays so far", hall.name, part_path.display(), thousands(rays));
         }
     }
-    let begun = Instant::now();
+    let (begun, before) = (Instant::now(), from.as_ref().map_or(0.0, |part| part.seconds));
     // when the last line of JSON was written, and how many voxels were done at the start
     let last_line = std::sync::Mutex::new((None::<Instant>, None::<u64>));
     let tell = |told: Told| {
@@ -192,7 +193,7 @@ fn bake_one(hall: &Hall, out: &Path, asked: &Baking, stop: &AtomicBool) -> Resul
         if asked.json && last.0.map_or(true, |at| at.elapsed() >= Duration::from_secs(1)) {
             last.0 = Some(Instant::now());
             let line = serde_json::json!({ "event": "progress", "hall": hall.name, "voxels": told.voxels, "of": prepared.marked.active,
-                "rays": told.rays, "calls": told.calls, "seconds": begun.elapsed().as_secs_f64() });
+                "rays": told.rays, "calls": told.calls, "seconds": before + begun.elapsed().as_secs_f64() });
             println!("{line}");
         }
     };
@@ -203,7 +204,8 @@ fn bake_one(hall: &Hall, out: &Path, asked: &Baking, stop: &AtomicBool) -> Resul
     bar.finish_and_clear();
     let said = |words: String, line: serde_json::Value| if asked.json { println!("{line}") } else { println!("{words}") };
     match outcome {
-        Outcome::Done { volume, part, rays, seconds } => {
+        Outcome::Done { volume, part, seconds } => {
+            let rays = part.rays();
             match asked.share {
                 Some(_) => part.write(out, hall)?,
                 None => volume.write(out)?,
@@ -213,17 +215,18 @@ fn bake_one(hall: &Hall, out: &Path, asked: &Baking, stop: &AtomicBool) -> Resul
             }
             let (active, time) = (prepared.marked.active, lasting(seconds));
             said(
-                format!("{}: {}, {} of {} voxels active, {} rays, {time}", hall.name, out.display(), thousands(active), thousands(hall.axes.count() as u64), thousands(rays)),
+                format!("{}: {}, {} of {} voxels active, {} rays in all, {time}", hall.name, out.display(), thousands(active), thousands(hall.axes.count() as u64), thousands(rays)),
                 serde_json::json!({ "event": "done", "hall": hall.name, "volume": out.display().to_string(), "voxels": active, "rays": rays, "seconds": seconds }),
             );
             Ok(GOOD)
         }
         Outcome::Stopped { part, done } => {
             part.write(&part_path, hall)?;
-            let of = prepared.marked.active;
+            let (of, rays) = (prepared.marked.active, part.rays());
             said(
-                format!("{}: stopped at {} of {} voxels and saved in {}; the same command goes on from there", hall.name, thousands(done), thousands(of), part_path.display()),
-                serde_json::json!({ "event": "saved", "hall": hall.name, "part": part_path.display().to_string(), "voxels": done, "of": of }),
+                format!("{}: stopped at {} of {} voxels, {} rays so far, and saved in {}; the same command goes on from there", hall.name, thousands(done), thousands(of),
+                    thousands(rays), part_path.display()),
+                serde_json::json!({ "event": "saved", "hall": hall.name, "part": part_path.display().to_string(), "voxels": done, "of": of, "rays": rays }),
             );
             Ok(SAVED)
         }
@@ -231,11 +234,11 @@ fn bake_one(hall: &Hall, out: &Path, asked: &Baking, stop: &AtomicBool) -> Resul
 }
 
 /// The shares in their order, each once; every fault in words.
-fn all_shares(hall: &Hall, paths: &[PathBuf]) -> Result<Vec<Part>> {
+fn all_shares(hall: &Hall, active: &[u64], paths: &[PathBuf]) -> Result<Vec<Part>> {
     let mut faults = Vec::new();
     let mut read: Vec<(Only, &PathBuf, Part)> = Vec::new();
     for path in paths {
-        let part = std::fs::read(path).map_err(anyhow::Error::from).and_then(|bytes| Part::of_bytes(&bytes, hall));
+        let part = std::fs::read(path).map_err(anyhow::Error::from).and_then(|bytes| Part::of_bytes(&bytes, hall, active));
         match part.map(|p| (p.only, p)) {
             Err(error) => faults.push(format!("{}: {error:#}", path.display())),
             Ok((None, _)) => faults.push(format!("{}: it is the part of a whole bake, and no share", path.display())),
@@ -263,11 +266,11 @@ pub fn join(hall: &Path, paths: &[PathBuf], out: Option<&Path>) -> Result<u8> {
     let hall = read_hall(hall, true)?;
     let out = out.map_or_else(|| hall.file.with_extension("vgrd"), Path::to_path_buf);
     files::clear_temporaries(&out);
-    let shares = all_shares(&hall, paths)?;
     let prepared = baking::prepare(&hall)?;
+    let shares = all_shares(&hall, &prepared.active, paths)?;
     prepared.meant(&hall, baking::joined_shares(&hall, &prepared, &shares)?)?.write(&out)?;
-    let rays = shares.iter().fold(0u64, |sum, part| sum.saturating_add(part.rays()));
-    println!("{}: {} of {} shares, {} of {} voxels active, {} rays, {} over the shares", hall.name, out.display(), shares.len(),
+    let rays = shares.iter().map(Part::rays).sum();
+    println!("{}: {} of {} shares, {} of {} voxels active, {} rays in all, {} over the shares", hall.name, out.display(), shares.len(),
         thousands(prepared.marked.active), thousands(hall.axes.count() as u64), thousands(rays), lasting(shares.iter().map(|p| p.seconds).sum()));
     Ok(GOOD)
 }
@@ -275,6 +278,18 @@ pub fn join(hall: &Path, paths: &[PathBuf], out: Option<&Path>) -> Result<u8> {
 pub fn lists(hall: &Path) -> Result<u8> {
     print!("{}", lists::text(&read_hall(hall, true)?));
     Ok(GOOD)
+}
+
+/// Says how far an unfinished bake of a hall is, or why it cannot be gone on with.
+fn under_way(hall: &Hall, active: &[u64], of: u64) {
+    let path = part::path_of(&hall.file.with_extension("vgrd"));
+    if !path.exists() {
+        return;
+    }
+    match Part::read(&path, hall, active, None) {
+        Ok(part) => println!("  so far in {}: {} of {} voxels, {} rays, {}", path.display(), thousands(part.voxels(active)), thousands(of), thousands(part.rays()), lasting(part.seconds)),
+        Err(error) => println!("  {error:#}"),
+    }
 }
 
 pub fn plan(args: &Plan) -> Result<u8> {
@@ -292,7 +307,8 @@ pub fn plan(args: &Plan) -> Result<u8> {
             println!("  nothing to bake: no surface is near the grid");
             continue;
         }
-        println!("  sure: from {} to {} rays (64 to {cost} a voxel)", thousands(64 * marked.active), thousands(cost * marked.active));
+        println!("  sure: from {} to {} rays ({LEAST_RAYS} to {cost} a voxel)", thousands(LEAST_RAYS * marked.active), thousands(cost * marked.active));
+        under_way(&hall, &active, marked.active);
         let mut mask = vec![0; hall.axes.words()];
         let mut taken = 0;
         for (j, voxel) in marked_voxels(&active).enumerate() {
@@ -303,7 +319,7 @@ pub fn plan(args: &Plan) -> Result<u8> {
         }
         let (mut volume, mut scratch) = (vec![0.0; 16 * n], vec![0.0; 16 * n]);
         let begun = Instant::now();
-        let baked = geaidnosa::bake(hall.input(&mask, &light), &mut volume, &mut scratch, Scratch::new(&hall).lent(), 0, u64::MAX)?;
+        let baked = geaidnosa::bake(hall.input(&mask, &light), &mut volume, &mut scratch, Scratch::new(&hall).lent(), Progress::ZERO, u64::MAX)?;
         let seconds = begun.elapsed().as_secs_f64();
         let factor = marked.active as f64 / f64::from(taken);
         let rays = baked.rays as f64 * factor;
@@ -605,7 +621,7 @@ pub fn verify(volume_path: &Path, hall_path: &Path, sample: usize) -> Result<u8>
         }
     }
     let (mut again, mut scratch) = (vec![0.0; 16 * n], vec![0.0; 16 * n]);
-    let baked = geaidnosa::bake(hall.input(&mask, &light), &mut again, &mut scratch, Scratch::new(&hall).lent(), 0, u64::MAX)?;
+    let baked = geaidnosa::bake(hall.input(&mask, &light), &mut again, &mut scratch, Scratch::new(&hall).lent(), Progress::ZERO, u64::MAX)?;
     let wrong = chosen.iter().filter(|v| !volume.voxel(**v).iter().zip(&again[16 * **v..16 * **v + 16]).all(|(a, b)| a.to_bits() == b.to_bits())).count();
     if wrong > 0 {
         words.push(format!("{wrong} of {} voxels baked again come out differently", chosen.len()));
@@ -633,7 +649,8 @@ pub fn explain(number: u32) -> Result<u8> {
         Refusal::Material => "A material's colour or transmission is out of range, in the material file or in hall.toml. `plate check` names it.",
         Refusal::Light => "In hall.toml, sun and sky: sun.towards has a length, and every number is finite and at most 65,536.",
         Refusal::Ray => "Only programs that trace rays of their own meet this one.",
-        Refusal::Progress => "A bake was asked to go on from past its end. The program never asks this.",
+        Refusal::Progress => "A bake was asked to go on from past its end, or with rays that the voxels passed cannot have fired. Hand on what the last call answered, both numbers of it, with \
+            the same mask and lamps. The program does; a part file that says otherwise was changed: `plate bake --fresh` begins anew.",
         Refusal::Allowance => "Give --allowance at least 384 rays, and 64 more for each lamp.",
         Refusal::Position => "A position looked up lies beyond 4,096 metres, or a slice past the grid.",
         Refusal::File => "The volume file is not whole, not a volume, or changed since it was written. Bake it again.",

@@ -333,7 +333,7 @@ fn judged_by_library(hall: &Hall) -> Result<(), Refusal> {
     let (mut volume, mut scratch) = (vec![0.0; 16 * n], vec![0.0; 16 * n]);
     let (mut distances, mut places) = (vec![0.0; hall.triangles()], vec![0; hall.triangles()]);
     let hits = HitScratch { distances: &mut distances, places: &mut places };
-    match bake(hall.input(&active, &lights), &mut volume, &mut scratch, hits, 0, 0) {
+    match bake(hall.input(&active, &lights), &mut volume, &mut scratch, hits, Progress::ZERO, 0) {
         Err(Refusal::Allowance) => Ok(()),
         Err(other) => Err(other),
         Ok(_) => unreachable!("an allowance of 0 is refused"),

@@ -50,7 +50,7 @@ enum Command {
         #[arg(long)]
         json: bool,
     },
-    /// Foretell the rays and hours of a bake from a sample, with the bounds that are sure
+    /// Foretell the rays and hours of a bake from a sample, with the bounds that are sure, and say how far an unfinished one is
     Plan(Plan),
     /// Bake halls into volume files; Ctrl-C saves, and the same command goes on from there
     Bake(Bake),

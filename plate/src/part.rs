@@ -1,18 +1,25 @@
 //! The part file of an unfinished bake: one line of mark and SHA-256 of the rest, one line of JSON, then the unblurred volume as far as it is, f32 bits
 //! little-endian. It is written whole, and read only where every input is as it was. The file of one machine's share has the same form, and names its share.
+use crate::baking::{mask_of, passed, shares_of};
 use crate::files;
-use crate::hall::{sha256, Hall, Input};
+use crate::hall::{sha256, thousands, Hall, Input};
 use anyhow::{bail, ensure, Context, Result};
+use geaidnosa::{marked_count, Progress, LEAST_RAYS};
 use serde::{Deserialize, Serialize};
 use std::path::{Path, PathBuf};
 
-const MARK: &str = "plate-part-1";
+/// What a part file of any version begins with.
+pub const KIND: &[u8] = b"plate-part-";
+const MARK: &str = "plate-part-2";
+/// Of files whose shares were no record of the library's.
+const EARLIER: &str = "plate-part-1";
 
+/// The library's record of a share's progress, as the head has it.
 #[derive(Clone, Copy, Debug, PartialEq, Eq, Serialize, Deserialize)]
 #[serde(deny_unknown_fields)]
-pub struct Share {
-    pub progress: usize,
-    pub rays: u64,
+struct Share {
+    next: usize,
+    rays: u64,
 }
 
 /// Share number `share`, counted from 1, of `of` over machines: active voxel number j (counted from 0) is share 1 + j mod `of`'s.
@@ -54,8 +61,8 @@ struct Head {
 
 #[derive(Clone, Debug, PartialEq)]
 pub struct Part {
-    /// Each share's progress and rays; active voxel number j (counted from 0) is share j mod count's.
-    pub shares: Vec<Share>,
+    /// Each share's progress, the record that the library answered last; active voxel number j (counted from 0) is share j mod count's.
+    pub shares: Vec<Progress>,
     /// Where one machine bakes a share: which one. The voxels above are then those of it.
     pub only: Option<Only>,
     /// How long the bake has run.
@@ -78,7 +85,7 @@ impl Part {
             numbers: hall.numbers_sha256(),
             voxels: hall.axes.count(),
             seconds: self.seconds,
-            shares: self.shares.clone(),
+            shares: self.shares.iter().map(|p| Share { next: p.next, rays: p.rays }).collect(),
             only: self.only,
         };
         let mut body = serde_json::to_vec(&head)?;
@@ -88,28 +95,45 @@ impl Part {
     }
 
     /// The part of this hall's bake, or of the share asked of it; an error in words where the file is damaged, an input has changed or it is of another share.
-    pub fn read(path: &Path, hall: &Hall, only: Option<Only>) -> Result<Part> {
+    /// `active` is the hall's whole mask.
+    pub fn read(path: &Path, hall: &Hall, active: &[u64], only: Option<Only>) -> Result<Part> {
         let bytes = std::fs::read(path).with_context(|| path.display().to_string())?;
         let said = |of: Option<Only>| of.map_or("the whole bake".into(), |o| format!("share {o}"));
-        let part = Part::of_bytes(&bytes, hall).and_then(|part| {
+        let part = Part::of_bytes(&bytes, hall, active).and_then(|part| {
             ensure!(part.only == only, "it is of {}, and {} is asked", said(part.only), said(only));
             Ok(part)
         });
         part.with_context(|| format!("{} is not gone on with (--fresh begins anew)", path.display()))
     }
 
+    /// The rays of the whole bake so far, whichever run fired them.
     pub fn rays(&self) -> u64 {
-        self.shares.iter().fold(0, |sum, s| sum.saturating_add(s.rays))
+        self.shares.iter().map(|p| p.rays).sum()
+    }
+
+    /// How many active voxels are done. `active` is the hall's whole mask.
+    pub fn voxels(&self, active: &[u64]) -> u64 {
+        self.voxels_passed(active).iter().sum()
+    }
+
+    /// How many voxels each share has passed of its own.
+    fn voxels_passed(&self, active: &[u64]) -> Vec<u64> {
+        let masks = shares_of(&mask_of(active, self.only), self.shares.len());
+        self.shares.iter().zip(masks).map(|(p, mask)| marked_count(&passed(&mask, p.next))).collect()
     }
 
     pub fn finished(&self, hall: &Hall) -> bool {
-        self.shares.iter().all(|s| s.progress == hall.axes.count())
+        self.shares.iter().all(|p| p.next == hall.axes.count())
     }
 
-    pub fn of_bytes(bytes: &[u8], hall: &Hall) -> Result<Part> {
+    pub fn of_bytes(bytes: &[u8], hall: &Hall, active: &[u64]) -> Result<Part> {
         let (first, body) = split_line(bytes).context("it has no first line")?;
         let first = std::str::from_utf8(first).ok().and_then(|line| line.split_once(' '));
-        let Some((MARK, sum)) = first else { bail!("it is no part file of this program") };
+        let sum = match first {
+            Some((MARK, sum)) => sum,
+            Some((EARLIER, _)) => bail!("it was begun by an earlier version of this program"),
+            _ => bail!("it is no part file of this program"),
+        };
         ensure!(sum == sha256(body), "it is damaged: its SHA-256 is not the one it names");
         let (json, numbers) = split_line(body).context("it has no head")?;
         let head: Head = serde_json::from_slice(json).context("its head cannot be read")?;
@@ -128,12 +152,21 @@ impl Part {
         ensure!(head.numbers == hall.numbers_sha256(), "another version of this program made other numbers of the same files");
         let n = hall.axes.count();
         ensure!(head.voxels == n && numbers.len() == 64 * n, "its volume is not of the hall's grid");
-        ensure!((1..=n.max(1)).contains(&head.shares.len()), "it has no shares");
-        ensure!(head.shares.iter().all(|s| s.progress <= n), "a share's progress is past the grid");
         ensure!(head.seconds.is_finite() && head.seconds >= 0.0, "its time is no number");
         ensure!(head.only.map_or(true, |o| (1..=o.of).contains(&o.share) && o.of <= 1024), "it names a share that there is not");
+        let most_shares = marked_count(&mask_of(active, head.only)).max(1);
+        ensure!((1..=most_shares).contains(&(head.shares.len() as u64)), "it has no shares, or more than voxels to bake");
+        ensure!(head.shares.iter().all(|s| s.next <= n), "a share's progress is past the grid");
+        let shares = head.shares.iter().map(|s| Progress { next: s.next, rays: s.rays }).collect();
         let volume = numbers.chunks_exact(4).map(|b| f32::from_le_bytes([b[0], b[1], b[2], b[3]])).collect();
-        Ok(Part { shares: head.shares, only: head.only, seconds: head.seconds, volume })
+        let part = Part { shares, only: head.only, seconds: head.seconds, volume };
+        // as the library would refuse it (9), but also of a share that is at its end and is not handed to it again
+        for (share, voxels) in part.shares.iter().zip(part.voxels_passed(active)) {
+            let (least, most) = (LEAST_RAYS * voxels, hall.voxel_cost() * voxels);
+            ensure!((least..=most).contains(&share.rays), "its rays so far do not fit the voxels that it has passed: {} rays, where {} voxels fire from {} to {} (refusal 9)",
+                thousands(share.rays), thousands(voxels), thousands(least), thousands(most));
+        }
+        Ok(part)
     }
 }
 

@@ -1,6 +1,6 @@
 //! A volume as the library's file has it.
-use crate::files;
-use anyhow::{Context, Result};
+use crate::{files, part};
+use anyhow::{ensure, Context, Result};
 use geaidnosa::*;
 use std::path::Path;
 
@@ -18,6 +18,7 @@ impl Volume {
     pub fn read(path: &Path) -> Result<Volume> {
         let said = || path.display().to_string();
         let bytes = std::fs::read(path).with_context(said)?;
+        ensure!(!bytes.starts_with(part::KIND), "{} is the part of a bake, and no volume: `plate plan` of the hall says how far it is", path.display());
         let Head { axes, corners } = file_axes(&bytes).with_context(said)?;
         let (n, words) = (axes.count(), axes.words());
         let mut read = Volume { axes, corners, light: vec![0.0; n], volume: vec![0.0; 16 * n], occupied: vec![0; words], active: vec![0; words] };

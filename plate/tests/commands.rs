@@ -1,6 +1,6 @@
 //! Every command with good and bad input, through the program itself; and the numbers it writes held to the library's own bake.
 use geaidnosa::*;
-use plate::{baking, faults::Found, hall, part::Only, part::Part, part::Share, volume::Volume};
+use plate::{baking, faults::Found, hall, part::Only, part::Part, volume::Volume};
 use std::path::{Path, PathBuf};
 use std::process::{Command, Output};
 use std::sync::atomic::AtomicBool;
@@ -69,8 +69,8 @@ fn unbroken(hall: &hall::Hall) -> (Volume, u64) {
     let hits = HitScratch { distances: &mut distances, places: &mut places };
     sun(hall.axes, hall.corners, hall.scene(), hall.sun.direction, &active, &mut light, &mut kept, hits).unwrap();
     let hits = HitScratch { distances: &mut distances, places: &mut places };
-    let baked = bake(hall.input(&active, &light), &mut volume, &mut scratch, hits, 0, u64::MAX).unwrap();
-    assert_eq!(baked.progress, n);
+    let baked = bake(hall.input(&active, &light), &mut volume, &mut scratch, hits, Progress::ZERO, u64::MAX).unwrap();
+    assert_eq!(baked.progress, Progress { next: n, rays: baked.rays });
     (Volume { axes: hall.axes, corners: hall.corners, light, volume, occupied, active }, baked.rays)
 }
 
@@ -126,16 +126,18 @@ fn shares_give_the_same_bits() {
     for shares in [1, 2, 3, 8, 500] {
         // stopped after one call, gone on with through a part file, stopped again ..
         let mut from = None;
-        let mut stops = 0;
+        let (mut stops, mut so_far) = (0, 0);
         let done = loop {
             match baked(&hall, from.take(), shares, 2, 1) {
-                baking::Outcome::Done { volume, rays, .. } => break (volume, rays),
+                baking::Outcome::Done { volume, part, .. } => break (volume, part.rays()),
                 baking::Outcome::Stopped { part, .. } => {
                     let file = path.with_extension("part");
                     part.write(&file, &hall).unwrap();
-                    from = Some(Part::read(&file, &hall, None).unwrap());
+                    from = Some(Part::read(&file, &hall, &volume.active, None).unwrap());
                     let read = from.as_ref().unwrap();
                     assert_eq!((&read.shares, &read.volume), (&part.shares, &part.volume));
+                    assert!(part.rays() > so_far);
+                    so_far = part.rays();
                     stops += 1;
                 }
             }
@@ -194,11 +196,23 @@ fn shares_of_machines_join_to_the_same_bits() {
     std::fs::write(at.join("copy"), bad).unwrap();
     refused(&["x.share1of2", "copy"], &["copy: it is damaged"]);
     // a number that no bake writes, under a right sum
-    let mut part = Part::of_bytes(&std::fs::read(at.join("x.share2of2")).unwrap(), &read(&path)).unwrap();
+    let active = baking::active_of(&read(&path)).unwrap();
+    let good = Part::of_bytes(&std::fs::read(at.join("x.share2of2")).unwrap(), &read(&path), &active).unwrap();
+    // rays that the share's voxels did not fire
+    let voxels = marked_count(&baking::mask_of(&active, good.only));
+    for rays in [0, LEAST_RAYS * voxels - 1, read(&path).voxel_cost() * voxels + 1, u64::MAX] {
+        let part = Part { shares: vec![Progress { rays, ..good.shares[0] }], ..good.clone() };
+        part.write(&at.join("copy"), &read(&path)).unwrap();
+        refused(&["x.share1of2", "copy"], &["copy: its rays so far do not fit the voxels that it has passed", "refusal 9"]);
+        says(at, &["bake", "hall.toml", "--share", "2/2", "-o", "copy"], 3, &["copy is not gone on with", "do not fit", "--fresh"]);
+    }
+    let mut part = good.clone();
     part.volume[5] = f32::NAN;
     part.write(&at.join("copy"), &read(&path)).unwrap();
     refused(&["x.share1of2", "copy"], &["a coefficient not finite", "refusal 13"]);
+    // the numbers of a share, under way in a whole bake
     part.only = None;
+    part.shares = vec![Progress { next: 1, rays: LEAST_RAYS }];
     part.write(&at.join("y.vgrd.part"), &read(&path)).unwrap();
     says(at, &["bake", "hall.toml", "-o", "y.vgrd"], 3, &["a coefficient not finite", "refusal 13"]);
     // what is done stays; another share's file is not gone on with
@@ -221,12 +235,15 @@ fn shares_of_machines_join_to_the_same_bits() {
     let (share, n) = (Only { share: 2, of: 3 }, hall.axes.count());
     let prepared = baking::prepare(&hall).unwrap().share(share);
     let (mut volume, mut scratch) = (vec![0.0; 16 * n], vec![0.0; 16 * n]);
-    let begun = bake(hall.input(&prepared.active, &prepared.light), &mut volume, &mut scratch, baking::Scratch::new(&hall).lent(), 0, hall.voxel_cost() * 40).unwrap();
-    assert!(begun.progress > 0 && begun.progress < n);
-    let part = Part { shares: vec![Share { progress: begun.progress, rays: begun.rays }], only: Some(share), seconds: 0.0, volume };
+    let begun = bake(hall.input(&prepared.active, &prepared.light), &mut volume, &mut scratch, baking::Scratch::new(&hall).lent(), Progress::ZERO, hall.voxel_cost() * 40).unwrap();
+    assert!(begun.progress.next > 0 && begun.progress.next < n);
+    let part = Part { shares: vec![begun.progress], only: Some(share), seconds: 0.0, volume };
     part.write(&at.join("z.part"), &hall).unwrap();
     refused(&["x.share1of3", "z.part", "x.share3of3"], &["z.part: share 2/3 is not at its end"]);
-    says(at, &["bake", "hall.toml", "--share", "2/3", "-o", "z", "--resume"], 0, &["going on from z.part"]);
+    let so_far = format!("going on from z.part, {} rays so far", hall::thousands(begun.rays));
+    let said = says(at, &["bake", "hall.toml", "--share", "2/3", "-o", "z", "--resume"], 0, &[&so_far, "rays in all"]);
+    let whole_share = Part::of_bytes(&std::fs::read(at.join("x.share2of3")).unwrap(), &hall, &active).unwrap();
+    assert_eq!(rays_said(&said), whole_share.rays());
     assert!(!at.join("z.part").exists());
     says(at, &["join", "hall.toml", "-o", "joined.vgrd", "x.share1of3", "z", "x.share3of3"], 0, &[]);
     assert_eq!(std::fs::read(at.join("joined.vgrd")).unwrap(), whole);
@@ -314,7 +331,8 @@ fn killed_bakes_go_on_to_the_same_bits() {
     let (dir, path) = small();
     edit(&path, "voxels = [12, 6, 16]", "voxels = [20, 10, 24]");
     let hall = read(&path);
-    let bytes = unbroken(&hall).0.bytes().unwrap();
+    let (volume, rays) = unbroken(&hall);
+    let (bytes, active) = (volume.bytes().unwrap(), volume.active);
     let halves = [1, 2].map(|share| match baked_of(&hall, &baking::prepare(&hall).unwrap().share(Only { share, of: 2 }), None, 1, 1, u64::MAX) {
         baking::Outcome::Done { part, .. } => part,
         baking::Outcome::Stopped { .. } => panic!("share {share} was stopped"),
@@ -323,7 +341,7 @@ fn killed_bakes_go_on_to_the_same_bits() {
     let as_it_should = |half: Option<&Part>, found: &[u8]| match half {
         None => found == bytes,
         Some(half) => {
-            let part = Part::of_bytes(found, &hall).unwrap();
+            let part = Part::of_bytes(found, &hall, &active).unwrap();
             let same = part.volume.iter().map(|x| x.to_bits()).eq(half.volume.iter().map(|x| x.to_bits()));
             part.finished(&hall) && same && (part.only, part.rays()) == (half.only, half.rays())
         }
@@ -349,7 +367,7 @@ fn killed_bakes_go_on_to_the_same_bits() {
                 .args(["bake", "hall.toml", "-o", "hall.vgrd", "--shares", shares, "--threads", "2", "--allowance", "3000", "--save-every", "0", "--json"])
                 .args(&share)
                 .current_dir(dir.path())
-                .stdout(std::process::Stdio::null())
+                .stdout(std::process::Stdio::piped())
                 .stderr(std::process::Stdio::piped())
                 .spawn()
                 .unwrap();
@@ -367,7 +385,10 @@ fn killed_bakes_go_on_to_the_same_bits() {
             match ended {
                 Some(status) => {
                     let output = child.wait_with_output().unwrap();
-                    assert!(status.success(), "round {round}, {shares} shares: {}", String::from_utf8_lossy(&output.stderr));
+                    assert!(status.success(), "round {round}, {shares} shares: {}", words(&output));
+                    // the rays of the whole bake, not of the run that ended it
+                    let done = words(&output).lines().find(|line| line.contains("\"done\"")).unwrap().to_string();
+                    assert!(done.contains(&format!("\"rays\":{},", half.map_or(rays, Part::rays))), "round {round}, {shares} shares: {done}");
                     break;
                 }
                 None => {
@@ -376,7 +397,7 @@ fn killed_bakes_go_on_to_the_same_bits() {
                     killed += 1;
                     // what stands under the names is whole
                     if let Ok(part) = std::fs::read(dir.path().join("hall.vgrd.part")) {
-                        Part::of_bytes(&part, &hall).unwrap();
+                        Part::of_bytes(&part, &hall, &active).unwrap();
                         saved += 1;
                     }
                     if let Ok(volume) = std::fs::read(dir.path().join("hall.vgrd")) {
@@ -408,6 +429,41 @@ fn stops_are_saved_and_changed_inputs_are_refused() {
     let output = child.wait_with_output().unwrap();
     assert_eq!(output.status.code(), Some(130), "{}", words(&output));
     assert!(words(&output).contains("saved in hall.vgrd.part"), "{}", words(&output));
+    // the running total where one would look for it
+    let hall = read(&path);
+    let active = baking::active_of(&hall).unwrap();
+    let begun = Part::read(&at.join("hall.vgrd.part"), &hall, &active, None).unwrap();
+    let (voxels, rays) = (begun.voxels(&active), begun.rays());
+    assert!(voxels > 0 && rays >= LEAST_RAYS * voxels);
+    let counted = format!("{} of {} voxels, {} rays", hall::thousands(voxels), hall::thousands(marked_count(&active)), hall::thousands(rays));
+    assert!(words(&output).contains(&format!("stopped at {counted} so far")), "{}", words(&output));
+    says(at, &["plan", "hall.toml", "--sample", "5000"], 0, &[&format!("so far in hall.vgrd.part: {counted}")]);
+    says(at, &["stats", "hall.vgrd.part"], 3, &["hall.vgrd.part is the part of a bake", "plate plan"]);
+    // a record that is no bake's: one ray too few, one too many, a voxel more or less, past the grid, near 2^64
+    let (at_next, cost) = (begun.shares[0].next, hall.voxel_cost());
+    let first = marked_voxels(&active).next().unwrap();
+    let wrong = [
+        (at_next, LEAST_RAYS * voxels - 1),
+        (at_next, cost * voxels + 1),
+        (at_next, 0),
+        (at_next, u64::MAX),
+        (0, 1),
+        (first, 1),
+        (first + 1, LEAST_RAYS - 1),
+        (first + 1, cost + 1),
+        (hall.axes.count(), rays),
+    ];
+    for (next, rays) in wrong {
+        let part = Part { shares: vec![Progress { next, rays }], ..begun.clone() };
+        part.write(&at.join("hall.vgrd.part"), &hall).unwrap();
+        let why = "hall.vgrd.part is not gone on with (--fresh begins anew): its rays so far do not fit the voxels that it has passed";
+        says(at, &["bake", "hall.toml"], 3, &[why, &format!(": {} rays, where", hall::thousands(rays))]);
+        says(at, &["plan", "hall.toml", "--sample", "5000"], 0, &[why]);
+    }
+    let part = Part { shares: vec![Progress { next: hall.axes.count() + 1, rays }], ..begun.clone() };
+    part.write(&at.join("hall.vgrd.part"), &hall).unwrap();
+    says(at, &["bake", "hall.toml"], 3, &["hall.vgrd.part is not gone on with", "progress is past the grid"]);
+    begun.write(&at.join("hall.vgrd.part"), &hall).unwrap();
     for (file, from, to) in [("hall.toml", "6.0, 5.5, 5.0", "6.0, 5.5, 5.1"), ("hall.obj", "v 6 3 0", "v 6 3 0.0"), ("hall.mtl", "0.65", "0.66")] {
         let was = std::fs::read(at.join(file)).unwrap();
         edit(&at.join(file), from, to);
@@ -430,8 +486,15 @@ fn stops_are_saved_and_changed_inputs_are_refused() {
     let body = &good[good.iter().position(|b| *b == b'\n').unwrap() + 1..];
     assert!(body.starts_with(now.as_bytes()));
     let old = [before.as_bytes(), &body[now.len()..]].concat();
-    std::fs::write(&part, [format!("plate-part-1 {}\n", hall::sha256(&old)).as_bytes(), &old].concat()).unwrap();
+    std::fs::write(&part, [format!("plate-part-2 {}\n", hall::sha256(&old)).as_bytes(), &old].concat()).unwrap();
     says(at, &["bake", "hall.toml"], 3, &["another version of the library", "--fresh"]);
+    // as the program wrote it before, and that under the mark of today
+    let old = String::from_utf8_lossy(&old[..old.iter().position(|b| *b == b'\n').unwrap() + 1]).replace("\"next\":", "\"progress\":").into_bytes();
+    for (mark, why) in [("plate-part-1", "begun by an earlier version of this program"), ("plate-part-2", "its head cannot be read")] {
+        std::fs::write(&part, [format!("{mark} {}\n", hall::sha256(&old)).as_bytes(), &old].concat()).unwrap();
+        says(at, &["bake", "hall.toml"], 3, &[why, "--fresh"]);
+        says(at, &["join", "hall.toml", "hall.vgrd.part"], 3, &[why]);
+    }
     std::fs::remove_file(&part).unwrap();
     says(at, &["bake", "hall.toml", "--resume"], 3, &["no part file"]);
     says(at, &["bake", "hall.toml", "--resume", "--fresh"], 2, &["cannot be used with"]);

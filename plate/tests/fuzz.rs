@@ -1,5 +1,6 @@
 //! Bytes turned at random in drawings, material files, hall files and part files: read or refused in words, and never a panic.
-use plate::{faults::Found, hall, part::Only, part::Part, part::Share};
+use geaidnosa::Progress;
+use plate::{baking, faults::Found, hall, part::Only, part::Part};
 use std::path::Path;
 
 struct Random(u64);
@@ -99,11 +100,14 @@ fn part_files() {
     laid_out(dir.path());
     let hall = hall::read(&dir.path().join("hall.toml"), &mut Found::default()).unwrap();
     let n = hall.axes.count();
-    let part = Part { shares: vec![Share { progress: 7, rays: 500 }; 2], only: Some(Only { share: 3, of: 8 }), seconds: 1.5, volume: vec![0.25; 16 * n] };
+    let active = baking::active_of(&hall).unwrap();
+    // of the third of eight shares, the first half has passed voxel 2 and the second none
+    let shares = vec![Progress { next: 7, rays: 100 }, Progress { next: 7, rays: 0 }];
+    let part = Part { shares, only: Some(Only { share: 3, of: 8 }), seconds: 1.5, volume: vec![0.25; 16 * n] };
     let path = dir.path().join("x.part");
     part.write(&path, &hall).unwrap();
     let good = std::fs::read(&path).unwrap();
-    assert_eq!(Part::of_bytes(&good, &hall).unwrap(), part);
+    assert_eq!(Part::of_bytes(&good, &hall, &active).unwrap(), part);
     let mut random = seeded("part files");
     // the volume is most of it: turn the two lines as often
     let lines = good.iter().enumerate().filter(|(_, b)| **b == b'\n').nth(1).unwrap().0 + 1;
@@ -114,12 +118,13 @@ fn part_files() {
         if round % 4 >= 2 {
             if let Some(first) = bad.iter().position(|b| *b == b'\n') {
                 let body = bad.split_off(first + 1);
-                bad = [format!("plate-part-1 {}\n", hall::sha256(&body)).into_bytes(), body].concat();
+                bad = [format!("plate-part-2 {}\n", hall::sha256(&body)).into_bytes(), body].concat();
             }
         }
         bytes += bad.len();
-        if let Ok(read) = Part::of_bytes(&bad, &hall) {
-            assert!(read.volume.len() == 16 * n && read.shares.iter().all(|s| s.progress <= n));
+        if let Ok(read) = Part::of_bytes(&bad, &hall, &active) {
+            let voxels = read.voxels(&active);
+            assert!(read.volume.len() == 16 * n && read.shares.iter().all(|p| p.next <= n) && (64 * voxels..=hall.voxel_cost() * voxels).contains(&read.rays()));
         }
     }
     println!("part files: {} turned files, {bytes} bytes", rounds());

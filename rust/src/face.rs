@@ -1,5 +1,5 @@
 //! The C face as include/geaidnosa.h has it, call for call.
-use crate::{Ambient, Axes, Corners, Light, Ray, Triangle, Vec3};
+use crate::{Ambient, Axes, Corners, Light, Progress, Ray, Triangle, Vec3};
 
 #[repr(C)]
 pub struct RayHit {
@@ -33,7 +33,7 @@ pub struct Sunned {
 #[repr(C)]
 pub struct BakeAnswer {
     pub refusal: u32,
-    pub progress: usize,
+    pub progress: Progress,
     pub rays: u64,
 }
 
@@ -154,7 +154,7 @@ extern "C" {
         scratch: *mut f32, scratch_length: usize,
         distances: *mut f32, distances_length: usize,
         places: *mut usize, places_length: usize,
-        progress: usize,
+        progress: Progress,
         allowance: u64,
     ) -> BakeAnswer;
     pub fn geaidnosa_join(

@@ -12,7 +12,7 @@ use std::fmt;
 mod face;
 
 /// The version of the C face that this crate was written to.
-pub const VERSION_NUMBER: u32 = 2_000;
+pub const VERSION_NUMBER: u32 = 3_000;
 /// How many numbers a sky and the list of directions have: nine sets of 64 triples.
 pub const SKY_LENGTH: usize = 1_728;
 /// How many numbers a voxel has: four coefficients of red, green, blue and a fourth number.
@@ -20,6 +20,8 @@ pub const VOXEL_LENGTH: usize = 16;
 /// The least rays that a bake's call may be allowed, without lamps and for each lamp more.
 pub const LEAST_ALLOWANCE: u64 = 384;
 pub const LEAST_ALLOWANCE_A_LAMP: u64 = 64;
+/// The least rays that a bake fires for an active voxel; the most is the least allowance.
+pub const LEAST_RAYS: u64 = 64;
 
 #[repr(C)]
 #[derive(Clone, Copy, Debug, Default, PartialEq)]
@@ -198,7 +200,7 @@ impl Refusal {
             Refusal::Material => "a kind other than 0 and 1, a material's colour not finite or beyond 65,536 in magnitude, a transmission outside 0..1, an index past the materials",
             Refusal::Light => "a light direction with a component beyond 4,096 or of squared length 1e-12 or less; a light, ambient or sky number not finite or beyond 65,536",
             Refusal::Ray => "a ray's origin beyond 65,536, direction beyond 2, shortest distance outside 0..65,536, or longest distance NaN",
-            Refusal::Progress => "progress above the voxel count",
+            Refusal::Progress => "progress with next above the voxel count, or with rays below 64 or above 384 + 64·lamps for each active voxel below next",
             Refusal::Allowance => "an allowance below 384 + 64·lamps",
             Refusal::Position => "a position not finite or beyond 4,096, or a voxel index past the grid",
             Refusal::File => "any fault in a volume file",
@@ -260,10 +262,26 @@ pub struct Marked {
     pub active: u64,
 }
 
-/// What one call of a bake did: the index of the next voxel, which is N when the bake is done, and the rays that this call fired.
+/// How far a bake is. It begins at [`Progress::ZERO`], and each call is handed what the last one answered. Kept with the volume, say in a file, it is all that
+/// is needed to go on elsewhere: the rays so far are those of the whole bake, whichever program or machine fired them.
+#[repr(C)]
+#[derive(Clone, Copy, Debug, Default, PartialEq, Eq, Hash)]
+pub struct Progress {
+    /// The index of the next voxel; N when the bake is done.
+    pub next: usize,
+    /// The rays fired so far, by all calls since the beginning.
+    pub rays: u64,
+}
+
+impl Progress {
+    /// A bake that has not begun: voxel 0 next, no rays. The default too.
+    pub const ZERO: Progress = Progress { next: 0, rays: 0 };
+}
+
+/// What one call of a bake did: the progress to hand to the next call, and the rays that this call fired.
 #[derive(Clone, Copy, Debug, PartialEq, Eq)]
 pub struct Baked {
-    pub progress: usize,
+    pub progress: Progress,
     pub rays: u64,
 }
 
@@ -416,11 +434,13 @@ pub struct BakeInput<'a> {
     pub lights: &'a [f32],
 }
 
-/// Bakes the volume, 16·N numbers, from progress on: an active voxel is taken while at least 384 + 64·lamps rays of the allowance remain. Call again with the
-/// progress answered and the same lists until it is N. At progress 0 the volume's contents do not matter; scratch's never do. The last call leaves the volume
-/// before its 3×3×3 mean in scratch and the mean in the volume; the others do not touch scratch, and where no voxel is active no call writes it.
-/// Refuses 1, 2, 3, 4, 5, 6, 7, 19, 9, 10, 13.
-pub fn bake(input: BakeInput, volume: &mut [f32], scratch: &mut [f32], hits: HitScratch, progress: usize, allowance: u64) -> Result<Baked, Refusal> {
+/// Bakes the volume, 16·N numbers, from progress on: an active voxel is taken while at least 384 + 64·lamps rays of the allowance remain. Begin at
+/// [`Progress::ZERO`], and call again with the progress answered and the same lists until its next is N: its rays are then those of all calls together.
+/// At next 0 the volume's contents do not matter; scratch's never do. The last call leaves the volume before its 3×3×3 mean in scratch and the mean in the
+/// volume; the others do not touch scratch, and where no voxel is active no call writes it.
+/// A progress whose rays cannot be those of the voxels below next is refused 9, not repaired. A refusal answers the row alone, since the progress handed in,
+/// which C answers then, is a copy: the caller's own stands as it was, and so do the lists. Refuses 1, 2, 3, 4, 5, 6, 7, 19, 9, 10, 13.
+pub fn bake(input: BakeInput, volume: &mut [f32], scratch: &mut [f32], hits: HitScratch, progress: Progress, allowance: u64) -> Result<Baked, Refusal> {
     let BakeInput { axes, corners, scene, light, ambient, sky, lamps, active, lights } = input;
     let Scene { points, uses, kinds, numbers } = scene;
     let answer = unsafe {

@@ -121,18 +121,18 @@ fn bakes() {
         active: &[0b111],
         lights: &lights,
     };
-    let run = |input: BakeInput, progress: usize, allowance: u64| {
+    let run = |input: BakeInput, progress: Progress, allowance: u64| {
         let (mut volume, mut scratch) = ([0.0; 48], [0.0; 48]);
         bake(input, &mut volume, &mut scratch, HitScratch { distances: &mut [], places: &mut [] }, progress, allowance)
     };
-    assert_eq!(run(input, 0, 384), Ok(Baked { progress: 1, rays: 64 }));
-    assert_eq!(run(input, 0, 448), Ok(Baked { progress: 2, rays: 128 }));
-    assert_eq!(run(input, 0, 383), Err(Refusal::Allowance));
-    assert_eq!(run(input, 4, 383), Err(Refusal::Progress));
-    assert_eq!(run(BakeInput { lamps: &[0.0; 54], ..input }, 0, 999_999), Err(Refusal::Lamp));
-    assert_eq!(run(BakeInput { sky: &[f32::NAN; SKY_LENGTH], ..input }, 0, 999_999), Err(Refusal::Light));
+    assert_eq!(run(input, Progress::ZERO, 384), Ok(Baked { progress: Progress { next: 1, rays: 64 }, rays: 64 }));
+    assert_eq!(run(input, Progress::ZERO, 448), Ok(Baked { progress: Progress { next: 2, rays: 128 }, rays: 128 }));
+    assert_eq!(run(input, Progress::ZERO, 383), Err(Refusal::Allowance));
+    assert_eq!(run(input, Progress { next: 4, rays: 192 }, 383), Err(Refusal::Progress));
+    assert_eq!(run(BakeInput { lamps: &[0.0; 54], ..input }, Progress { next: 4, rays: 192 }, 999_999), Err(Refusal::Lamp));
+    assert_eq!(run(BakeInput { sky: &[f32::NAN; SKY_LENGTH], ..input }, Progress::ZERO, 999_999), Err(Refusal::Light));
     for words in [&[][..], &[0b111, 0]] {
-        assert_eq!(run(BakeInput { active: words, ..input }, 0, 384), Err(Refusal::Length));
+        assert_eq!(run(BakeInput { active: words, ..input }, Progress::ZERO, 384), Err(Refusal::Length));
         let answer = sun(axes, unit_box(3.0), empty, Vec3::new(0.0, 1.0, 0.0), words, &mut [0.0; 3], &mut [0.0; 3], HitScratch { distances: &mut [], places: &mut [] });
         assert_eq!(answer, Err(Refusal::Length));
     }
@@ -142,12 +142,97 @@ fn bakes() {
         let mask = [0b101 | 1 << bit];
         let hits = || HitScratch { distances: &mut [], places: &mut [] };
         assert_eq!(sun(axes, unit_box(3.0), empty, Vec3::new(0.0, 1.0, 0.0), &mask, &mut light, &mut scratch, hits()), Err(Refusal::Contents));
-        assert_eq!(bake(BakeInput { active: &mask, ..input }, &mut volume, &mut kept, hits(), 0, u64::MAX), Err(Refusal::Contents));
+        assert_eq!(bake(BakeInput { active: &mask, ..input }, &mut volume, &mut kept, hits(), Progress::ZERO, u64::MAX), Err(Refusal::Contents));
         assert_eq!((light, scratch, volume, kept), ([5.0; 3], [6.0; 3], [7.0; 48], [8.0; 48]));
     }
     let part = voxel_part(ONE, &[1.0; 16], &[2.0; 16], 0, true).unwrap();
     assert_eq!(part, [2.0; 16]);
     assert_eq!(voxel_refusal(ONE, &[1.0; 16], &[2.0; 16], 1, true), Err(Refusal::Position));
+}
+
+#[test]
+fn progress_knows_its_rays() {
+    // a white wall and a black one in the lower half, and voxels above that are not active
+    let axes = Axes { width: 3, height: 9, depth: 3 };
+    let corners = Corners { min: Vec3::default(), max: Vec3::new(3.0, 9.0, 3.0) };
+    let points = [0.2, 0.2, 0.2, 2.8, 0.2, 0.2, 0.2, 3.8, 0.2, 0.2, 0.2, 2.8, 2.8, 0.2, 2.8, 0.2, 3.8, 2.8];
+    let scene = Scene { points: &points, uses: &[0, 1], kinds: &[0, 0], numbers: &[0.8, 0.8, 0.8, 0.0, 0.0, 0.0, 0.0, 0.0, 0.0, 0.0, 0.0, 0.0, 0.0, 0.0] };
+    let n = axes.count();
+    let (mut occupied, mut active) = (vec![0; axes.words()], vec![0; axes.words()]);
+    let count = masks(axes, corners, &points, &mut occupied, &mut active).unwrap().active;
+    assert!(0 < count && count < n as u64);
+    let lamps = [1.5, 2.0, 1.5, 4.0, 4.0, 4.0, 1.0, 7.0, 1.0, 2.0, 3.0, 4.0];
+    for lamps in [&[][..], &lamps] {
+        let input = BakeInput {
+            axes,
+            corners,
+            scene,
+            light: Light { direction: Vec3::new(0.1, 0.9, 0.3), colour: Vec3::new(3.0, 3.0, 3.0) },
+            ambient: Ambient::default(),
+            sky: &[1.0; SKY_LENGTH],
+            lamps,
+            active: &active,
+            lights: &vec![1.0; n],
+        };
+        let cost = LEAST_ALLOWANCE + LEAST_ALLOWANCE_A_LAMP * (lamps.len() / 6) as u64;
+        let run = |input: BakeInput, volume: &mut [f32], scratch: &mut [f32], progress: Progress, allowance: u64| {
+            bake(input, volume, scratch, HitScratch { distances: &mut [0.0; 2], places: &mut [0; 2] }, progress, allowance)
+        };
+        let (mut whole, mut unblurred) = (vec![0.0; 16 * n], vec![0.0; 16 * n]);
+        let unbroken = run(input, &mut whole, &mut unblurred, Progress::ZERO, u64::MAX).unwrap();
+        assert_eq!(unbroken.progress, Progress { next: n, rays: unbroken.rays });
+        assert!((LEAST_RAYS * count + 1..cost * count).contains(&unbroken.rays));
+        let (mut volume, mut scratch) = (vec![f32::NAN; 16 * n], vec![0.0; 16 * n]);
+        let (mut progress, mut total, mut calls) = (Progress::default(), 0, 0);
+        loop {
+            // what the voxels passed can have fired, and no more: one ray too few or too many, a voxel more or less passed, next past the grid
+            let below = |next: usize| marked_voxels(&active).take_while(|voxel| *voxel < next).count() as u64;
+            let passed = below(progress.next);
+            let (least, most) = (LEAST_RAYS * passed, cost * passed);
+            assert!((least..=most).contains(&progress.rays));
+            let mut wrong = vec![(progress.next, most + 1), (progress.next, u64::MAX), (n + 1, progress.rays), (usize::MAX, progress.rays), (n + 1, 0), (usize::MAX, u64::MAX)];
+            wrong.extend(least.checked_sub(1).map(|rays| (progress.next, rays)));
+            // near 2^64, were a product or a difference to wrap
+            wrong.extend((1..=4).map(|k| (progress.next, u64::MAX - k * LEAST_RAYS + 1)));
+            if below(progress.next + 1) > passed {
+                wrong.push((progress.next + 1, least));
+            }
+            if progress.next > 0 && below(progress.next - 1) < passed {
+                wrong.push((progress.next - 1, most));
+            }
+            let (before, kept) = (volume.iter().map(|x| x.to_bits()).collect::<Vec<_>>(), scratch.clone());
+            for (next, rays) in wrong {
+                // 9 stands before 10
+                for allowance in [0, cost, u64::MAX] {
+                    assert_eq!(run(input, &mut volume, &mut scratch, Progress { next, rays }, allowance), Err(Refusal::Progress), "{next} {rays}");
+                }
+                assert!(volume.iter().map(|x| x.to_bits()).eq(before.iter().copied()) && scratch == kept);
+            }
+            // both ends are good, and the call's rays are added to what it is handed
+            for rays in [least, most] {
+                let answer = run(input, &mut volume.clone(), &mut scratch.clone(), Progress { next: progress.next, rays }, cost).unwrap();
+                assert_eq!(answer.progress.rays, rays + answer.rays);
+            }
+            if progress.next == n {
+                break;
+            }
+            let baked = run(input, &mut volume, &mut scratch, progress, 2 * cost).unwrap();
+            total += baked.rays;
+            calls += 1;
+            assert!(baked.progress.next > progress.next);
+            assert_eq!(baked.progress.rays, total);
+            progress = baked.progress;
+        }
+        assert!(calls > 2);
+        assert_eq!((progress, &volume, &scratch), (unbroken.progress, &whole, &unblurred));
+        assert_eq!(run(input, &mut volume, &mut scratch, progress, cost), Ok(Baked { progress, rays: 0 }));
+        // bits past the last voxel count for nothing: 13 is their row, after 9
+        let mut untidy = active.clone();
+        untidy[n / 64] |= !0 << (n % 64);
+        let input = BakeInput { active: &untidy, ..input };
+        assert_eq!(run(input, &mut volume, &mut scratch, Progress { next: n, rays: LEAST_RAYS * count }, cost), Err(Refusal::Contents));
+        assert_eq!(run(input, &mut volume, &mut scratch, Progress { next: n, rays: LEAST_RAYS * count - 1 }, cost), Err(Refusal::Progress));
+    }
 }
 
 #[test]

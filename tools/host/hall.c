@@ -106,14 +106,15 @@ int main(int count, char **words) {
             share[i / 64] |= (uint64_t)1 << (i % 64);
             own++;
         }
-        GeaidnosaBakeAnswer baked = {0, 0, 0};
-        while (baked.progress < n) {
-            baked = geaidnosa_bake(axes, corners, points, 9 * triangles, uses, triangles, kinds, materials, numbers, 7 * materials, light, ambient, sky, SKY, lamps,
+        GeaidnosaProgress progress = {0, 0};
+        while (progress.next < n) {
+            const GeaidnosaBakeAnswer baked = geaidnosa_bake(axes, corners, points, 9 * triangles, uses, triangles, kinds, materials, numbers, 7 * materials, light, ambient, sky, SKY, lamps,
                                    6 * lamp_count, share, mask_words, lights, n, volume, 16 * n, scratch, 16 * n, distances, triangles, places, triangles,
-                                   baked.progress, 100000);
+                                   progress, 100000);
             good("bake", baked.refusal);
-            rays += baked.rays;
+            progress = baked.progress;
         }
+        rays += progress.rays;
         const float *unblurred = own ? scratch : volume;
         if (shares > 1 && s == 0) memcpy(joined, unblurred, 16 * n * sizeof(float));
         if (s > 0) good("join", geaidnosa_join(axes, share, mask_words, unblurred, 16 * n, joined, 16 * n));

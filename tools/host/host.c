@@ -138,7 +138,16 @@ static GeaidnosaSunned sun(GeaidnosaVec3 direction, const uint64_t *mask) {
     return geaidnosa_sun(axes, corners, points, 9 * T, uses, T, kinds, M, numbers, 7 * M, direction, mask, active_words, lights, N, lights_scratch, N, distances, T, places, T);
 }
 
-static GeaidnosaBakeAnswer bake(float *v, float *s, size_t progress, uint64_t allowance) {
+static const GeaidnosaProgress begin = {0, 0};
+
+static GeaidnosaProgress from(size_t next, uint64_t rays) {
+    GeaidnosaProgress p = {next, rays};
+    return p;
+}
+
+static int is_progress(GeaidnosaProgress p, size_t next, uint64_t rays) { return p.next == next && p.rays == rays; }
+
+static GeaidnosaBakeAnswer bake(float *v, float *s, GeaidnosaProgress progress, uint64_t allowance) {
     return geaidnosa_bake(axes, corners, points, 9 * T, uses, T, kinds, M, numbers, 7 * M, light, ambient, sky, SKY, lamps, lamp_numbers, active, active_words, lights, N, v, 16 * N, s, 16 * N,
                           distances, T, places, T, progress, allowance);
 }
@@ -157,7 +166,7 @@ static int no_hit(GeaidnosaRayHit h, uint32_t refusal) {
 
 static uint32_t sun_refusal(void) { return sun(light.direction, active).refusal; }
 
-static uint32_t bake_refusal(void) { return bake(volume, scratch, 0, UINT64_MAX).refusal; }
+static uint32_t bake_refusal(void) { return bake(volume, scratch, begin, UINT64_MAX).refusal; }
 
 static uint32_t join_refusal(void) { return geaidnosa_join(axes, active, active_words, scratch, 16 * N, volume, 16 * N); }
 
@@ -296,67 +305,124 @@ static int kept_as_nans(const float *list) {
     return 1;
 }
 
+static uint64_t marked_below(size_t next) {
+    uint64_t count = 0;
+    for (size_t i = 0; i < next; i++) count += (uint64_t)marked(active, (int)i);
+    return count;
+}
+
+/* whether the bake takes a record of this next exactly where its rays lie between those that the voxels below can have fired: one fewer, one more and
+ * numbers near 2^64 are refused 9, whatever the allowance, the record is handed back and nothing is written; both ends are good */
+static int bounds_hold(float *v, float *s, size_t next) {
+    static float v_kept[16 * N], s_kept[16 * N];
+    const uint64_t cost = 384 + 64 * (uint64_t)(lamp_numbers / 6), least = 64 * marked_below(next), most = cost * marked_below(next);
+    const uint64_t wrong[6] = {least - 1, most + 1, UINT64_MAX, UINT64_MAX - 63, UINT64_MAX - cost + 1, least ? 0 : 1}, good_ones[2] = {least, most};
+    int good = 1;
+    memcpy(v_kept, v, sizeof v_kept);
+    memcpy(s_kept, s, sizeof s_kept);
+    for (int k = 0; k < 6; k++)
+        for (int few = 0; few < 2; few++) {
+            GeaidnosaBakeAnswer b = bake(v, s, from(next, wrong[k]), few ? 0 : UINT64_MAX);
+            good = good && b.refusal == 9 && is_progress(b.progress, next, wrong[k]) && b.rays == 0;
+        }
+    good = good && !memcmp(v, v_kept, sizeof v_kept) && !memcmp(s, s_kept, sizeof s_kept);
+    for (int k = 0; k < 2; k++) {
+        GeaidnosaBakeAnswer b = bake(v, s, from(next, good_ones[k]), cost);
+        good = good && b.refusal == 0 && b.progress.rays == good_ones[k] + b.rays;
+        memcpy(v, v_kept, sizeof v_kept);
+        memcpy(s, s_kept, sizeof s_kept);
+    }
+    return good;
+}
+
+/* a bake in calls of one allowance from {0, 0} on: its record's rays are the sum of the calls' at each step, and at each the record's bounds hold */
+static int counts_on(float *v, float *s, uint64_t allowance, uint64_t rays) {
+    GeaidnosaProgress progress = begin;
+    uint64_t total = 0;
+    int good = bounds_hold(v, s, 0), calls = 0;
+    while (good && progress.next < N) {
+        GeaidnosaBakeAnswer b = bake(v, s, progress, allowance);
+        total += b.rays;
+        calls++;
+        good = b.refusal == 0 && b.progress.next > progress.next && b.progress.rays == total && bounds_hold(v, s, b.progress.next);
+        progress = b.progress;
+    }
+    return good && calls > 1 && is_progress(progress, N, rays);
+}
+
 /* Answers the rays of the unbroken bake, which it leaves in volume and scratch. */
 static uint64_t check_bake(void) {
     static float v[16 * N], s[16 * N];
     memset(volume, 0xff, sizeof volume);
     memset(scratch, 0xff, sizeof scratch);
-    GeaidnosaBakeAnswer b = bake(volume, scratch, 0, 383);
+    GeaidnosaBakeAnswer b = bake(volume, scratch, begin, 383);
     check("bake: an allowance of 383, refuses 10 and writes nothing",
-          b.refusal == 10 && b.progress == 0 && b.rays == 0 && kept_as_nans(volume) && kept_as_nans(scratch));
-    b = bake(volume, scratch, N + 1, 384);
-    check("bake: progress above the count, refuses 9 and gives it back", b.refusal == 9 && b.progress == N + 1 && b.rays == 0);
-    b = bake(volume, scratch, N / 2, 384);
-    check("bake: under way with a volume of NaN, refuses 13", b.refusal == 13 && b.progress == N / 2);
+          b.refusal == 10 && is_progress(b.progress, 0, 0) && b.rays == 0 && kept_as_nans(volume) && kept_as_nans(scratch));
+    uint64_t half = 64 * marked_below(N / 2), all = 64 * marked_below(N);
+    b = bake(volume, scratch, from(N + 1, all), 384);
+    check("bake: next above the count, refuses 9 and gives the record back", b.refusal == 9 && is_progress(b.progress, N + 1, all) && b.rays == 0);
+    b = bake(volume, scratch, from(SIZE_MAX, UINT64_MAX), 384);
+    check("bake: the highest record, refuses 9 and gives it back", b.refusal == 9 && is_progress(b.progress, SIZE_MAX, UINT64_MAX) && b.rays == 0);
+    b = bake(volume, scratch, from(N / 2, half), 384);
+    check("bake: under way with a volume of NaN, refuses 13 and gives the record back", b.refusal == 13 && is_progress(b.progress, N / 2, half) && b.rays == 0);
+    b = bake(volume, scratch, from(N / 2, half - 1), 384);
+    check("bake: the same a ray too few, refuses 9", b.refusal == 9 && is_progress(b.progress, N / 2, half - 1));
     check("bake: an unused bit of the mask set, each in turn, refuses 13 and writes nothing", refuses_unused(active, bake_refusal));
     check("bake: a word too few and one too many, refuses 3 and writes nothing", refuses_word_counts(&active_words, bake_refusal));
-    b = bake(volume, scratch, 0, UINT64_MAX);
+    b = bake(volume, scratch, begin, UINT64_MAX);
     uint64_t rays = b.rays;
-    check("bake: unbroken, to the end", b.refusal == 0 && b.progress == N && rays >= 64);
+    check("bake: unbroken, to the end, its rays the record's", b.refusal == 0 && is_progress(b.progress, N, rays) && rays > all);
     check("bake: the volume is the mean of scratch", same_mean(volume, scratch, 16, 0));
     const uint64_t allowances[2] = {384, 2000};
     for (int k = 0; k < 2; k++) {
-        size_t progress = 0;
+        GeaidnosaProgress progress = begin;
         uint64_t total = 0;
         int calls = 0, good = 1;
         memset(v, 0xff, sizeof v);
         memset(s, 0xff, sizeof s);
-        while (progress < N && good && calls <= N) {
+        while (progress.next < N && good && calls <= N) {
             b = bake(v, s, progress, allowances[k]);
-            good = b.refusal == 0 && b.progress > progress && b.rays <= allowances[k] && (b.progress == N || kept_as_nans(s));
+            good = b.refusal == 0 && b.progress.next > progress.next && b.rays <= allowances[k] && (b.progress.next == N || kept_as_nans(s));
             progress = b.progress;
             total += b.rays;
+            good = good && progress.rays == total;
             calls++;
         }
         char line[160];
-        snprintf(line, sizeof line, "bake: allowance %llu, the same volume and scratch bit for bit, the same rays in all", (unsigned long long)allowances[k]);
+        snprintf(line, sizeof line, "bake: allowance %llu, the same volume and scratch bit for bit, the same rays in all, as the record says", (unsigned long long)allowances[k]);
         check(line, good && calls > 1 && total == rays && !memcmp(v, volume, sizeof v) && !memcmp(s, scratch, sizeof s));
         printf("   %d calls\n", calls);
     }
-    b = bake(v, s, N, 384);
-    check("bake: finished, no rays and nothing written", b.refusal == 0 && b.progress == N && b.rays == 0 && !memcmp(v, volume, sizeof v) && !memcmp(s, scratch, sizeof s));
+    b = bake(v, s, from(N, rays), 384);
+    check("bake: finished, the record as it was, no rays and nothing written",
+          b.refusal == 0 && is_progress(b.progress, N, rays) && b.rays == 0 && !memcmp(v, volume, sizeof v) && !memcmp(s, scratch, sizeof s));
+    check("bake: rays so far are the calls' sum at each step, and a ray outside its bounds is refused 9", counts_on(v, s, 2000, rays));
     memcpy(v, scratch, sizeof v);
     check("coefficient_blur: the same volume from the same scratch", geaidnosa_coefficient_blur(axes, v, 16 * N, s, 16 * N) == 0 && !memcmp(v, volume, sizeof v));
     v[5] = INFINITY;
     check("coefficient_blur: an infinity, refuses 13", geaidnosa_coefficient_blur(axes, v, 16 * N, s, 16 * N) == 13);
     kinds[3] = 2;
-    check("bake: a kind 2, refuses 6", bake(volume, scratch, N, 384).refusal == 6);
+    check("bake: a kind 2, refuses 6", bake(volume, scratch, from(N, rays), 384).refusal == 6);
     kinds[3] = 0;
     float x = points[9];
     points[9] = NAN;
-    check("bake: a point NaN, refuses 5", bake(volume, scratch, N, 384).refusal == 5);
+    check("bake: a point NaN, refuses 5", bake(volume, scratch, from(N, rays), 384).refusal == 5);
     points[9] = x;
     lamp_numbers = 6;
-    check("bake: one lamp, an allowance of 447, refuses 10", bake(v, s, 0, 447).refusal == 10);
-    b = bake(v, s, 0, UINT64_MAX);
-    check("bake: one lamp, more rays and another volume", b.refusal == 0 && b.progress == N && b.rays > rays && memcmp(v, volume, sizeof v));
+    check("bake: one lamp, an allowance of 447, refuses 10", bake(v, s, begin, 447).refusal == 10);
+    b = bake(v, s, begin, UINT64_MAX);
+    check("bake: one lamp, more rays and another volume", b.refusal == 0 && is_progress(b.progress, N, b.rays) && b.rays > rays && memcmp(v, volume, sizeof v));
     printf("   rays with a lamp %llu, volume sum %016llx\n", (unsigned long long)b.rays, (unsigned long long)sum_of(v, sizeof v));
+    check("bake: one lamp, rays so far are the calls' sum, and 448 a voxel its bound", counts_on(v, s, 2000, b.rays));
+    lamp_numbers = 48;
+    b = bake(v, s, begin, UINT64_MAX);
+    check("bake: eight lamps, rays so far are the calls' sum, and 896 a voxel its bound", b.refusal == 0 && counts_on(v, s, 5000, b.rays));
     lamp_numbers = 5;
-    check("bake: five numbers for a lamp, refuses 3", bake(v, s, 0, 448).refusal == 3);
+    check("bake: five numbers for a lamp, refuses 3", bake(v, s, begin, 448).refusal == 3);
     lamp_numbers = 54;
-    check("bake: nine lamps, refuses 19", bake(v, s, 0, 0).refusal == 19);
+    check("bake: nine lamps, refuses 19, also with a bad record", bake(v, s, begin, 0).refusal == 19 && bake(v, s, from(N + 1, 0), 0).refusal == 19);
     lamp_numbers = 0;
-    b = bake(v, s, 0, UINT64_MAX);
+    b = bake(v, s, begin, UINT64_MAX);
     check("bake: no lamp again, the same rays and volume", b.rays == rays && !memcmp(v, volume, sizeof v));
     printf("   rays %llu, volume sum %016llx, scratch sum %016llx\n", (unsigned long long)rays, (unsigned long long)sum_of(volume, sizeof volume),
            (unsigned long long)sum_of(scratch, sizeof scratch));
@@ -376,11 +442,11 @@ static void check_join(uint64_t rays) {
         turn = 0;
         for (int i = 0; i < N; i++)
             if (marked(whole, i) && turn++ % 3 == share) active[i / 64] |= (uint64_t)1 << (i % 64);
-        GeaidnosaBakeAnswer b = bake(v, s, 0, UINT64_MAX);
+        GeaidnosaBakeAnswer b = bake(v, s, begin, UINT64_MAX);
         const float *unblurred = share < 3 ? s : v;
         total += b.rays;
         if (share == 0) memcpy(joined, unblurred, sizeof joined);
-        good = good && b.refusal == 0 && b.progress == N && (share == 0 || geaidnosa_join(axes, active, WORDS, unblurred, 16 * N, joined, 16 * N) == 0);
+        good = good && b.refusal == 0 && is_progress(b.progress, N, b.rays) && (share == 0 || geaidnosa_join(axes, active, WORDS, unblurred, 16 * N, joined, 16 * N) == 0);
     }
     check("join: four shares baked and joined, one without a voxel: the unbroken bake's scratch, and the same rays", good && total == rays && !memcmp(joined, scratch, sizeof joined));
     check("join: the mean of it is the unbroken bake's volume", geaidnosa_coefficient_blur(axes, joined, 16 * N, s, 16 * N) == 0 && !memcmp(joined, volume, sizeof joined));

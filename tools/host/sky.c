@@ -80,18 +80,17 @@ int main(void) {
     printf("voxels %d, occupied %d, active %d\n", N, (int)marked.occupied, (int)marked.active);
     const uint64_t allowances[3] = {1000000, 5000, 384 + 64};
     for (int k = 0; k < 3; k++) {
-        GeaidnosaBakeAnswer baked = {0, 0, 0};
-        uint64_t rays = 0;
+        GeaidnosaProgress progress = {0, 0};
         int calls = 0;
-        while (baked.progress < N) {
-            baked = geaidnosa_bake(axes, corners, points, 9 * T, uses, T, kinds, 3, numbers, 21, sun, ambient, sky, SKY, lamps, 6, active, WORDS, lights, N, volume,
-                                   16 * N, scratch, 16 * N, distances, T, places, T, baked.progress, allowances[k]);
+        while (progress.next < N) {
+            GeaidnosaBakeAnswer baked = geaidnosa_bake(axes, corners, points, 9 * T, uses, T, kinds, 3, numbers, 21, sun, ambient, sky, SKY, lamps, 6, active, WORDS, lights, N, volume,
+                                   16 * N, scratch, 16 * N, distances, T, places, T, progress, allowances[k]);
             good("bake", baked.refusal);
-            rays += baked.rays;
+            progress = baked.progress; /* and with the volume it is all that a stopped bake has to keep */
             calls++;
         }
         if (k == 0) memcpy(first, volume, sizeof first);
-        printf("allowance %d: calls %d, rays %d, %s\n", (int)allowances[k], calls, (int)rays, memcmp(first, volume, sizeof first) ? "ANOTHER VOLUME" : "the same volume");
+        printf("allowance %d: calls %d, rays %d, %s\n", (int)allowances[k], calls, (int)progress.rays, memcmp(first, volume, sizeof first) ? "ANOTHER VOLUME" : "the same volume");
     }
     const GeaidnosaVec3 middle = {3, 1.5f, 2.5f}, up = {0, 1, 0}, down = {0, -1, 0}, to_wall = {0, 0, -1};
     show("a face turned up", middle, up);

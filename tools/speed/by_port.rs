@@ -1,6 +1,6 @@
 //! The measured calls by the port.
 use crate::hall::{Hall, Panes, AMBIENT, AXES, COLOUR, CORNERS, DIRECTION, KINDS, MATERIALS, NUMBERS, PANE_KINDS, PANE_NUMBERS, VOXELS};
-use crate::port::{self, Ambient, Axes, CoefficientsAt, Corners, Light, LightAt, Ray, RayHit, Transmitted, Triangle, Vec3};
+use crate::port::{self, Ambient, Axes, CoefficientsAt, Corners, Light, LightAt, Progress, Ray, RayHit, Transmitted, Triangle, Vec3};
 use crate::{bits, measure, met, Lists, MET, POSITIONS, RAYS, SHORTEST};
 
 const GRID: Axes = Axes { width: AXES[0], height: AXES[1], depth: AXES[2] };
@@ -70,8 +70,8 @@ impl State {
         let light = Light { direction: vec3(&DIRECTION), colour: vec3(&COLOUR) };
         let ambient = Ambient { c: [0, 3, 6, 9].map(|i| vec3(&AMBIENT[i..])) };
         let triangles = hall.triangles();
-        let mut progress = 0;
-        while progress < VOXELS && self.refusal == 0 {
+        let mut progress = Progress { next: 0, rays: 0 };
+        while progress.next < VOXELS && self.refusal == 0 {
             let answer = unsafe {
                 port::geaidnosa_bake(
                     GRID, corners, hall.points.as_ptr(), 9 * triangles, hall.uses.as_ptr(), triangles, KINDS.as_ptr(), MATERIALS, NUMBERS.as_ptr(),

@@ -22,6 +22,17 @@ static void mark(Mask *mask, size_t i) { mask[i / 64] |= (uint64_t)1 << (i % 64)
 static int marked(const Mask *mask, size_t i) { return (int)((mask[i / 64] >> (i % 64)) & 1); }
 #endif
 
+/* before 0.3.0 progress had no rays so far */
+#if GEAIDNOSA_VERSION_NUMBER < 3000
+typedef size_t Progress;
+#define PROGRESS(next, rays) (next)
+#define NEXT(progress) (progress)
+#else
+typedef GeaidnosaProgress Progress;
+#define PROGRESS(next, rays) ((Progress){next, rays})
+#define NEXT(progress) ((progress).next)
+#endif
+
 static const GeaidnosaAxes axes = {SIDE, SIDE, SIDE};
 static const GeaidnosaCorners corners = {{0, 0, 0}, {16, 16, 16}};
 static const GeaidnosaLight light = {{0.3f, 0.9f, 0.2f}, {3, 2.5f, 2}};
@@ -40,6 +51,7 @@ static float lights[N], lights_scratch[N], volume[16 * N], scratch[16 * N], dist
 static size_t places[FEW];
 static uint8_t file[BYTES];
 static uint64_t answer[3];
+static Progress begun, under_way, done;
 
 /* numbers that look like chance and are the same in every run, from 0 to 1 */
 static float chance(void) {
@@ -59,6 +71,9 @@ static void prepare(void) {
     for (int i = 0; i < 16 * N; i++) volume[i] = 4 * chance();
     for (int i = 0; i < N; i++) mark(all, i);
     for (int i = BAKED / 2; i < N; i += BAKED) mark(few, i);
+    /* 64 rays for each voxel of few that is passed */
+    under_way = PROGRESS(N / 2, 64 * ((N / 2 + BAKED / 2 - 1) / BAKED));
+    done = PROGRESS(N, 64 * ((N + BAKED / 2 - 1) / BAKED));
     answer[0] = geaidnosa_write_volume(axes, corners, lights, N, volume, 16 * N, few, LENGTH, all, LENGTH, file, BYTES);
 }
 
@@ -75,10 +90,10 @@ static void sun(const Mask *mask) {
     answer[0] = s.refusal, answer[1] = s.rays;
 }
 
-static void bake(const Mask *mask, size_t progress, uint64_t allowance) {
+static void bake(const Mask *mask, Progress progress, uint64_t allowance) {
     GeaidnosaBakeAnswer b = geaidnosa_bake(axes, corners, walls, 9 * FEW, uses, FEW, kinds, 1, numbers, 7, light, ambient, sky, SKY, sky, 0, mask, LENGTH, lights, N, volume, 16 * N,
                                            scratch, 16 * N, distances, FEW, places, FEW, progress, allowance);
-    answer[0] = b.refusal, answer[1] = b.progress, answer[2] = b.rays;
+    answer[0] = b.refusal, answer[1] = NEXT(b.progress), answer[2] = b.rays;
 }
 
 static void masks_none(void) { masks(small, 0); }
@@ -87,11 +102,11 @@ static void masks_large(void) { masks(large, MANY); }
 static void sun_none(void) { sun(none); }
 static void sun_few(void) { sun(few); }
 static void sun_all(void) { sun(all); }
-static void bake_none(void) { bake(none, 0, UINT64_MAX); }
-static void bake_few(void) { bake(few, 0, UINT64_MAX); }
-static void bake_first(void) { bake(few, 0, 384); }
-static void bake_under_way(void) { bake(few, N / 2, 384); }
-static void bake_done(void) { bake(few, N, 384); }
+static void bake_none(void) { bake(none, begun, UINT64_MAX); }
+static void bake_few(void) { bake(few, begun, UINT64_MAX); }
+static void bake_first(void) { bake(few, begun, 384); }
+static void bake_under_way(void) { bake(few, under_way, 384); }
+static void bake_done(void) { bake(few, done, 384); }
 static void read_file(void) { answer[0] = geaidnosa_read_volume(file, BYTES, lights, N, volume, 16 * N, occupied, LENGTH, active, LENGTH).refusal; }
 static void write_file(void) { answer[0] = geaidnosa_write_volume(axes, corners, lights, N, volume, 16 * N, few, LENGTH, all, LENGTH, file, BYTES); }
 

@@ -85,9 +85,16 @@ pub struct Sunned {
 }
 
 #[repr(C)]
+#[derive(Clone, Copy)]
+pub struct Progress {
+    pub next: usize,
+    pub rays: u64,
+}
+
+#[repr(C)]
 pub struct BakeAnswer {
     pub refusal: u32,
-    pub progress: usize,
+    pub progress: Progress,
     pub rays: u64,
 }
 
@@ -114,7 +121,7 @@ extern "C" {
     pub fn geaidnosa_light_blur(axes: Axes, light: *mut f32, light_length: usize, scratch: *mut f32, scratch_length: usize) -> u32;
     pub fn geaidnosa_coefficient_blur(axes: Axes, volume: *mut f32, volume_length: usize, scratch: *mut f32, scratch_length: usize) -> u32;
     pub fn geaidnosa_sun(axes: Axes, corners: Corners, points: *const f32, points_length: usize, uses: *const u32, uses_length: usize, kinds: *const u8, kinds_length: usize, numbers: *const f32, numbers_length: usize, direction: Vec3, active: *const u64, active_length: usize, light: *mut f32, light_length: usize, scratch: *mut f32, scratch_length: usize, distances: *mut f32, distances_length: usize, places: *mut usize, places_length: usize) -> Sunned;
-    pub fn geaidnosa_bake(axes: Axes, corners: Corners, points: *const f32, points_length: usize, uses: *const u32, uses_length: usize, kinds: *const u8, kinds_length: usize, numbers: *const f32, numbers_length: usize, light: Light, ambient: Ambient, sky: *const f32, sky_length: usize, lamps: *const f32, lamps_length: usize, active: *const u64, active_length: usize, lights: *const f32, lights_length: usize, volume: *mut f32, volume_length: usize, scratch: *mut f32, scratch_length: usize, distances: *mut f32, distances_length: usize, places: *mut usize, places_length: usize, progress: usize, allowance: u64) -> BakeAnswer;
+    pub fn geaidnosa_bake(axes: Axes, corners: Corners, points: *const f32, points_length: usize, uses: *const u32, uses_length: usize, kinds: *const u8, kinds_length: usize, numbers: *const f32, numbers_length: usize, light: Light, ambient: Ambient, sky: *const f32, sky_length: usize, lamps: *const f32, lamps_length: usize, active: *const u64, active_length: usize, lights: *const f32, lights_length: usize, volume: *mut f32, volume_length: usize, scratch: *mut f32, scratch_length: usize, distances: *mut f32, distances_length: usize, places: *mut usize, places_length: usize, progress: Progress, allowance: u64) -> BakeAnswer;
     pub fn geaidnosa_light_at(axes: Axes, corners: Corners, light: *const f32, light_length: usize, position: Vec3) -> LightAt;
     pub fn geaidnosa_coefficients_at(axes: Axes, corners: Corners, volume: *const f32, volume_length: usize, position: Vec3) -> CoefficientsAt;
 }

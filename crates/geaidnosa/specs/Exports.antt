@@ -18,9 +18,9 @@ use Rattle.geaidnosa.specs.declared.PartStart.{PartStart}
 
 -- ---- the version
 
--- 0.2.0: major·1,000,000 + minor·1,000 + patch
+-- 0.3.0: major·1,000,000 + minor·1,000 + patch
 abbrev pub versionNumber : ℕ
-versionNumber = 2000
+versionNumber = 3000
 
 -- ---- a hit
 

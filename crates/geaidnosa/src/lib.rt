@@ -34,6 +34,7 @@ use masks::Marked;
 use rays::Found;
 use rays::Met;
 use rays::Transmitted;
+use spread::Progress;
 use sun::Sunned;
 use vectors::Ray;
 use vectors::Triangle;
@@ -62,8 +63,8 @@ pub struct PartStart {
 
 // ---- the version
 
-// 0.2.0: major·1,000,000 + minor·1,000 + patch, as GEAIDNOSA_VERSION_NUMBER in the header.
-const VERSION: u32 = 2000;
+// 0.3.0: major·1,000,000 + minor·1,000 + patch, as GEAIDNOSA_VERSION_NUMBER in the header.
+const VERSION: u32 = 3000;
 
 #[no_mangle]
 pub extern "C" fn geaidnosa_version() -> u32
@@ -211,7 +212,7 @@ pub extern "C" fn geaidnosa_bake(
     scratch: &mut [f32],
     distances: &mut [f32],
     places: &mut [usize],
-    progress: usize,
+    progress: Progress,
     allowance: u64,
 ) -> BakeAnswer
     ensures { λ r. ⌜ Baked
