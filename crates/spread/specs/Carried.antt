@@ -9,7 +9,7 @@ use Rattle.spread.specs.declared.Progress.{Progress}
 use Rattle.spread.specs.Spread.{progressOf, atZero, Stage, stage, Bake, started, anyActive, call, unblurred, unbroken, costs, stands}
 use Rattle.spread.specs.Demand.{Sized, Fair}
 use Rattle.spread.specs.Contents.{stands-filled}
-use Rattle.spread.specs.Holds.{Short, Along, atEnd, unbroken-progress, along-call, rests-done}
+use Rattle.spread.specs.Holds.{Short, StandsWhere, atEnd, unbroken-progress, along-call, rests-done}
 
 module _ {A : Type 0} (b : Bake A) where
   -- what a begun bake carries on: short of the end the voxels below next as they stand, the others ambient, and the rays fired for them; then the unbroken
@@ -42,7 +42,7 @@ module _ {A : Type 0} (b : Bake A) where
   pub carried-on : Fair b → (a : ℕ) (x : List A) {p : Progress} {v : List A} → Carried p v → Carried (call b a (stage p v x) .stage .progress) (call b a (stage p v x) .stage .volume)
   carried-on fair a x {p} {v} (short h k e) = go (along-call b fair a x (stage p v x) (inl (record { before = h; known = k; volume = e; scratch = refl })))
     where
-      go : {s : Stage A} → Along b fair x s → Carried (s .progress) (s .volume)
+      go : {s : Stage A} → StandsWhere b fair x s → Carried (s .progress) (s .volume)
       go (inl s) = short (s .before) (s .known) (s .volume)
       go (inr e) = over (ap (λ (s : Stage A). s .progress) e ∙ unbroken-progress b fair x) (ap (λ (s : Stage A). s .volume) e ∙ same-volume x [])
   carried-on fair a x {p} {v} (over e f) =

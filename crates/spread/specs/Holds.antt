@@ -223,8 +223,8 @@ module _ {A : Type 0} (b : Bake A) (fair : Fair b) where
     pub scratch : s .scratch ≡ x
 
   -- where the bake stands after a run that began at progress zero with the scratch x
-  abbrev pub Along : List A → Stage A → Type 0
-  Along x s = Short x s ⊎ (s ≡ unbroken b x)
+  abbrev pub StandsWhere : List A → Stage A → Type 0
+  StandsWhere x s = Short x s ⊎ (s ≡ unbroken b x)
 
   -- progress at the end
   abbrev pub atEnd : Progress
@@ -249,12 +249,12 @@ module _ {A : Type 0} (b : Bake A) (fair : Fair b) where
       let split : costs b (w .next) 0 ≡ costs b i 0 + costs b (w .next - i) i = rw (there, zero-add) at (costs-split b i (w .next - i) 0) in
       omega (arith, walk-fires b q)
 
-  pub along-call : (a : ℕ) (x : List A) (s : Stage A) → Along x s → Along x (call b a s .stage)
+  pub along-call : (a : ℕ) (x : List A) (s : Stage A) → StandsWhere x s → StandsWhere x (call b a s .stage)
   unfolding unbroken
   along-call a x s (inr e) = inr (rests-done a s (ap (λ (z : Stage A). z .progress .next) e ∙ ap (λ (p : Progress). p .next) (unbroken-progress x)) .1 ∙ e)
   along-call a x s (inl h) = go (call b a s) (calls a s)
     where
-      go : (c : Called A) → Calls a s c → Along x (c .stage)
+      go : (c : Called A) → Calls a s c → StandsWhere x (c .stage)
       go c (refused e n) = inl h
       go c (idle e g) = absurd (omega (arith, h .before))
       go c (walks-on e g f) =
@@ -279,12 +279,12 @@ module _ {A : Type 0} (b : Bake A) (fair : Fair b) where
           })))
           (eq-or-lt-of-le (omega (arith, walk-to b q)))
 
-  along-run : (l : List ℕ) (x : List A) (s : Stage A) → Along x s → Along x (run b l s .stage)
+  along-run : (l : List ℕ) (x : List A) (s : Stage A) → StandsWhere x s → StandsWhere x (run b l s .stage)
   unfolding run
   along-run [] x s h = h
   along-run (a ∷ l) x s h = along-run l x (call b a s .stage) (along-call a x s h)
 
-  begins : (s : Stage A) → s .progress ≡ atZero → Along (s .scratch) s
+  begins : (s : Stage A) → s .progress ≡ atZero → StandsWhere (s .scratch) s
   unfolding costs
   begins s e =
       inl
