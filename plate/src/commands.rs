@@ -92,6 +92,19 @@ fn threads_of(asked: Option<usize>) -> Result<usize> {
     Ok(threads)
 }
 
+/// Set by Ctrl-C or a request to end.
+static STOP: AtomicBool = AtomicBool::new(false);
+
+/// The first time what is under way is brought to a stop and saved; the second time the program ends at once.
+fn watch_stop() -> Result<()> {
+    let asked = || {
+        if STOP.swap(true, SeqCst) {
+            std::process::exit(130);
+        }
+    };
+    ctrlc::set_handler(asked).context("Ctrl-C cannot be watched")
+}
+
 pub fn bake(args: &Bake) -> Result<u8> {
     ensure!(args.out.is_none() || args.halls.len() == 1, "--out names one volume, and {} halls are given", args.halls.len());
     ensure!(args.save_every.is_finite() && (0.0..=86_400.0).contains(&args.save_every), "--save-every {}: seconds from 0 to 86,400", args.save_every);
@@ -99,8 +112,7 @@ pub fn bake(args: &Bake) -> Result<u8> {
     let shares = args.shares.unwrap_or(threads);
     ensure!((1..=1024).contains(&shares), "--shares {shares}: from 1 to 1,024");
     let until = args.until.as_deref().map(moment).transpose()?;
-    static STOP: AtomicBool = AtomicBool::new(false);
-    ctrlc::set_handler(|| STOP.store(true, SeqCst)).context("Ctrl-C cannot be watched")?;
+    watch_stop()?;
     // all halls are judged before the first is baked
     let halls = args.halls.iter().map(|path| read_hall(path, true)).collect::<Result<Vec<Hall>>>()?;
     for hall in &halls {
@@ -699,14 +711,14 @@ pub fn demo(args: &Demo) -> Result<u8> {
     println!("{}: a sample archery hall of {} triangles with {} lamps", dir.join("hall.toml").display(), hall.triangles(), hall.lamp_count());
     let out = dir.join("hall.vgrd");
     let asked = Baking { threads, shares: threads, share: None, allowance: 100_000, until: None, save_every: 10.0, resume: false, fresh: false, json: false };
-    static STOP: AtomicBool = AtomicBool::new(false);
-    ctrlc::set_handler(|| STOP.store(true, SeqCst)).context("Ctrl-C cannot be watched")?;
+    watch_stop()?;
     if bake_one(&hall, &out, &asked, &STOP)? == SAVED {
         return Ok(SAVED);
     }
     let volume = Volume::read(&out)?;
     let show = |name: &str, picture: Picture, exposure: Option<f32>, words: &str| -> Result<()> {
         let path = dir.join(name);
+        ensure!(!STOP.load(SeqCst), "stopped before {}; {} is there", path.display(), out.display());
         exposed(&picture, exposure, &path)?;
         println!("{}\n    {words}", path.display());
         Ok(())

@@ -16,6 +16,7 @@ use Rattle.shares.specs.Shares.{Share, Parted}
 use Rattle.join.specs.Join.{Joined}
 use Rattle.blurs.specs.Blurs.{CoefficientsBlurred}
 use Rattle.intake.specs.Intake.{BakeInput, inputOf, voxelNumbers, voxelCount, activeEntries, bakeRefusal}
+use Rattle.intake.specs.IntakeLaws.{GoodProgress}
 use Rattle.demand.specs.Bake.{bakeOf}
 use Rattle.bake.specs.Results.{Result, lending, Successive, leftBy, refusalsOf, reportedBy, raysBelow}
 
@@ -104,8 +105,9 @@ pub record EndsUnbroken (b : BakeInput) (numbers : List Float) (rays : ℕ) : Ty
       → (r ≡ 0) × (stage (progressOf (voxelCount b) rays) volume' scratch' ≡ unbroken (bakeOf b) scratch)
   -- where none is: they are the unbroken bake's volume, of which no mean is taken, and scratch stays
   pub unblurred-end : someActive b ≡ false → (scratch : List Float) → stage (progressOf (voxelCount b) rays) numbers scratch ≡ unbroken (bakeOf b) scratch
-  -- the rays are those that the definition fires
+  -- the rays are those that the definition fires, so that a call may be handed the record
   pub known : rays ≡ raysBelow b (voxelCount b)
+  pub good : GoodProgress b (progressOf (voxelCount b) rays)
 
 module _ (b : BakeInput) (first : ShareBake) (rest : List JoinedShare) where
   -- shares of the active voxels of b, baked, and joined onto the first one's unblurred volume

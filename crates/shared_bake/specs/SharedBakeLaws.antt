@@ -19,6 +19,7 @@ use Rattle.words.specs.Words.{entriesOf, unusedSet, Tidy}
 use Rattle.spread.specs.declared.Progress.{Progress}
 use Rattle.spread.specs.Spread.{progressOf, atZero, Stage, stage, Bake, unblurred, unbroken, costs, run, sum, EachAtLeast, NoneRefused}
 use Rattle.spread.specs.Demand.{Sized, roundedUp, allActive}
+use Rattle.spread.specs.Walks.{costs-least, costs-most}
 use Rattle.shares.specs.Shares.{Share, bakeBy, holders, Parted, joinedBy, unblurredIn, joinedAll, addedOver}
 use Rattle.shares.specs.SharesLaws.{unblurred-in, length-unblurred, length-joined, eitherOf, two-joined, same-voxels, same-unbroken, all-joined, rays-add-up}
 use Rattle.join.specs.Join.{Joined}
@@ -29,7 +30,7 @@ use Rattle.intake.specs.Intake.{BakeInput, inputOf, voxelNumbers, voxelCount, b
 use Rattle.intake.specs.IntakeLaws.{BakePassed, progress-row, good-at-zero, fits, none-refused}
 use Rattle.demand.specs.Bake.{bakeOf, bakeCall}
 use Rattle.demand.specs.Calls.{answers-refusal}
-use Rattle.demand.specs.Demanded.{bake-fair, bake-demand}
+use Rattle.demand.specs.Demanded.{good-knows, bake-fair, bake-demand}
 use Rattle.bake.specs.Baked.{Baked}
 use Rattle.bake.specs.GoesOn.{accepted-unblurred, never-refused}
 use Rattle.bake.specs.Results.{Result, handedOn, lending, Successive, allowancesOf, refusalsOf, reportedBy, raysBelow, DemandOfResults}
@@ -271,6 +272,7 @@ module _ (b : BakeInput) where
   ends-unbroken : Accepted b → {numbers : List Float} {rays : ℕ} → numbers ≡ unblurred (bakeOf b) → rays ≡ raysBelow b (voxelCount b) → EndsUnbroken b numbers rays
   ends-unbroken a {numbers} e k =
       let z = sized b a in
+      let fair = bake-fair b (a .axes-within) in
       let reached = ap (progressOf (voxelCount b)) k in
       record {
         joined = e;
@@ -283,6 +285,13 @@ module _ (b : BakeInput) where
             (n, ap (λ (q : Progress). stage q volume' scratch') reached ∙ ap₂ (stage atEnd) v s ∙ sym (ends-blurred scratch t));
         unblurred-end = λ t scratch. ap₂ (λ (q : Progress) (v : List Float). stage q v scratch) reached e ∙ sym (ends-unblurred scratch t);
         known = k;
+        good =
+            good-knows b _ .1
+            (record {
+              within = omega arith;
+              least = rw k (costs-least (bakeOf b) (fair .most) (fair .least) (voxelCount b) 0);
+              most = rw k (costs-most (bakeOf b) (fair .most) (fair .least) (voxelCount b) 0);
+            });
       }
 
 module _ (b : BakeInput) (first : ShareBake) (rest : List JoinedShare) (h : Shared b first rest) where
