@@ -11,8 +11,8 @@ use borrow.Author.Tests.{eq-eqb}
 use Rattle.names.specs.Refusals.{RefusedBy, refused-by}
 use Rattle.spread.specs.declared.Progress.{Progress}
 use Rattle.spread.specs.Spread.{Stage, Called}
-use Rattle.intake.specs.Intake.{BakeInput, voxelCount, bakeRows, bakeRefusal}
-use Rattle.intake.specs.IntakeLaws.{GoodProgress, fits, none-refused}
+use Rattle.intake.specs.Intake.{BakeInput, voxelCount, bakeRows, bakeRefusal, GoodProgress}
+use Rattle.intake.specs.IntakeLaws.{fits, none-refused}
 use Rattle.demand.specs.Bake.{bakeCall}
 use Rattle.demand.specs.Calls.{refused-call, accepted-call, answers-refusal}
 use Rattle.demand.specs.Lasting.{call-leaves}

@@ -8,8 +8,7 @@ use lib.ListN.{take}
 use lib.Ieee.{Float}
 use Rattle.spread.specs.declared.Progress.{Progress}
 use Rattle.spread.specs.Spread.{atZero, stage, unbroken, stands, sum}
-use Rattle.intake.specs.Intake.{BakeInput, voxelCount}
-use Rattle.intake.specs.IntakeLaws.{GoodProgress}
+use Rattle.intake.specs.Intake.{BakeInput, voxelCount, GoodProgress}
 use Rattle.demand.specs.Bake.{bakeOf}
 use Rattle.bake.specs.Baked.{Baked}
 use Rattle.bake.specs.Results.{Result, lending, refusalsOf, reportedBy}

@@ -16,8 +16,8 @@ use Rattle.spread.specs.Demand.{Sized}
 use Rattle.spread.specs.Carried.{Carried, short, over, ended-at, carried-from-zero, carried-on}
 use Rattle.ends.specs.EndsLaws.{length-ambient}
 use Rattle.gather.specs.GatherLaws.{length-gathered}
-use Rattle.intake.specs.Intake.{BakeInput, voxelCount, bakeRows, bakeRefusal}
-use Rattle.intake.specs.IntakeLaws.{GoodProgress, progress-row, good-at-zero, zero-at-zero, fits, none-refused}
+use Rattle.intake.specs.Intake.{BakeInput, voxelCount, bakeRows, bakeRefusal, GoodProgress}
+use Rattle.intake.specs.IntakeLaws.{progress-row, good-at-zero, zero-at-zero, fits, none-refused}
 use Rattle.demand.specs.Bake.{gatherInput, bakeOf, bakeCall}
 use Rattle.demand.specs.Calls.{refused-call, answers-refusal}
 use Rattle.demand.specs.Demanded.{bake-fair}

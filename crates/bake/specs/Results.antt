@@ -17,8 +17,7 @@ use Rattle.spread.specs.Demand.{roundedUp}
 use Rattle.marks.specs.Marks.{isMarked}
 use Rattle.gather.specs.Gather.{costOf}
 use Rattle.gather.specs.Cost.{raysOf}
-use Rattle.intake.specs.Intake.{BakeInput, inputOf, voxelCount, activeEntries, bakeCost}
-use Rattle.intake.specs.IntakeLaws.{GoodProgress}
+use Rattle.intake.specs.Intake.{BakeInput, inputOf, voxelCount, activeEntries, bakeCost, GoodProgress}
 use Rattle.demand.specs.Bake.{gatherInput, bakeOf}
 use Rattle.bake.specs.declared.BakeAnswer.{BakeAnswer}
 use Rattle.bake.specs.Baked.{Baked}

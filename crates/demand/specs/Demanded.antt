@@ -17,8 +17,8 @@ use Rattle.spread.specs.Demand.{KnowsRays, Fair, Demand}
 use Rattle.spread.specs.Holds.{demand}
 use Rattle.ends.specs.EndsLaws.{length-ambient}
 use Rattle.gather.specs.GatherLaws.{length-gathered, cost-least, cost-most}
-use Rattle.intake.specs.Intake.{BakeInput, activeEntries, bakeRefusal}
-use Rattle.intake.specs.IntakeLaws.{GoodProgress, fits, none-refused}
+use Rattle.intake.specs.Intake.{BakeInput, activeEntries, bakeRefusal, GoodProgress}
+use Rattle.intake.specs.IntakeLaws.{fits, none-refused}
 use Rattle.demand.specs.Bake.{gatherInput, bakeOf}
 
 -- ---- row 9 asks what progress has to know

@@ -32,8 +32,8 @@ use Rattle.ends.specs.Ends.{ambientVoxel, ambientAt, meanOver}
 use Rattle.ends.specs.EndsLaws.{length-ambient}
 use Rattle.gather.specs.Gather.{gatheredOf}
 use Rattle.gather.specs.GatherLaws.{length-gathered}
-use Rattle.intake.specs.Intake.{BakeInput, voxelNumbers, voxelCount, badLighting, badVolume, badContents, bakeRefusal}
-use Rattle.intake.specs.IntakeLaws.{BakePassed, GoodProgress, Fits, fits, none-refused, still-passed}
+use Rattle.intake.specs.Intake.{BakeInput, voxelNumbers, voxelCount, badLighting, badVolume, badContents, bakeRefusal, GoodProgress}
+use Rattle.intake.specs.IntakeLaws.{BakePassed, Fits, fits, none-refused, still-passed}
 use Rattle.demand.specs.Bake.{gatherInput, bakeOf, bakeCall}
 use Rattle.demand.specs.Calls.{accepted-call, answers-refusal}
 use Rattle.demand.specs.Demanded.{good-knows, bake-demand}

@@ -2,7 +2,7 @@
 -- volume's coefficients exactly when the next voxel lies strictly between 0 and the voxel count, the contents of scratch never. Assumes nothing.
 use mathlib.Core.Bool.{Bool, _&&_, _||_}
 use mathlib.Core.List.{List, [], _∷_}
-use Prim.Native.Nat.{ℕ, _*_}
+use Prim.Native.Nat.{ℕ, _*_, _≤_}
 use lib.Dec.{ltb}
 use lib.ListN.{length}
 use lib.Ieee.{Float}
@@ -128,3 +128,10 @@ module _ (b : BakeInput) where
 
   unfoldable pub bakeRefusal : Stage Float → ℕ → ℕ
   bakeRefusal s allowance = firstOf (bakeRows s allowance)
+
+-- ---- what row 9 asks of a progress, which `progress-row` of IntakeLaws shows: next at most the count, and its rays "between 64 and W for each mask entry 1
+-- below next"
+pub record GoodProgress (b : BakeInput) (p : Progress) : Type 0 where
+  pub within : p .next ≤ voxelCount b
+  pub least : markedBelow (activeEntries b) (p .next) * primaryRays ≤ p .rays
+  pub most : p .rays ≤ markedBelow (activeEntries b) (p .next) * bakeCost b

@@ -19,7 +19,7 @@ use Rattle.limits.specs.Limits.{badAxes, badGrid, wrongLength, wrongLamps, tooM
 use Rattle.marks.specs.Marks.{markedBelow}
 use Rattle.words.specs.Words.{wordCount, unusedSet, Tidy}
 use Rattle.limits.specs.LimitsLaws.{either, any-of-three, axes-row, sound, lamps-row}
-use Rattle.intake.specs.Intake.{BakeInput, voxelNumbers, bakeCost, voxelCount, activeEntries, triangleCount, wrongLengths, wrongBakeLists, badLighting, badProgress, badVolume, badContents, bakeRows, bakeRefusal}
+use Rattle.intake.specs.Intake.{BakeInput, voxelNumbers, bakeCost, voxelCount, activeEntries, triangleCount, wrongLengths, wrongBakeLists, badLighting, badProgress, badVolume, badContents, bakeRows, bakeRefusal, GoodProgress}
 
 -- no row holds of a call at the stage s with the allowance a
 pub record BakePassed (b : BakeInput) (s : Stage Float) (a : ℕ) : Type 0 where
@@ -34,12 +34,6 @@ pub record BakePassed (b : BakeInput) (s : Stage Float) (a : ℕ) : Type 0 where
   pub progress : badProgress (voxelCount b) (activeEntries b) (lampCount (b .lamps)) (s .progress) ≡ false
   pub allowance : belowCost (lampCount (b .lamps)) a ≡ false
   pub contents : badContents (b .active) (b .lights) (s .volume) (s .progress .next) (voxelCount b) ≡ false
-
--- what row 9 asks of a progress: next at most the count, and its rays between 64 and W for each marked voxel below next
-pub record GoodProgress (b : BakeInput) (p : Progress) : Type 0 where
-  pub within : p .next ≤ voxelCount b
-  pub least : markedBelow (activeEntries b) (p .next) * primaryRays ≤ p .rays
-  pub most : p .rays ≤ markedBelow (activeEntries b) (p .next) * bakeCost b
 
 -- what the code may count on then
 pub record Fits (b : BakeInput) (s : Stage Float) (a : ℕ) : Type 0 where

@@ -15,8 +15,7 @@ use Rattle.spread.specs.Spread.{progressOf, atZero, Stage, stage, anyActive, un
 use Rattle.shares.specs.Shares.{Share, Parted}
 use Rattle.join.specs.Join.{Joined}
 use Rattle.blurs.specs.Blurs.{CoefficientsBlurred}
-use Rattle.intake.specs.Intake.{BakeInput, inputOf, voxelNumbers, voxelCount, activeEntries, bakeRefusal}
-use Rattle.intake.specs.IntakeLaws.{GoodProgress}
+use Rattle.intake.specs.Intake.{BakeInput, inputOf, voxelNumbers, voxelCount, activeEntries, bakeRefusal, GoodProgress}
 use Rattle.demand.specs.Bake.{bakeOf}
 use Rattle.bake.specs.Results.{Result, lending, Successive, leftBy, refusalsOf, reportedBy, raysBelow}
 

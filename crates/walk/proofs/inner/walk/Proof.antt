@@ -62,11 +62,11 @@ loop-again c =
 next-marked-requires : tie.Need-next-marked-requires Inv-loop μ-loop
 next-marked-requires c κs = searchable (c .before .before .before .before .before .before .before .before .before .before .before .before .before .before .before .before .pre .0)
 
-loop-less-2 : tie.Need-loop-less-2 Inv-loop μ-loop
-loop-less-2 c = further (c .before .before .before .before .before .before .before .before .before .before .before .before .before .before .before .before .before .pre .0) (c .before .before .before .loop-test .taken) (c .next-marked .ensures)
-
 loop-again-2 : tie.Need-loop-again-2 Inv-loop μ-loop
 loop-again-2 c = passes (c .before .before .before .before .before .before .before .before .before .before .before .before .before .before .before .before .before .pre .0) (c .before .before .before .before .loop .inv) (c .before .before .before .loop-test .taken) (c .before .before .is-marked .ensures) (c .before .if1 .left) (c .next-marked .ensures)
+
+loop-less-2 : tie.Need-loop-less-2 Inv-loop μ-loop
+loop-less-2 c = further (c .before .before .before .before .before .before .before .before .before .before .before .before .before .before .before .before .before .pre .0) (c .before .before .before .loop-test .taken) (c .next-marked .ensures)
 
 same-length-4 : tie.Need-same-length-4 Inv-loop μ-loop
 same-length-4 c = c .before .loop .inv .volume
