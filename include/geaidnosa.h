@@ -294,10 +294,10 @@ GeaidnosaSunned geaidnosa_sun(
 
 /* Bakes the volume from progress on: an active voxel is taken while at least 384 + 64·lamps rays of the allowance remain. Begin at {0, 0}, and call again
  * with the progress answered and the same lists until its next is the voxel count. Its rays are then those of all calls together, also where the bake was
- * stopped and gone on with elsewhere: keep progress and volume, and hand both on. A progress whose rays cannot be those of the voxels below next is refused
- * 9, not repaired. `light` is the sun, its direction and colour; `lights` is the list that geaidnosa_sun filled.
- * At next 0 the volume's contents do not matter; scratch's never do. The last call leaves the volume before its 3×3×3 mean in scratch and the mean in
- * the volume; the others do not touch scratch, and where no voxel is active no call writes it.
+ * stopped and gone on with elsewhere: keep progress and volume, and hand both on. A progress whose rays lie outside what the active voxels below next may
+ * cost, as row 9 says, is refused and not repaired; inside that its rays are taken as they are. `light` is the sun, its direction and colour; `lights` is
+ * the list that geaidnosa_sun filled. At next 0 the volume's contents do not matter; scratch's never do. The last call leaves the volume before its 3×3×3
+ * mean in scratch and the mean in the volume; the others do not touch scratch, and where no voxel is active no call writes it.
  * Refuses 1, 2, 3, 4, 5, 6, 7, 19, 9, 10, 13. */
 GeaidnosaBakeAnswer geaidnosa_bake(
     GeaidnosaAxes axes,

@@ -438,7 +438,7 @@ pub struct BakeInput<'a> {
 /// [`Progress::ZERO`], and call again with the progress answered and the same lists until its next is N: its rays are then those of all calls together.
 /// At next 0 the volume's contents do not matter; scratch's never do. The last call leaves the volume before its 3×3×3 mean in scratch and the mean in the
 /// volume; the others do not touch scratch, and where no voxel is active no call writes it.
-/// A progress whose rays cannot be those of the voxels below next is refused 9, not repaired. A refusal answers the row alone, since the progress handed in,
+/// A progress whose rays lie outside what the active voxels below next may cost is refused 9, not repaired; inside that they are taken as they are. A refusal answers the row alone, since the progress handed in,
 /// which C answers then, is a copy: the caller's own stands as it was, and so do the lists. Refuses 1, 2, 3, 4, 5, 6, 7, 19, 9, 10, 13.
 pub fn bake(input: BakeInput, volume: &mut [f32], scratch: &mut [f32], hits: HitScratch, progress: Progress, allowance: u64) -> Result<Baked, Refusal> {
     let BakeInput { axes, corners, scene, light, ambient, sky, lamps, active, lights } = input;
