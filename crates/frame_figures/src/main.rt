@@ -243,7 +243,7 @@ fn main() {
     light_short(
         Axes {
             width: 2,
-            height: 33,
+            height: 129,
             depth: 4,
         },
         0.0,

@@ -32,7 +32,7 @@ yOf a i = i / a .width % a .height
 abbrev pub zOf : Axes → ℕ → ℕ
 zOf a i = i / a .width / a .height
 
--- "Each axis 1..32 voxels."
+-- "Axes rise to 1..128."
 pub record AxesWithin (a : Axes) : Type 0 where
   pub width : 1 ≤ a .width
   pub widest : a .width ≤ axisLimit

@@ -1,5 +1,5 @@
 -- What the definitions of a grid mean: index and coordinates are each other's inverse within the grid, an index lies below the
--- number of voxels, and a grid within the limits has between 1 and 32,768 voxels.
+-- number of voxels, and a grid within the limits has between 1 and `voxelLimit` voxels.
 use mathlib.Core.Path.{_≡_, _∙_}
 use Prim.Native.Nat.{ℕ, _+_, _*_, _/_, _<_, _≤_}
 use native.Mathlib.Omega.{arith}

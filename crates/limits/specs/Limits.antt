@@ -43,13 +43,17 @@ upTo b x = Ieee.le zero32 x && Ieee.le x b
 unfoldable pub outsideV : Float → Vec3 → Bool
 outsideV b v = outside b (v .x) || outside b (v .y) || outside b (v .z)
 
--- ---- 1: an axis outside 1..32
+-- ---- 1: an axis outside 1..128
 
-abbrev pub badAxis : ℕ → Bool
-badAxis n = ltb n 1 || ltb axisLimit n
+-- outside 1..most, for any most: C-21 speaks of readers whose limit is another
+abbrev pub badAxis : ℕ → ℕ → Bool
+badAxis most n = ltb n 1 || ltb most n
+
+abbrev pub badAxesUnder : ℕ → Axes → Bool
+badAxesUnder most a = badAxis most (a .width) || badAxis most (a .height) || badAxis most (a .depth)
 
 unfoldable pub badAxes : Axes → Bool
-badAxes a = badAxis (a .width) || badAxis (a .height) || badAxis (a .depth)
+badAxes a = badAxesUnder axisLimit a
 
 -- ---- 2: bad corners or voxel edge
 

@@ -1,7 +1,7 @@
 -- What the rows mean: of each, what holds exactly when it is not given. And what follows once several have passed.
 use mathlib.Core.Path.{_≡_, refl, sym, ap, _∙_}
 use mathlib.Core.Bool.{Bool, true, false, not, _&&_, _||_, false≢true, and-eq-true-iff}
-use mathlib.Core.Logic.{_↔_}
+use mathlib.Core.Logic.{_↔_, _⊎_, ⊎-elim}
 use mathlib.Core.List.{List, [], _∷_}
 use Prim.Native.Nat.{ℕ, zero, suc, _+_, _*_, _/_, _%_, _≤_, _<_}
 use native.Mathlib.Nat.{div-add-mod', add-zero, zero-add, mul-div-cancel, mul-mod-left}
@@ -26,7 +26,7 @@ use Rattle.grid.specs.Grid.{edgesOf, AxesWithin}
 use Rattle.lists.specs.Any.{any, any-in, any-out}
 use Rattle.limits.specs.declared.Lamp.{Lamp}
 use Rattle.lists.specs.Some.{some, none-out, none-in}
-use Rattle.limits.specs.Limits.{within, outside, upTo, outsideV, badAxis, badAxes, badCorners, badEdges, badGrid, wrongShare, wrongScene, tooMany, badPoints, badKinds, badNumber, badFrom, badNumbers, badUses, badMaterials, badDirection, badSky, badRay, badMask, badLights, badCoefficients, lampCount, lampAt, badLamp, badLampAt, badLamps}
+use Rattle.limits.specs.Limits.{within, outside, upTo, outsideV, badAxis, badAxesUnder, badAxes, badCorners, badEdges, badGrid, wrongShare, wrongScene, tooMany, badPoints, badKinds, badNumber, badFrom, badNumbers, badUses, badMaterials, badDirection, badSky, badRay, badMask, badLights, badCoefficients, lampCount, lampAt, badLamp, badLampAt, badLamps}
 
 -- ---- tests joined
 
@@ -97,28 +97,67 @@ all-within b l =
 
 -- ---- 1
 
+-- one axis under any limit
+axis-row : (most n : ℕ) → (badAxis most n ≡ false) ↔ ((1 ≤ n) × (n ≤ most))
+axis-row most n = (out, λ h. or-in _ _ (le-ltb n 1 (h .0), le-ltb most n (h .1)))
+  where
+    out : badAxis most n ≡ false → (1 ≤ n) × (n ≤ most)
+    out e = let p = or-out (ltb n 1) (ltb most n) e in (ltb-false n 1 (p .0), ltb-false most n (p .1))
+
+-- each of the three is as P says
+pub record EachAxis (P : ℕ → Type 0) (a : Axes) : Type 0 where
+  pub width : P (a .width)
+  pub height : P (a .height)
+  pub depth : P (a .depth)
+
+pub axes-under-row : (most : ℕ) (a : Axes) → (badAxesUnder most a ≡ false) ↔ EachAxis (λ (n : ℕ). (1 ≤ n) × (n ≤ most)) a
+axes-under-row most a = (out, in')
+  where
+    out : badAxesUnder most a ≡ false → EachAxis (λ (n : ℕ). (1 ≤ n) × (n ≤ most)) a
+    out e =
+        let p = any-of-three _ _ _ .0 e in
+        record { width = axis-row most (a .width) .0 (p .0); height = axis-row most (a .height) .0 (p .1); depth = axis-row most (a .depth) .0 (p .2) }
+
+    in' : EachAxis (λ (n : ℕ). (1 ≤ n) × (n ≤ most)) a → badAxesUnder most a ≡ false
+    in' h =
+        any-of-three _ _ _ .1
+        (axis-row most (a .width) .1 (h .width), axis-row most (a .height) .1 (h .height), axis-row most (a .depth) .1 (h .depth))
+
 pub axes-row : (a : Axes) → (badAxes a ≡ false) ↔ AxesWithin a
 unfolding badAxes
 axes-row a = (out, in')
   where
-    axis : (n : ℕ) → badAxis n ≡ false → (1 ≤ n) × (n ≤ axisLimit)
-    axis n e = let p = or-out (ltb n 1) (ltb axisLimit n) e in (ltb-false n 1 (p .0), ltb-false axisLimit n (p .1))
-
-    fits : (n : ℕ) → 1 ≤ n → n ≤ axisLimit → badAxis n ≡ false
-    fits n p q = or-in _ _ (le-ltb n 1 p, le-ltb axisLimit n q)
-
-    out : badAxis (a .width) || badAxis (a .height) || badAxis (a .depth) ≡ false → AxesWithin a
+    out : badAxesUnder axisLimit a ≡ false → AxesWithin a
     out e =
-        let p = any-of-three _ _ _ .0 e in
-        let w = axis (a .width) (p .0) in
-        let h = axis (a .height) (p .1) in
-        let d = axis (a .depth) (p .2) in
-        record { width = w .0; widest = w .1; height = h .0; highest = h .1; depth = d .0; deepest = d .1 }
+        let h = axes-under-row axisLimit a .0 e in
+        record { width = h .width .0; widest = h .width .1; height = h .height .0; highest = h .height .1; depth = h .depth .0; deepest = h .depth .1 }
 
-    in' : AxesWithin a → badAxis (a .width) || badAxis (a .height) || badAxis (a .depth) ≡ false
+    in' : AxesWithin a → badAxesUnder axisLimit a ≡ false
     in' h =
-        any-of-three _ _ _ .1
-        (fits (a .width) (h .width) (h .widest), fits (a .height) (h .height) (h .highest), fits (a .depth) (h .depth) (h .deepest))
+        axes-under-row axisLimit a .1
+        (record { width = (h .width, h .widest); height = (h .height, h .highest); depth = (h .depth, h .deepest) })
+
+-- "no bit changes for grids the old limit allowed": what a lower limit lets pass, a higher one does
+pub raised-limit : (old new : ℕ) (a : Axes) → old ≤ new → badAxesUnder old a ≡ false → badAxesUnder new a ≡ false
+raised-limit old new a l e =
+    let h = axes-under-row old a .0 e in
+    let up : (n : ℕ) → n ≤ old → n ≤ new = λ n p. omega (arith, p, l) in
+    axes-under-row new a .1
+    (record {
+      width = (h .width .0, up (a .width) (h .width .1));
+      height = (h .height .0, up (a .height) (h .height .1));
+      depth = (h .depth .0, up (a .depth) (h .depth .1));
+    })
+
+-- and what lies above a limit, that limit refuses
+pub above-limit : (most : ℕ) (a : Axes) → (most < a .width) ⊎ (most < a .height) ⊎ (most < a .depth) → badAxesUnder most a ≡ true
+above-limit most a h = by (badAxesUnder most a) refl
+  where
+    by : (b : Bool) → badAxesUnder most a ≡ b → badAxesUnder most a ≡ true
+    by true e = e
+    by false e =
+        let w = axes-under-row most a .0 e in
+        ⊎-elim (λ p. absurd (omega (arith, p, w .width .1))) (⊎-elim (λ p. absurd (omega (arith, p, w .height .1))) (λ p. absurd (omega (arith, p, w .depth .1)))) h
 
 -- ---- 2
 

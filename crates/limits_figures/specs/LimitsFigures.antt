@@ -36,8 +36,8 @@ pub transmissions : map (λ (bits : ℕ). upTo one32 (lit bits)) (0 ∷ 0x800000
 unfolding upTo ofBits lt le eq
 transmissions = refl
 
--- 1: an axis of 0, 1, 32 and 33
-pub axes : map (λ (n : ℕ). badAxes (record { width = 1; height = n; depth = 32 })) (0 ∷ 1 ∷ 32 ∷ 33 ∷ []) ≡ true ∷ false ∷ false ∷ true ∷ []
+-- 1: an axis of 0, 1, 33, 128 and 129
+pub axes : map (λ (n : ℕ). badAxes (record { width = 1; height = n; depth = 128 })) (0 ∷ 1 ∷ 33 ∷ 128 ∷ 129 ∷ []) ≡ true ∷ false ∷ false ∷ false ∷ true ∷ []
 unfolding badAxes
 axes = refl
 

@@ -53,11 +53,11 @@ pub read-only : map threeLights (0x3f000000 ∷ 0x3fc00000 ∷ []) ≡ found 0x3
 unfolding lightAtOf badLightCells cellsOf cellsFrom betweenOf clampedCell clamped blendedOf blendOf edgesOf badAxes badCorners badEdges outsideV within some firstOf unlessRefused toward ofBits neg add sub mul div lt le eq ofInt toUnsigned
 read-only = refl
 
--- the other refusals, lowest first: an axis of 33 (with a light list that is wrong too), a flat grid, a light too many, a position past 4,096
+-- the other refusals, lowest first: an axis of 129 (with a light list that is wrong too), a flat grid, a light too many, a position past 4,096
 abbrev refusedLight : Axes → Corners → List Float → ℕ → ℕ
 refusedLight a c light x = lightAtOf a c light (vec (lit x) zero32 zero32) .refusal
 
-pub light-refusals : refusedLight (record { width = 33; height = 1; depth = 1 }) figureCorners [] 0
+pub light-refusals : refusedLight (record { width = 129; height = 1; depth = 1 }) figureCorners [] 0
     ∷ refusedLight figureAxes (record { min = vec zero32 zero32 zero32; max = vec zero32 one32 one32 }) [] 0
     ∷ refusedLight figureAxes figureCorners (zero32 ∷ one32 ∷ one32 ∷ []) 0x7fc00000
     ∷ refusedLight figureAxes figureCorners (zero32 ∷ nan ∷ []) 0x45800001

@@ -5,9 +5,9 @@ use Rattle.names.specs.Bits.{lit}
 
 -- ---- how many
 
--- "Each axis 1..32 voxels."
+-- "Axes rise to 1..128."
 abbrev pub axisLimit : ℕ
-axisLimit = 32
+axisLimit = 128
 
 -- the most voxels that three such axes have
 abbrev pub voxelLimit : ℕ

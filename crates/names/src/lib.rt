@@ -2,7 +2,7 @@
 
 // ---- how many
 
-pub const AXIS_LIMIT: usize = 32;
+pub const AXIS_LIMIT: usize = 128;
 
 pub const TRIANGLE_LIMIT: usize = 4096;
 

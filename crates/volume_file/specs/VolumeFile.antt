@@ -50,8 +50,12 @@ badBodies s a n =
     || badMask (bytesAt s (offsetAt s 2) n)
     || badMask (bytesAt s (offsetAt s 3) n)
 
+-- any fault beside the axes' own, or theirs
+abbrev pub faultyWhere : Bool → List ℕ → Bool
+faultyWhere axesBad s =
+    not (headed s)
+    || (axesBad || (not (contentsGood s (entriesAt s) (voxelsAt s)) || badBodies s (axesAt s) (voxelsAt s)))
+
 -- 12: any fault in a volume file
 unfoldable pub faulty : List ℕ → Bool
-faulty s =
-    not (headed s)
-    || (badAxes (axesAt s) || (not (contentsGood s (entriesAt s) (voxelsAt s)) || badBodies s (axesAt s) (voxelsAt s)))
+faulty s = faultyWhere (badAxes (axesAt s)) s

@@ -1,4 +1,4 @@
--- `blurs::wrong_lists` is the definition; the product stays small, since a grid within the limits has at most 32,768 voxels. Assumes nothing.
+-- `blurs::wrong_lists` is the definition; the product stays small, since a grid within the limits has few voxels. Assumes nothing.
 use mathlib.Core.Path.{refl}
 use native.Mathlib.Omega.{arith}
 use native.Mathlib.Nat.{mul-le-mul}

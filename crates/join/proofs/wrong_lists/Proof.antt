@@ -1,4 +1,4 @@
--- `join::wrong_lists` is the definition; the products stay small, since n is at most 32,768. Assumes nothing.
+-- `join::wrong_lists` is the definition; the products stay small, since n is at most `voxelLimit`. Assumes nothing.
 use mathlib.Core.Path.{refl}
 use borrow.Author.Needs.{needs}
 use Rattle.join.specs.Join.{wrongJoinLists}

@@ -1,4 +1,4 @@
--- `frames::inner::wrong_lists` is the definition; the product stays small, since a grid within the limits has at most 32,768 voxels.
+-- `frames::inner::wrong_lists` is the definition; the product stays small, since a grid within the limits has few voxels.
 use mathlib.Core.Path.{refl}
 use native.Mathlib.Omega.{arith}
 use native.Mathlib.Nat.{mul-le-mul}
