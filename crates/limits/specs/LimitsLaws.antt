@@ -149,8 +149,12 @@ raised-limit old new a l e =
       depth = (h .depth .0, up (a .depth) (h .depth .1));
     })
 
--- and what lies above a limit, that limit refuses
-pub above-limit : (most : ℕ) (a : Axes) → (most < a .width) ⊎ (most < a .height) ⊎ (most < a .depth) → badAxesUnder most a ≡ true
+-- one of the three lies above a limit
+abbrev pub Above : ℕ → Axes → Type 0
+Above most a = (most < a .width) ⊎ (most < a .height) ⊎ (most < a .depth)
+
+-- which that limit refuses
+pub above-limit : (most : ℕ) (a : Axes) → Above most a → badAxesUnder most a ≡ true
 above-limit most a h = by (badAxesUnder most a) refl
   where
     by : (b : Bool) → badAxesUnder most a ≡ b → badAxesUnder most a ≡ true

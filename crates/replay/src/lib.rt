@@ -373,8 +373,8 @@ pub fn ended(t: Tally) -> Tally {
     }
 }
 
-// Room for a record, and for each list that a call is lent: one triangle and one material more than are accepted, and 512 voxels; of masks alone
-// 32,768 voxels and three words more.
+// Room for a record, and for each list that a call is lent: one triangle and one material more than are accepted, and 512 voxels; of masks, and of
+// what is called wide, 32,768 voxels and a few more. Wide room is made only for a record that needs it, since it is cleared each time.
 pub fn buffer() -> [u8; 1048576] {
     [0u8; 1048576]
 }
@@ -417,6 +417,14 @@ pub fn room_for_light() -> [f32; 520] {
 
 pub fn room_for_volume() -> [f32; 8320] {
     [0.0f32; 8320]
+}
+
+pub fn room_for_wide_light() -> [f32; 32900] {
+    [0.0f32; 32900]
+}
+
+pub fn room_for_wide_volume() -> [f32; 526400] {
+    [0.0f32; 526400]
 }
 
 // The next record of standard input: its length, 0 at the input's end or where it does not fit.

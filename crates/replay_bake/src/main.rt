@@ -405,11 +405,15 @@ fn fits(s: &[u8]) -> bool {
         & replay::fits(s, replay::nth(s, FROM, 4), 1740)
         & replay::fits(s, replay::nth(s, FROM, 5), 80)
         & replay::fits(s, replay::nth(s, FROM, 6), 32960)
-        & replay::fits(s, replay::nth(s, FROM, 7), 520)
-        & replay::fits(s, replay::nth(s, FROM, 8), 8320)
-        & replay::fits(s, replay::nth(s, FROM, 9), 8320)
+        & lists_fit(s, 32900, 526400)
         & replay::fits(s, replay::nth(s, FROM, 10), 4100)
         & replay::fits(s, replay::nth(s, FROM, 11), 8200)
+}
+
+fn lists_fit(s: &[u8], lights: usize, volume: usize) -> bool {
+    replay::fits(s, replay::nth(s, FROM, 7), lights)
+        & replay::fits(s, replay::nth(s, FROM, 8), volume)
+        & replay::fits(s, replay::nth(s, FROM, 9), volume)
 }
 
 // Thirteen lamps, more than any call accepts.
@@ -456,6 +460,53 @@ fn fourth(
 }
 
 fn third(
+    s: &[u8],
+    t: Tally,
+    points: &mut [f32],
+    uses: &mut [u32],
+    kinds: &mut [u8],
+    numbers: &mut [f32],
+    sky: &mut [f32],
+    active: &mut [u64],
+) -> Tally {
+    if lists_fit(s, 520, 8320) {
+        return narrow(s, t, points, uses, kinds, numbers, sky, active);
+    }
+    wide(s, t, points, uses, kinds, numbers, sky, active)
+}
+
+fn wide(
+    s: &[u8],
+    t: Tally,
+    points: &mut [f32],
+    uses: &mut [u32],
+    kinds: &mut [u8],
+    numbers: &mut [f32],
+    sky: &mut [f32],
+    active: &mut [u64],
+) -> Tally {
+    let mut lights = replay::room_for_wide_light();
+    let mut volume = replay::room_for_wide_volume();
+    let mut scratch = replay::room_for_wide_volume();
+    let g = replay::fit(s, replay::nth(s, FROM, 7), 32900);
+    let h = replay::fit(s, replay::nth(s, FROM, 8), 526400);
+    let i = replay::fit(s, replay::nth(s, FROM, 9), 526400);
+    fourth(
+        s,
+        t,
+        points,
+        uses,
+        kinds,
+        numbers,
+        sky,
+        active,
+        &mut lights[..g],
+        &mut volume[..h],
+        &mut scratch[..i],
+    )
+}
+
+fn narrow(
     s: &[u8],
     t: Tally,
     points: &mut [f32],

@@ -37,22 +37,43 @@ fn after(s: &[u8], t: Tally, at: usize, refusal: u32, list: &[f32], scratch: &[f
     replay::held(b, replay::same_floats(s, second, scratch))
 }
 
-fn record(s: &[u8], t: Tally) -> Tally {
-    let mut list = [0.0f32; 8192];
-    let mut scratch = [0.0f32; 8192];
-    let second = replay::past(s, 7);
-    let n = replay::fit(s, 7, 8192);
-    let m = replay::fit(s, second, 8192);
-    let fits = replay::fits(s, 7, 8192) & replay::fits(s, second, 8192);
-    let u = replay::held(t, fits);
+fn blurred(s: &[u8], t: Tally, list: &mut [f32], scratch: &mut [f32]) -> Tally {
     let kind = replay::word(s, 0);
     if kind == 4 {
-        return light(s, u, &mut list[..n], &mut scratch[..m]);
+        return light(s, t, list, scratch);
     }
     if kind == 5 {
-        return coefficients(s, u, &mut list[..n], &mut scratch[..m]);
+        return coefficients(s, t, list, scratch);
     }
-    replay::held(u, false)
+    replay::held(t, false)
+}
+
+fn fits(s: &[u8], room: usize) -> bool {
+    replay::fits(s, 7, room) & replay::fits(s, replay::past(s, 7), room)
+}
+
+fn narrow(s: &[u8], t: Tally) -> Tally {
+    let mut list = replay::room_for_volume();
+    let mut scratch = replay::room_for_volume();
+    let n = replay::fit(s, 7, 8320);
+    let m = replay::fit(s, replay::past(s, 7), 8320);
+    blurred(s, t, &mut list[..n], &mut scratch[..m])
+}
+
+fn wide(s: &[u8], t: Tally) -> Tally {
+    let mut list = replay::room_for_wide_volume();
+    let mut scratch = replay::room_for_wide_volume();
+    let n = replay::fit(s, 7, 526400);
+    let m = replay::fit(s, replay::past(s, 7), 526400);
+    blurred(s, t, &mut list[..n], &mut scratch[..m])
+}
+
+fn record(s: &[u8], t: Tally) -> Tally {
+    let u = replay::held(t, fits(s, 526400));
+    if fits(s, 8320) {
+        return narrow(s, u);
+    }
+    wide(s, u)
 }
 
 // Reads one record and judges it.

@@ -93,28 +93,58 @@ fn filled(s: &[u8], t: Tally, volume: &mut [f32]) -> Tally {
 }
 
 fn light_record(s: &[u8], t: Tally) -> Tally {
-    let mut light = replay::room_for_light();
-    let n = replay::fit(s, 13, 520);
-    let u = replay::held(t, replay::fits(s, 13, 520));
+    let mut light = replay::room_for_wide_light();
+    let n = replay::fit(s, 13, 32900);
+    let u = replay::held(t, replay::fits(s, 13, 32900));
     lit(s, u, &mut light[..n])
 }
 
-fn coefficient_record(s: &[u8], t: Tally) -> Tally {
+fn narrow_coefficients(s: &[u8], t: Tally) -> Tally {
     let mut volume = replay::room_for_volume();
     let n = replay::fit(s, 13, 8320);
-    let u = replay::held(t, replay::fits(s, 13, 8320));
-    filled(s, u, &mut volume[..n])
+    filled(s, t, &mut volume[..n])
+}
+
+fn wide_coefficients(s: &[u8], t: Tally) -> Tally {
+    let mut volume = replay::room_for_wide_volume();
+    let n = replay::fit(s, 13, 526400);
+    filled(s, t, &mut volume[..n])
+}
+
+fn coefficient_record(s: &[u8], t: Tally) -> Tally {
+    let u = replay::held(t, replay::fits(s, 13, 526400));
+    if replay::fits(s, 13, 8320) {
+        return narrow_coefficients(s, u);
+    }
+    wide_coefficients(s, u)
+}
+
+fn part_fits(s: &[u8], room: usize) -> bool {
+    replay::fits(s, 7, room) & replay::fits(s, replay::past(s, 7), room)
+}
+
+fn narrow_part(s: &[u8], t: Tally) -> Tally {
+    let mut volume = replay::room_for_volume();
+    let mut scratch = replay::room_for_volume();
+    let n = replay::fit(s, 7, 8320);
+    let m = replay::fit(s, replay::past(s, 7), 8320);
+    part(s, t, &mut volume[..n], &mut scratch[..m])
+}
+
+fn wide_part(s: &[u8], t: Tally) -> Tally {
+    let mut volume = replay::room_for_wide_volume();
+    let mut scratch = replay::room_for_wide_volume();
+    let n = replay::fit(s, 7, 526400);
+    let m = replay::fit(s, replay::past(s, 7), 526400);
+    part(s, t, &mut volume[..n], &mut scratch[..m])
 }
 
 fn part_record(s: &[u8], t: Tally) -> Tally {
-    let mut volume = replay::room_for_volume();
-    let mut scratch = replay::room_for_volume();
-    let second = replay::past(s, 7);
-    let n = replay::fit(s, 7, 8320);
-    let m = replay::fit(s, second, 8320);
-    let lists = replay::fits(s, 7, 8320) & replay::fits(s, second, 8320);
-    let u = replay::held(t, lists);
-    part(s, u, &mut volume[..n], &mut scratch[..m])
+    let u = replay::held(t, part_fits(s, 526400));
+    if part_fits(s, 8320) {
+        return narrow_part(s, u);
+    }
+    wide_part(s, u)
 }
 
 fn record(s: &[u8], t: Tally) -> Tally {

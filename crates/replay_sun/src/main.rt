@@ -167,10 +167,6 @@ fn fits(s: &[u8]) -> bool {
 }
 
 // As many as a grid can have, and some more.
-fn room_for_lights() -> [f32; 32900] {
-    [0.0f32; 32900]
-}
-
 // The arrays are lent in three steps: the scene's first three, the next three, and the rest.
 fn rest(
     s: &[u8],
@@ -182,7 +178,7 @@ fn rest(
     active: &mut [u64],
     light: &mut [f32],
 ) -> Tally {
-    let mut scratch = room_for_lights();
+    let mut scratch = replay::room_for_wide_light();
     let mut distances = replay::room_for_distances();
     let mut places = replay::room_for_places();
     let g = replay::fit(s, replay::nth(s, FROM, 6), 32900);
@@ -206,7 +202,7 @@ fn rest(
 fn middle(s: &[u8], t: Tally, points: &mut [f32], uses: &mut [u32], kinds: &mut [u8]) -> Tally {
     let mut numbers = replay::room_for_numbers();
     let mut active = replay::room_for_mask();
-    let mut light = room_for_lights();
+    let mut light = replay::room_for_wide_light();
     let d = replay::fit(s, replay::nth(s, FROM, 3), 1820);
     let e = replay::mask_words(s, replay::nth(s, FROM, 4), 515);
     let f = replay::fit(s, replay::nth(s, FROM, 5), 32900);
