@@ -1,14 +1,18 @@
-/* masks CASE TURNS: prepares a grid of 32×32×32 voxels and makes one of the calls that take or give masks TURNS times. With 0 turns all is done as with 1
- * but for the call, so the difference of two counts is the call's own. masks CASE answer: makes it once and prints a sum of all that it answers and writes,
- * masks by their voxels. masks hold WHAT COUNT: holds so many masks (two a hall) or halls open, and prints how many bytes their lists have and how many KiB
- * the process had at most. tools/speed/masks builds and runs it, against any version of include/geaidnosa.h. */
+/* calls CASE TURNS: prepares a grid of SIDE voxels each way, 32 unless the compiler is told otherwise, and makes one of the calls TURNS times. With 0 turns all
+ * is done as with 1 but for the call, so the difference of two counts is the call's own. calls CASE answer: makes it once and prints a sum of all that it
+ * answers and writes, masks by their voxels. calls hold WHAT COUNT: holds so many masks (two a hall) or halls open, and prints how many bytes their lists
+ * have and how many KiB the process had at most. tools/speed/calls builds and runs it, against any version of include/geaidnosa.h. */
 #include <stdio.h>
 #include <stdlib.h>
 #include <string.h>
 
 #include "geaidnosa.h"
 
-enum { SIDE = 32, N = SIDE * SIDE * SIDE, FEW = 4, MANY = 300, SKY = 1728, BYTES = 96 + 70 * N, BAKED = 48 };
+#ifndef SIDE
+#define SIDE 32
+#endif
+
+enum { N = SIDE * SIDE * SIDE, FEW = 4, MANY = 300, SKY = 1728, BYTES = 96 + 70 * N, BAKED = 48, TEN = 10, POSITIONS = 4096 };
 
 #if GEAIDNOSA_VERSION_NUMBER < 2000
 typedef uint8_t Mask;
@@ -46,9 +50,10 @@ static const uint32_t uses[FEW] = {0};
 static const uint8_t kinds[1] = {0};
 static const float numbers[7] = {0.8f, 0.7f, 0.6f, 0, 0, 0, 0};
 static float small[9 * FEW], large[9 * MANY], sky[SKY];
-static Mask occupied[LENGTH], active[LENGTH], none[LENGTH], few[LENGTH], all[LENGTH];
+static Mask occupied[LENGTH], active[LENGTH], none[LENGTH], ten[LENGTH], few[LENGTH], all[LENGTH];
 static float lights[N], lights_scratch[N], volume[16 * N], scratch[16 * N], distances[FEW];
 static size_t places[FEW];
+static float positions[3 * POSITIONS], frame[16 * POSITIONS];
 static uint8_t file[BYTES];
 static uint64_t answer[3];
 static Progress begun, under_way, done;
@@ -71,6 +76,8 @@ static void prepare(void) {
     for (int i = 0; i < 16 * N; i++) volume[i] = 4 * chance();
     for (int i = 0; i < N; i++) mark(all, i);
     for (int i = BAKED / 2; i < N; i += BAKED) mark(few, i);
+    for (int i = 0; i < TEN; i++) mark(ten, (size_t)i * (N / TEN) + N / TEN / 2);
+    for (int k = 0; k < 3 * POSITIONS; k++) positions[k] = 16 * chance();
     /* 64 rays for each voxel of few that is passed */
     under_way = PROGRESS(N / 2, 64 * ((N / 2 + BAKED / 2 - 1) / BAKED));
     done = PROGRESS(N, 64 * ((N + BAKED / 2 - 1) / BAKED));
@@ -107,6 +114,21 @@ static void bake_few(void) { bake(few, begun, UINT64_MAX); }
 static void bake_first(void) { bake(few, begun, 384); }
 static void bake_under_way(void) { bake(few, under_way, 384); }
 static void bake_done(void) { bake(few, done, 384); }
+static void bake_ten(void) { bake(ten, begun, UINT64_MAX); }
+static void light_blur(void) { answer[0] = geaidnosa_light_blur(axes, lights, N, lights_scratch, N); }
+static void coefficient_blur(void) { answer[0] = geaidnosa_coefficient_blur(axes, volume, 16 * N, scratch, 16 * N); }
+static void join_none(void) { answer[0] = geaidnosa_join(axes, none, LENGTH, scratch, 16 * N, volume, 16 * N); }
+static void join_all(void) { answer[0] = geaidnosa_join(axes, all, LENGTH, scratch, 16 * N, volume, 16 * N); }
+static void light_at(void) {
+    GeaidnosaLightAt a = geaidnosa_light_at(axes, corners, lights, N, (GeaidnosaVec3){15.5f, 15.4f, 15.3f});
+    answer[0] = a.refusal, frame[0] = a.light;
+}
+static void coefficients_at(void) {
+    GeaidnosaCoefficientsAt a = geaidnosa_coefficients_at(axes, corners, volume, 16 * N, (GeaidnosaVec3){15.5f, 15.4f, 15.3f});
+    answer[0] = a.refusal, memcpy(frame, a.numbers, sizeof a.numbers);
+}
+static void frame_lights(void) { answer[0] = geaidnosa_frame_lights(axes, corners, lights, N, positions, 3 * POSITIONS, frame, POSITIONS).refusal; }
+static void frame_coefficients(void) { answer[0] = geaidnosa_frame_coefficients(axes, corners, volume, 16 * N, positions, 3 * POSITIONS, frame, 16 * POSITIONS).refusal; }
 static void read_file(void) { answer[0] = geaidnosa_read_volume(file, BYTES, lights, N, volume, 16 * N, occupied, LENGTH, active, LENGTH).refusal; }
 static void write_file(void) { answer[0] = geaidnosa_write_volume(axes, corners, lights, N, volume, 16 * N, few, LENGTH, all, LENGTH, file, BYTES); }
 
@@ -125,6 +147,15 @@ static const struct {
     {"the same, first call at 384 rays", bake_first},
     {"a call at 384 rays under way", bake_under_way},
     {"a call at its end", bake_done},
+    {"bake, ten voxels active", bake_ten},
+    {"light_blur", light_blur},
+    {"coefficient_blur", coefficient_blur},
+    {"join, no voxel", join_none},
+    {"join, all", join_all},
+    {"light_at", light_at},
+    {"coefficients_at", coefficients_at},
+    {"frame_lights, 4096 positions", frame_lights},
+    {"frame_coefficients, 4096", frame_coefficients},
     {"read_volume", read_file},
     {"write_volume", write_file},
 };
@@ -145,7 +176,8 @@ static uint64_t sum_of_all(void) {
         h = sum_on(h, &both, 1);
     }
     h = sum_on(sum_on(h, lights, sizeof lights), lights_scratch, sizeof lights_scratch);
-    return sum_on(sum_on(sum_on(h, volume, sizeof volume), scratch, sizeof scratch), file, sizeof file);
+    h = sum_on(sum_on(sum_on(h, volume, sizeof volume), scratch, sizeof scratch), file, sizeof file);
+    return sum_on(h, frame, sizeof frame);
 }
 
 static void *held(size_t bytes) {
@@ -183,6 +215,6 @@ int main(int argc, char **argv) {
         if (!strcmp(argv[2], "answer")) printf("%016llx\n", (unsigned long long)sum_of_all());
         return answer[0] != 0;
     }
-    fprintf(stderr, "masks: CASE TURNS, CASE answer, names, or hold WHAT COUNT\n");
+    fprintf(stderr, "calls: CASE TURNS, CASE answer, names, or hold WHAT COUNT\n");
     return 2;
 }
