@@ -18,9 +18,9 @@ use Rattle.geaidnosa.specs.declared.PartStart.{PartStart}
 
 -- ---- the version
 
--- 0.3.0: major·1,000,000 + minor·1,000 + patch
+-- 0.4.0: major·1,000,000 + minor·1,000 + patch
 abbrev pub versionNumber : ℕ
-versionNumber = 3000
+versionNumber = 4000
 
 -- ---- a hit
 

@@ -63,8 +63,8 @@ pub struct PartStart {
 
 // ---- the version
 
-// 0.3.0: major·1,000,000 + minor·1,000 + patch, as GEAIDNOSA_VERSION_NUMBER in the header.
-const VERSION: u32 = 3000;
+// 0.4.0: major·1,000,000 + minor·1,000 + patch, as GEAIDNOSA_VERSION_NUMBER in the header.
+const VERSION: u32 = 4000;
 
 #[no_mangle]
 pub extern "C" fn geaidnosa_version() -> u32

@@ -16,6 +16,7 @@ use lib.Ieee.Scale.{finite}
 use lib.Ieee.{Float, nan, inf, fin, isNan}
 use Rattle.names.specs.Bits.{one32}
 use Rattle.names.specs.Numbers.{axisLimit, triangleLimit, materialLimit, lastKind, lampLimit, pointLimit, edgeLimit, colourLimit, lightDirectionLimit, originLimit, directionLimit, shortestLimit, positionLimit, lightLimit, coefficientLimit, thinLimit}
+use Rattle.names.specs.Refusals.{Row, row, firstOf}
 use Rattle.names.specs.Scene.{sceneOf, Sound}
 use Rattle.vectors.specs.declared.Vec3.{Vec3}
 use Rattle.vectors.specs.declared.Ray.{Ray}
@@ -148,6 +149,11 @@ raised-limit old new a l e =
       height = (h .height .0, up (a .height) (h .height .1));
       depth = (h .depth .0, up (a .depth) (h .depth .1));
     })
+
+-- and so does a call: row 1 comes first in each, and no other row speaks of the limit
+pub rows-raised : (old new : ℕ) (a : Axes) (rows : List Row) → old ≤ new → badAxesUnder old a ≡ false
+    → firstOf (row 1 (badAxesUnder new a) ∷ rows) ≡ firstOf (row 1 (badAxesUnder old a) ∷ rows)
+rows-raised old new a rows l e = ap (λ (b : Bool). firstOf (row 1 b ∷ rows)) (raised-limit old new a l e ∙ sym e)
 
 -- one of the three lies above a limit
 abbrev pub Above : ℕ → Axes → Type 0

@@ -1,6 +1,6 @@
 -- A bake restarted on another desk: the progress and the volume are handed on, and every call may be lent another scratch. What is carried on is the same
 -- wherever the calls are made, so that the end is the unbroken bake's.
-use mathlib.Core.Path.{_≡_, refl, sym, ap, ap₂, _∙_}
+use mathlib.Core.Path.{_≡_, refl, ap, _∙_}
 use mathlib.Core.Bool.{Bool, true, false, cond}
 use mathlib.Core.Logic.{_⊎_, inl, inr}
 use mathlib.Core.List.{List, []}
@@ -9,7 +9,7 @@ use Rattle.spread.specs.declared.Progress.{Progress}
 use Rattle.spread.specs.Spread.{progressOf, atZero, Stage, stage, Bake, started, anyActive, call, unblurred, unbroken, costs, stands}
 use Rattle.spread.specs.Demand.{Sized, Fair}
 use Rattle.spread.specs.Contents.{stands-filled}
-use Rattle.spread.specs.Holds.{Short, StandsWhere, atEnd, unbroken-progress, along-call, rests-done}
+use Rattle.spread.specs.Holds.{StandsWhere, unbroken-progress, along-call, rests-done}
 
 module _ {A : Type 0} (b : Bake A) where
   -- what a begun bake carries on: short of the end the voxels below next as they stand, the others ambient, and the rays fired for them; then the unbroken

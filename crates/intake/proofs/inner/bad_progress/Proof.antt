@@ -25,7 +25,6 @@ voxel-cost-requires c κs = search needs
 
 mul-result-2 : tie.Need-mul-result-2
 mul-result-2 c =
-    let s = c .before .before .before .before .before .before .before in
     let k = c .before .before .count-below in
     let few : k .result ≤ voxelLimit = omega (arith, k .ensures .1) in
     let cost : c .voxel-cost .result ≤ 896 = omega (arith, c .voxel-cost .ensures) in
