@@ -115,6 +115,7 @@ static void bake_first(void) { bake(few, begun, 384); }
 static void bake_under_way(void) { bake(few, under_way, 384); }
 static void bake_done(void) { bake(few, done, 384); }
 static void bake_ten(void) { bake(ten, begun, UINT64_MAX); }
+static void file_axes(void) { answer[0] = geaidnosa_file_axes(file, BYTES).refusal; }
 static void light_blur(void) { answer[0] = geaidnosa_light_blur(axes, lights, N, lights_scratch, N); }
 static void coefficient_blur(void) { answer[0] = geaidnosa_coefficient_blur(axes, volume, 16 * N, scratch, 16 * N); }
 static void join_none(void) { answer[0] = geaidnosa_join(axes, none, LENGTH, scratch, 16 * N, volume, 16 * N); }
@@ -156,6 +157,7 @@ static const struct {
     {"coefficients_at", coefficients_at},
     {"frame_lights, 4096 positions", frame_lights},
     {"frame_coefficients, 4096", frame_coefficients},
+    {"file_axes", file_axes},
     {"read_volume", read_file},
     {"write_volume", write_file},
 };

@@ -24,7 +24,7 @@ use Rattle.bounds.specs.BoundsLaws.{at-most-up, mul-at-most, larger-at-most, ha
 use Rattle.bounds.specs.VectorLaws.{each-up, add-each, scale-each}
 use Rattle.bounds.specs.WildLaws.{Wild}
 use Rattle.bounds.specs.NormalLaws.{normal-spread}
-use Rattle.grid_laws.specs.GridBounds.{diagonal-bounded, centre-bounded}
+use Rattle.grid_laws.specs.GridBounds.{diagonal-bounded, centreMost, centre-bounded}
 use Rattle.triangle.specs.Places.{triangleAt}
 use Rattle.triangle.specs.Laws.{hit-met}
 use Rattle.triangle.specs.declared.Meet.the-variants.{Hit}
@@ -107,7 +107,7 @@ module _ (g : GatherInput) (r : Rows g) (ha : badAxes (g .axes) ≡ false) (hg :
         let a = g .axes in
         let w = axes-row a .0 ha in
         let centre = centre-bounded (g .corners) a ha hg (xOf a i) (yOf a i) (zOf a i) (x-within a i (w .width)) (y-within a i (w .height)) (z-within a i (w .width) (w .height) inside) in
-        add-each _ _ 4 7 12 (lit< tt) (lit< tt) (each-up _ 12416 0 4 12 (lit≤ tt) centre)
+        add-each _ _ 4 7 12 (lit< tt) (lit< tt) (each-up _ centreMost 0 4 12 (lit≤ tt) centre)
         (each-up _ 14 11 7 12 (lit≤ tt) (scale-each (directionAt k) _ 2 0 7 11 (lit< tt) (lit< tt) (direction-small k listed) (biases .primary)))
 
     primary-same : NoDeparture (g .scene) (primaryAt g i k)

@@ -32,14 +32,18 @@ yOf a i = i / a .width % a .height
 abbrev pub zOf : Axes → ℕ → ℕ
 zOf a i = i / a .width / a .height
 
--- "Axes rise to 1..128."
-pub record AxesWithin (a : Axes) : Type 0 where
+-- each axis 1..most
+pub record AxesUnder (most : ℕ) (a : Axes) : Type 0 where
   pub width : 1 ≤ a .width
-  pub widest : a .width ≤ axisLimit
+  pub widest : a .width ≤ most
   pub height : 1 ≤ a .height
-  pub highest : a .height ≤ axisLimit
+  pub highest : a .height ≤ most
   pub depth : 1 ≤ a .depth
-  pub deepest : a .depth ≤ axisLimit
+  pub deepest : a .depth ≤ most
+
+-- "Axes rise to 1..128."
+abbrev pub AxesWithin : Axes → Type 0
+AxesWithin a = AxesUnder axisLimit a
 
 -- ---- edges and centres
 

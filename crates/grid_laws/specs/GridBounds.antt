@@ -1,5 +1,5 @@
--- How large the numbers of an accepted grid are: an edge is at most 8,192, a diagonal at most 7·2^11, and a voxel's centre within ±12,416.
--- An edge of w voxels is at most q = 8192/w + 1, and x < w of them and a half more at most w·q, which is at most 8,320.
+-- How large the numbers of an accepted grid are: an edge is at most 8,192, a diagonal at most 7·2^11, and a voxel's centre within ±(12,288 + the longest axis).
+-- An edge of w voxels is at most q = 8192/w + 1, and x < w of them and a half more at most w·q, which is at most 8,192 + w.
 use mathlib.Core.Path.{_≡_, refl}
 use mathlib.Core.Bool.{false}
 use Prim.Native.Nat.{ℕ, _+_, _*_, _/_, _^_, _≤_, _<_}
@@ -29,6 +29,10 @@ use Rattle.grid_laws.specs.RowBounds.{within-each}
 abbrev most : ℕ → ℕ
 most w = 8192 / w + 1
 
+-- how far from 0 a voxel's centre lies
+abbrev pub centreMost : ℕ
+centreMost = 12288 + axisLimit
+
 edge : (low high : Float) (w : ℕ) → 1 ≤ w → w ≤ axisLimit → AtMost 1 12 low → AtMost 1 12 high → AtMost (most w) 0 (Ieee.div binary32 (Ieee.sub binary32 high low) (floatOf w))
 edge low high w p q h g =
     let d = sub-at-most high low 1 1 12 (lit< tt) (lit< tt) g h in
@@ -43,17 +47,17 @@ whole low high w p q h g =
 
 -- (low + edge·½) + x·edge
 along : (low e : Float) (w x : ℕ) → x < w → w ≤ axisLimit → AtMost 1 12 low → AtMost (most w) 0 e
-    → AtMost 12416 0 (Ieee.add binary32 (Ieee.add binary32 low (Ieee.mul binary32 e half32)) (Ieee.mul binary32 (floatOf x) e))
+    → AtMost centreMost 0 (Ieee.add binary32 (Ieee.add binary32 low (Ieee.mul binary32 e half32)) (Ieee.mul binary32 (floatOf x) e))
 along low e w x p q h g =
     let s = div-le-self 8192 w in
     let r = div-mul-le-self 8192 w in
     let t = mul-le-mul-right (most w) p in
-    let o : x * most w ≤ 8320 = omega arith in
+    let o : x * most w ≤ 8192 + axisLimit = omega arith in
     let a = at-most-up low 1 12 4096 0 (lit≤ tt) h in
     let b = mul-at-most e half32 (most w) 0 1 0 (omega arith) (lt-of-le-of-lt {n = most w * 1 * 1} {m = 8193} (omega arith) (lit< tt)) g half-at-most in
-    let c = mul-at-most (floatOf x) e x 0 (most w) 0 (omega arith) (lt-of-le-of-lt {n = x * most w * 1} {m = 8320} (omega arith) (lit< tt)) (int-at-most x (omega arith)) g in
+    let c = mul-at-most (floatOf x) e x 0 (most w) 0 (omega arith) (lt-of-le-of-lt {n = x * most w * 1} {m = 8192 + axisLimit} (omega arith) (lit< tt)) (int-at-most x (omega arith)) g in
     let d = add-at-most low _ 4096 (most w * 1) 0 (omega arith) (lt-of-le-of-lt {n = (4096 + most w * 1) * 1} {m = 16777216} (omega arith) (lit< tt)) a b in
-    at-most-up _ (4096 + most w * 1 + x * most w) 0 12416 0 (omega arith)
+    at-most-up _ (4096 + most w * 1 + x * most w) 0 centreMost 0 (omega arith)
     (add-at-most _ _ (4096 + most w * 1) (x * most w) 0 (omega arith) (lt-of-le-of-lt {n = (4096 + most w * 1 + x * most w) * 1} {m = 16777216} (omega arith) (lit< tt)) d c)
 
 -- ---- the grid
@@ -119,7 +123,7 @@ module _ (c : Corners) (a : Axes) (ha : badAxes a ≡ false) (hg : badGrid c a �
       let e = edges-bounded in
       length-at-most (edgesOf c a) widest 7 11 widest-fits widest-value (at-most-up _ 12 24 49 22 (lit≤ tt) (dot-at-most _ _ 2 12 2 12 (lit< tt) (lit< tt) e e))
 
-  pub centre-bounded : (x y z : ℕ) → x < a .width → y < a .height → z < a .depth → EachAtMost 12416 0 (centreOf c a x y z)
+  pub centre-bounded : (x y z : ℕ) → x < a .width → y < a .height → z < a .depth → EachAtMost centreMost 0 (centreOf c a x y z)
   unfolding centreFrom addV scaleV mulV
   centre-bounded x y z p q r =
       record {

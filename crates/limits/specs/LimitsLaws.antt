@@ -23,7 +23,7 @@ use Rattle.vectors.specs.declared.Ray.{Ray}
 use Rattle.vectors.specs.Vectors.{dotV}
 use Rattle.grid.specs.declared.Axes.{Axes}
 use Rattle.grid.specs.declared.Corners.{Corners}
-use Rattle.grid.specs.Grid.{edgesOf, AxesWithin}
+use Rattle.grid.specs.Grid.{edgesOf, AxesUnder, AxesWithin}
 use Rattle.lists.specs.Any.{any, any-in, any-out}
 use Rattle.limits.specs.declared.Lamp.{Lamp}
 use Rattle.lists.specs.Some.{some, none-out, none-in}
@@ -105,57 +105,27 @@ axis-row most n = (out, λ h. or-in _ _ (le-ltb n 1 (h .0), le-ltb most n (h .1)
     out : badAxis most n ≡ false → (1 ≤ n) × (n ≤ most)
     out e = let p = or-out (ltb n 1) (ltb most n) e in (ltb-false n 1 (p .0), ltb-false most n (p .1))
 
--- each of the three is as P says
-pub record EachAxis (P : ℕ → Type 0) (a : Axes) : Type 0 where
-  pub width : P (a .width)
-  pub height : P (a .height)
-  pub depth : P (a .depth)
-
-pub axes-under-row : (most : ℕ) (a : Axes) → (badAxesUnder most a ≡ false) ↔ EachAxis (λ (n : ℕ). (1 ≤ n) × (n ≤ most)) a
+pub axes-under-row : (most : ℕ) (a : Axes) → (badAxesUnder most a ≡ false) ↔ AxesUnder most a
 axes-under-row most a = (out, in')
   where
-    out : badAxesUnder most a ≡ false → EachAxis (λ (n : ℕ). (1 ≤ n) × (n ≤ most)) a
+    out : badAxesUnder most a ≡ false → AxesUnder most a
     out e =
         let p = any-of-three _ _ _ .0 e in
-        record { width = axis-row most (a .width) .0 (p .0); height = axis-row most (a .height) .0 (p .1); depth = axis-row most (a .depth) .0 (p .2) }
+        let w = axis-row most (a .width) .0 (p .0) in
+        let h = axis-row most (a .height) .0 (p .1) in
+        let d = axis-row most (a .depth) .0 (p .2) in
+        record { width = w .0; widest = w .1; height = h .0; highest = h .1; depth = d .0; deepest = d .1 }
 
-    in' : EachAxis (λ (n : ℕ). (1 ≤ n) × (n ≤ most)) a → badAxesUnder most a ≡ false
+    in' : AxesUnder most a → badAxesUnder most a ≡ false
     in' h =
         any-of-three _ _ _ .1
-        (axis-row most (a .width) .1 (h .width), axis-row most (a .height) .1 (h .height), axis-row most (a .depth) .1 (h .depth))
+        (axis-row most (a .width) .1 (h .width, h .widest), axis-row most (a .height) .1 (h .height, h .highest), axis-row most (a .depth) .1 (h .depth, h .deepest))
 
 pub axes-row : (a : Axes) → (badAxes a ≡ false) ↔ AxesWithin a
 unfolding badAxes
-axes-row a = (out, in')
-  where
-    out : badAxesUnder axisLimit a ≡ false → AxesWithin a
-    out e =
-        let h = axes-under-row axisLimit a .0 e in
-        record { width = h .width .0; widest = h .width .1; height = h .height .0; highest = h .height .1; depth = h .depth .0; deepest = h .depth .1 }
+axes-row a = axes-under-row axisLimit a
 
-    in' : AxesWithin a → badAxesUnder axisLimit a ≡ false
-    in' h =
-        axes-under-row axisLimit a .1
-        (record { width = (h .width, h .widest); height = (h .height, h .highest); depth = (h .depth, h .deepest) })
-
--- "no bit changes for grids the old limit allowed": what a lower limit lets pass, a higher one does
-pub raised-limit : (old new : ℕ) (a : Axes) → old ≤ new → badAxesUnder old a ≡ false → badAxesUnder new a ≡ false
-raised-limit old new a l e =
-    let h = axes-under-row old a .0 e in
-    let up : (n : ℕ) → n ≤ old → n ≤ new = λ n p. omega (arith, p, l) in
-    axes-under-row new a .1
-    (record {
-      width = (h .width .0, up (a .width) (h .width .1));
-      height = (h .height .0, up (a .height) (h .height .1));
-      depth = (h .depth .0, up (a .depth) (h .depth .1));
-    })
-
--- and so does a call: row 1 comes first in each, and no other row speaks of the limit
-pub rows-raised : (old new : ℕ) (a : Axes) (rows : List Row) → old ≤ new → badAxesUnder old a ≡ false
-    → firstOf (row 1 (badAxesUnder new a) ∷ rows) ≡ firstOf (row 1 (badAxesUnder old a) ∷ rows)
-rows-raised old new a rows l e = ap (λ (b : Bool). firstOf (row 1 b ∷ rows)) (raised-limit old new a l e ∙ sym e)
-
--- one of the three lies above a limit
+-- an axis lies above a limit
 abbrev pub Above : ℕ → Axes → Type 0
 Above most a = (most < a .width) ⊎ (most < a .height) ⊎ (most < a .depth)
 
@@ -167,7 +137,26 @@ above-limit most a h = by (badAxesUnder most a) refl
     by true e = e
     by false e =
         let w = axes-under-row most a .0 e in
-        ⊎-elim (λ p. absurd (omega (arith, p, w .width .1))) (⊎-elim (λ p. absurd (omega (arith, p, w .height .1))) (λ p. absurd (omega (arith, p, w .depth .1)))) h
+        ⊎-elim (λ p. absurd (omega (arith, p, w .widest))) (⊎-elim (λ p. absurd (omega (arith, p, w .highest))) (λ p. absurd (omega (arith, p, w .deepest)))) h
+
+-- none does; one of 0 may be among them
+abbrev pub NoneAbove : ℕ → Axes → Type 0
+NoneAbove most a = (a .width ≤ most) × (a .height ≤ most) × (a .depth ≤ most)
+
+same-axis : (old new n : ℕ) → old ≤ new → n ≤ old → badAxis new n ≡ badAxis old n
+same-axis old new n l p =
+    let q : n ≤ new = omega (arith, p, l) in
+    rw (le-ltb old n p, le-ltb new n q) refl
+
+-- "no bit changes for grids the old limit allowed": of a grid with no axis above it row 1 says the same under a higher limit
+pub raised-limit : (old new : ℕ) (a : Axes) → old ≤ new → NoneAbove old a → badAxesUnder new a ≡ badAxesUnder old a
+raised-limit old new a l h =
+    rw (same-axis old new (a .width) l (h .0), same-axis old new (a .height) l (h .1), same-axis old new (a .depth) l (h .2)) refl
+
+-- and rows that begin with it give the same number
+pub rows-raised : (old new : ℕ) (a : Axes) (rows : List Row) → old ≤ new → NoneAbove old a
+    → firstOf (row 1 (badAxesUnder new a) ∷ rows) ≡ firstOf (row 1 (badAxesUnder old a) ∷ rows)
+rows-raised old new a rows l h = ap (λ (b : Bool). firstOf (row 1 b ∷ rows)) (raised-limit old new a l h)
 
 -- ---- 2
 

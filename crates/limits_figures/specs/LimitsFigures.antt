@@ -36,8 +36,21 @@ pub transmissions : map (λ (bits : ℕ). upTo one32 (lit bits)) (0 ∷ 0x800000
 unfolding upTo ofBits lt le eq
 transmissions = refl
 
--- 1: an axis of 0, 1, 33, 128 and 129
-pub axes : map (λ (n : ℕ). badAxes (record { width = 1; height = n; depth = 128 })) (0 ∷ 1 ∷ 33 ∷ 128 ∷ 129 ∷ []) ≡ true ∷ false ∷ false ∷ false ∷ true ∷ []
+-- 1: an axis of 0, 1, 33, 128 and 129, each way
+abbrev each-way : ℕ → List Bool
+each-way n =
+    badAxes (record { width = n; height = 128; depth = 1 })
+    ∷ badAxes (record { width = 1; height = n; depth = 128 })
+    ∷ badAxes (record { width = 128; height = 1; depth = n })
+    ∷ []
+
+pub axes : map each-way (0 ∷ 1 ∷ 33 ∷ 128 ∷ 129 ∷ [])
+    ≡ (true ∷ true ∷ true ∷ [])
+    ∷ (false ∷ false ∷ false ∷ [])
+    ∷ (false ∷ false ∷ false ∷ [])
+    ∷ (false ∷ false ∷ false ∷ [])
+    ∷ (true ∷ true ∷ true ∷ [])
+    ∷ []
 unfolding badAxes
 axes = refl
 

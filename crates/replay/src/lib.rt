@@ -373,8 +373,9 @@ pub fn ended(t: Tally) -> Tally {
     }
 }
 
-// Room for a record, and for each list that a call is lent: one triangle and one material more than are accepted, and 512 voxels; of masks, and of
-// what is called wide, 32,768 voxels and a few more. Wide room is made only for a record that needs it, since it is cleared each time.
+// Room for a record, and for each list that a call is lent: one triangle and one material more than are accepted, and 512 voxels; of a wide volume
+// 32,768 voxels, and of masks and wide lights 81,920, more than sixteen bits count, each with a few more. Wide room is made only for a record that
+// needs it, since it is cleared each time.
 pub fn buffer() -> [u8; 1048576] {
     [0u8; 1048576]
 }
@@ -407,8 +408,8 @@ pub fn room_for_places() -> [usize; 4100] {
     [0usize; 4100]
 }
 
-pub fn room_for_mask() -> [u64; 515] {
-    [0u64; 515]
+pub fn room_for_mask() -> [u64; 1285] {
+    [0u64; 1285]
 }
 
 pub fn room_for_light() -> [f32; 520] {
@@ -419,8 +420,8 @@ pub fn room_for_volume() -> [f32; 8320] {
     [0.0f32; 8320]
 }
 
-pub fn room_for_wide_light() -> [f32; 32900] {
-    [0.0f32; 32900]
+pub fn room_for_wide_light() -> [f32; 82000] {
+    [0.0f32; 82000]
 }
 
 pub fn room_for_wide_volume() -> [f32; 526400] {

@@ -404,8 +404,8 @@ fn fits(s: &[u8]) -> bool {
         & replay::fits(s, replay::nth(s, FROM, 3), 1820)
         & replay::fits(s, replay::nth(s, FROM, 4), 1740)
         & replay::fits(s, replay::nth(s, FROM, 5), 80)
-        & replay::fits(s, replay::nth(s, FROM, 6), 32960)
-        & lists_fit(s, 32900, 526400)
+        & replay::fits(s, replay::nth(s, FROM, 6), 82240)
+        & lists_fit(s, 82000, 526400)
         & replay::fits(s, replay::nth(s, FROM, 10), 4100)
         & replay::fits(s, replay::nth(s, FROM, 11), 8200)
 }
@@ -488,7 +488,7 @@ fn wide(
     let mut lights = replay::room_for_wide_light();
     let mut volume = replay::room_for_wide_volume();
     let mut scratch = replay::room_for_wide_volume();
-    let g = replay::fit(s, replay::nth(s, FROM, 7), 32900);
+    let g = replay::fit(s, replay::nth(s, FROM, 7), 82000);
     let h = replay::fit(s, replay::nth(s, FROM, 8), 526400);
     let i = replay::fit(s, replay::nth(s, FROM, 9), 526400);
     fourth(
@@ -543,7 +543,7 @@ fn second(s: &[u8], t: Tally, points: &mut [f32], uses: &mut [u32], kinds: &mut 
     let mut active = replay::room_for_mask();
     let d = replay::fit(s, replay::nth(s, FROM, 3), 1820);
     let e = replay::fit(s, replay::nth(s, FROM, 4), 1740);
-    let f = replay::mask_words(s, replay::nth(s, FROM, 6), 515);
+    let f = replay::mask_words(s, replay::nth(s, FROM, 6), 1285);
     third(
         s,
         t,

@@ -94,8 +94,8 @@ fn filled(s: &[u8], t: Tally, volume: &mut [f32]) -> Tally {
 
 fn light_record(s: &[u8], t: Tally) -> Tally {
     let mut light = replay::room_for_wide_light();
-    let n = replay::fit(s, 13, 32900);
-    let u = replay::held(t, replay::fits(s, 13, 32900));
+    let n = replay::fit(s, 13, 82000);
+    let u = replay::held(t, replay::fits(s, 13, 82000));
     lit(s, u, &mut light[..n])
 }
 

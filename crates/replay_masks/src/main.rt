@@ -40,8 +40,8 @@ fn masks(
 fn fits(s: &[u8]) -> bool {
     (replay::word(s, 0) == 3)
         & replay::fits(s, 13, 36900)
-        & replay::fits(s, replay::nth(s, 13, 1), 32960)
-        & replay::fits(s, replay::nth(s, 13, 2), 32960)
+        & replay::fits(s, replay::nth(s, 13, 1), 82240)
+        & replay::fits(s, replay::nth(s, 13, 2), 82240)
 }
 
 fn record(s: &[u8], t: Tally) -> Tally {
@@ -49,8 +49,8 @@ fn record(s: &[u8], t: Tally) -> Tally {
     let mut occupied = replay::room_for_mask();
     let mut active = replay::room_for_mask();
     let n = replay::fit(s, 13, 36900);
-    let m = replay::mask_words(s, replay::nth(s, 13, 1), 515);
-    let k = replay::mask_words(s, replay::nth(s, 13, 2), 515);
+    let m = replay::mask_words(s, replay::nth(s, 13, 1), 1285);
+    let k = replay::mask_words(s, replay::nth(s, 13, 2), 1285);
     let u = replay::held(t, fits(s));
     masks(s, u, &mut points[..n], &mut occupied[..m], &mut active[..k])
 }

@@ -159,14 +159,13 @@ fn fits(s: &[u8]) -> bool {
         & replay::fits(s, replay::nth(s, FROM, 1), 4100)
         & replay::fits(s, replay::nth(s, FROM, 2), 260)
         & replay::fits(s, replay::nth(s, FROM, 3), 1820)
-        & replay::fits(s, replay::nth(s, FROM, 4), 32960)
-        & replay::fits(s, replay::nth(s, FROM, 5), 32900)
-        & replay::fits(s, replay::nth(s, FROM, 6), 32900)
+        & replay::fits(s, replay::nth(s, FROM, 4), 82240)
+        & replay::fits(s, replay::nth(s, FROM, 5), 82000)
+        & replay::fits(s, replay::nth(s, FROM, 6), 82000)
         & replay::fits(s, replay::nth(s, FROM, 7), 4100)
         & replay::fits(s, replay::nth(s, FROM, 8), 8200)
 }
 
-// As many as a grid can have, and some more.
 // The arrays are lent in three steps: the scene's first three, the next three, and the rest.
 fn rest(
     s: &[u8],
@@ -181,7 +180,7 @@ fn rest(
     let mut scratch = replay::room_for_wide_light();
     let mut distances = replay::room_for_distances();
     let mut places = replay::room_for_places();
-    let g = replay::fit(s, replay::nth(s, FROM, 6), 32900);
+    let g = replay::fit(s, replay::nth(s, FROM, 6), 82000);
     let h = replay::fit(s, replay::nth(s, FROM, 7), 4100);
     let i = replay::pairs(s, replay::nth(s, FROM, 8), 4100);
     sun(
@@ -204,8 +203,8 @@ fn middle(s: &[u8], t: Tally, points: &mut [f32], uses: &mut [u32], kinds: &mut 
     let mut active = replay::room_for_mask();
     let mut light = replay::room_for_wide_light();
     let d = replay::fit(s, replay::nth(s, FROM, 3), 1820);
-    let e = replay::mask_words(s, replay::nth(s, FROM, 4), 515);
-    let f = replay::fit(s, replay::nth(s, FROM, 5), 32900);
+    let e = replay::mask_words(s, replay::nth(s, FROM, 4), 1285);
+    let f = replay::fit(s, replay::nth(s, FROM, 5), 82000);
     rest(
         s,
         t,

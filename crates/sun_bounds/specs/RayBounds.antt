@@ -1,4 +1,4 @@
--- Row 8 would accept every ray of an accepted sun pass: a centre lies within ±12,416, three diagonals are at most 43,008, and a component of the light's direction is at
+-- Row 8 would accept every ray of an accepted sun pass: a centre lies within ±`centreMost`, 12,416, three diagonals are at most 43,008, and a component of the light's direction is at
 -- most 19/16, so that a ray starts within ±63,488. So every number of its test is finite (`Bounded`), and the departure that makes a non-finite distance a miss never shows.
 use mathlib.Core.Path.{_≡_, refl}
 use mathlib.Core.Bool.{true, false}
@@ -28,7 +28,7 @@ use Rattle.bounds.specs.BoundsLaws.{at-most-up, at-most-finite, mul-at-most, po
 use Rattle.bounds.specs.VectorLaws.{each-up, add-each, scale-under, dot-at-most}
 use Rattle.bounds.specs.NormalLaws.{thin-normal-within, thin-normal-under}
 use Rattle.grid_laws.specs.RowBounds.{within-each, each-within}
-use Rattle.grid_laws.specs.GridBounds.{diagonal-bounded, centre-bounded}
+use Rattle.grid_laws.specs.GridBounds.{diagonal-bounded, centreMost, centre-bounded}
 use Rattle.triangle.specs.Meet.{solvedOf}
 use Rattle.triangle.specs.Places.{triangleAt}
 use Rattle.rays_bounds.specs.TestBounds.{NearPoints, near-place, Bounded, test-bounded}
@@ -62,9 +62,9 @@ module _ (axes : Axes) (corners : Corners) (scene : Scene) (direction : Vec3) (a
       let centre = centre-bounded corners axes (p .0) (p .1 .0) (xOf axes i) (yOf axes i) (zOf axes i) (x-within axes i (a .width)) (y-within axes i (a .height)) (z-within axes i (a .width) (a .height) h) in
       let ahead = mul-at-most _ _ 7 11 3 0 (lit< tt) (lit< tt) (diagonal-bounded corners axes (p .0) (p .1 .0)) three-small in
       let moved = scale-under (normalV direction) _ 2688 0 19 4 (lit< tt) (lit< tt) (thin-normal-under direction (d .1) f) (at-most-up _ 21 11 43008 0 (lit≤ tt) ahead) in
-      let start = add-each _ _ 12416 51072 0 (lit< tt) (lit< tt) centre moved in
+      let start = add-each _ _ centreMost 51072 0 (lit< tt) (lit< tt) centre moved in
       ray-row (sunRayAt axes corners direction i) .1 (
-        each-within originLimit _ 1 16 colour-value (each-up _ 63488 0 1 16 (lit≤ tt) start),
+        each-within originLimit _ 1 16 colour-value (each-up _ (centreMost + 51072) 0 1 16 (lit≤ tt) start),
         each-within directionLimit _ 1 1 direction-value (thin-normal-within direction (d .1) f),
         shortest-passes,
         longest-passes,

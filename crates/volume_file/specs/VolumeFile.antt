@@ -50,7 +50,7 @@ badBodies s a n =
     || badMask (bytesAt s (offsetAt s 2) n)
     || badMask (bytesAt s (offsetAt s 3) n)
 
--- any fault beside the axes' own, or theirs
+-- any fault in a volume file, given whether row 1 would refuse its axes
 abbrev pub faultyWhere : Bool → List ℕ → Bool
 faultyWhere axesBad s =
     not (headed s)

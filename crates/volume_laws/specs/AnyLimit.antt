@@ -1,6 +1,7 @@
--- A reader whose axes end at any limit, of whom document 02's C-21 speaks: to an axis above its limit it answers 12, and every lent list keeps what it
--- held; of every other file it says what a reader of a higher limit says. At `axisLimit` its contracts are those of these calls.
-use mathlib.Core.Path.{_≡_, refl, sym, ap, _∙_}
+-- A reader whose axes end at any limit, of whom document 02's C-21 speaks: to an axis above its limit it answers 12 (the figures 14, where a file is too
+-- long for them), and every lent list keeps what it held; of every other file it says what a reader of a higher limit says. At `axisLimit` its contracts
+-- are those of these calls.
+use mathlib.Core.Path.{_≡_, refl, ap, _∙_}
 use mathlib.Core.Bool.{Bool, true, false, not, _||_}
 use mathlib.Core.List.{List, [], _∷_}
 use mathlib.Core.Logic.{_↔_}
@@ -11,10 +12,8 @@ use lib.ListN.{length}
 use lib.Ieee.{Float}
 use Rattle.names.specs.Numbers.{axisLimit, figuresLimit}
 use Rattle.names.specs.Refusals.{row, firstOf, unlessRefused}
-use Rattle.grid.specs.declared.Axes.{Axes}
-use Rattle.grid.specs.declared.Corners.{Corners}
 use Rattle.limits.specs.Limits.{badAxesUnder, badAxes}
-use Rattle.limits.specs.LimitsLaws.{Above, above-limit, raised-limit}
+use Rattle.limits.specs.LimitsLaws.{Above, above-limit, NoneAbove, raised-limit}
 use Rattle.contents.specs.Contents.{headed, axesAt}
 use Rattle.volume_file.specs.VolumeFile.{voxelsAt, lightAt, volumeAt, activeAt, occupiedAt, faultyWhere, faulty}
 use Rattle.words.specs.Words.{wordsOf}
@@ -111,18 +110,18 @@ pub figures-above : (most : ℕ) (s : List ℕ) (r : Figures) → length s ≤ f
 unfolding firstOf unlessRefused
 figures-above most s r l h d = d .answer ∙ rw (le-ltb figuresLimit (length s) l, faulty-above most s h) refl
 
--- ---- a file that the old limit allowed: a higher one says the same
+-- ---- no axis above the limit: a higher one says the same
 
-same-fault : (old new : ℕ) (s : List ℕ) → old ≤ new → badAxesUnder old (axesAt s) ≡ false → faultyUnder new s ≡ faultyUnder old s
-same-fault old new s l e = ap (λ (b : Bool). faultyWhere b s) (raised-limit old new (axesAt s) l e ∙ sym e)
+same-fault : (old new : ℕ) (s : List ℕ) → old ≤ new → NoneAbove old (axesAt s) → faultyUnder new s ≡ faultyUnder old s
+same-fault old new s l e = ap (λ (b : Bool). faultyWhere b s) (raised-limit old new (axesAt s) l e)
 
-pub axes-raised : (old new : ℕ) (s : List ℕ) (r : Head) → old ≤ new → badAxesUnder old (axesAt s) ≡ false → FileAxesUnder old s r ↔ FileAxesUnder new s r
+pub axes-raised : (old new : ℕ) (s : List ℕ) (r : Head) → old ≤ new → NoneAbove old (axesAt s) → FileAxesUnder old s r ↔ FileAxesUnder new s r
 axes-raised old new s r l e =
     let f = same-fault old new s l e in
     (λ d. record { answer = d .answer ∙ rw f refl }, λ d. record { answer = d .answer ∙ rw f refl })
 
 pub read-raised : (old new : ℕ) (s : List ℕ) (l v : List Float) (m o : List ℕ) (r : Head) (l′ v′ : List Float) (m′ o′ : List ℕ)
-    → old ≤ new → badAxesUnder old (axesAt s) ≡ false → VolumeReadUnder old s l v m o r l′ v′ m′ o′ ↔ VolumeReadUnder new s l v m o r l′ v′ m′ o′
+    → old ≤ new → NoneAbove old (axesAt s) → VolumeReadUnder old s l v m o r l′ v′ m′ o′ ↔ VolumeReadUnder new s l v m o r l′ v′ m′ o′
 read-raised old new s l v m o r l′ v′ m′ o′ b e =
     let f = same-fault old new s b e in (
       λ d.
@@ -143,7 +142,7 @@ read-raised old new s l v m o r l′ v′ m′ o′ b e =
           },
     )
 
-pub figures-raised : (old new : ℕ) (s : List ℕ) (r : Figures) → old ≤ new → badAxesUnder old (axesAt s) ≡ false → FileFiguresUnder old s r ↔ FileFiguresUnder new s r
+pub figures-raised : (old new : ℕ) (s : List ℕ) (r : Figures) → old ≤ new → NoneAbove old (axesAt s) → FileFiguresUnder old s r ↔ FileFiguresUnder new s r
 figures-raised old new s r l e =
     let f = same-fault old new s l e in
     (λ d. record { answer = d .answer ∙ rw f refl }, λ d. record { answer = d .answer ∙ rw f refl })

@@ -194,6 +194,10 @@ pub record Back (s : List ℕ) (a : Axes) (c : Corners) (l v : List Float) (m o 
   pub accepted : Accepted s
   pub gives : Gives s a c l v m o
 
+-- "u16 axes and u32 offsets still suffice": every offset and length in a file is below 2^32
+pub file-fits : (a : Axes) → AxesWithin a → bytesFor (voxels a) < 4294967296
+file-fits a w = omega (arith, voxels-most a w)
+
 -- the bytes that the writer writes are accepted, and give back what it was given
 pub written-back : (a : Axes) (c : Corners) (l v : List Float) (m o : List ℕ) → Givens a c l v m o → Back (fileBytes a c l v m o) a c l v m o
 written-back a c l v m o g = go (fileBytes a c l v m o) (whole a c l v m o)
