@@ -321,7 +321,8 @@ pub fn mark(mask: &mut [u64], voxel: usize) {
 
 /// The voxels that a mask marks, the lowest first.
 pub fn marked_voxels(mask: &[u64]) -> impl Iterator<Item = usize> + '_ {
-    (0..64 * mask.len()).filter(|voxel| is_marked(mask, *voxel))
+    let marked = mask.iter().enumerate().filter(|(_, word)| **word != 0);
+    marked.flat_map(|(place, word)| (0..64).filter(move |bit| (word >> bit) & 1 == 1).map(move |bit| 64 * place + bit))
 }
 
 /// How many voxels a mask marks.
