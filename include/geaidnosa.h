@@ -1,4 +1,4 @@
-/* Geaidnosa 0.3.0: the public calls of the light bake, for C and C++ on x86-64. Link libgeaidnosa.a.
+/* Geaidnosa 0.4.0: the public calls of the light bake, for C and C++ on x86-64. Link libgeaidnosa.a.
  *
  * A bake, call by call. geaidnosa_masks marks the voxels at and near surfaces; geaidnosa_sun finds how much of the sun each of them sees;
  * geaidnosa_directions gives the directions along which the caller fills the sky; geaidnosa_bake, called until its progress is at the voxel count, fills the
@@ -36,7 +36,7 @@
  * Refusals. Each call tests its input itself and answers the first number that holds, in the order named with it, or 0. Where it refuses, every
  * other number of the answer is zero (but a bake's progress, both numbers of which come back as handed in), and no list is written.
  *
- *    1  an axis outside 1..32
+ *    1  an axis outside 1..128
  *    2  a corner not finite or beyond 4,096 in magnitude, or a voxel edge below 1/1024
  *    3  a lent list of the wrong length
  *    4  more than 4,096 triangles or 256 materials
@@ -78,10 +78,16 @@ extern "C" {
 /* ---- the version: below 1.0 a new second number may change a call */
 
 #define GEAIDNOSA_VERSION_MAJOR 0
-#define GEAIDNOSA_VERSION_MINOR 3
+#define GEAIDNOSA_VERSION_MINOR 4
 #define GEAIDNOSA_VERSION_PATCH 0
-#define GEAIDNOSA_VERSION "0.3.0"
-#define GEAIDNOSA_VERSION_NUMBER 3000 /* major·1,000,000 + minor·1,000 + patch */
+#define GEAIDNOSA_VERSION "0.4.0"
+#define GEAIDNOSA_VERSION_NUMBER 4000 /* major·1,000,000 + minor·1,000 + patch */
+
+/* ---- the limit */
+
+/* The most voxels along an axis. A grid has at most this number cubed, 2,097,152: its light is 8,388,608 bytes, its volume 134,217,728, its file 146,800,736.
+ * A file of a larger axis is refused 12, also by a reader of an older version, whose limit was 32. */
+#define GEAIDNOSA_AXIS_LIMIT 128
 
 /* ---- what calls take */
 
@@ -91,7 +97,7 @@ typedef struct GeaidnosaVec3 {
     float z;
 } GeaidnosaVec3;
 
-/* How many voxels stand along each axis. */
+/* How many voxels stand along each axis, 1 to GEAIDNOSA_AXIS_LIMIT. */
 typedef struct GeaidnosaAxes {
     size_t width;
     size_t height;

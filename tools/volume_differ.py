@@ -13,7 +13,7 @@ import subprocess
 import sys
 
 sys.dont_write_bytecode = True
-from volume_file import answer, assemble, bits, bodies, figures, frame, judge
+from volume_file import AXIS_LIMIT, answer, assemble, bits, bodies, figures, frame, judge
 from volume_vectors import good, parts, smallest, unlike
 
 HERE = os.path.dirname(os.path.dirname(os.path.abspath(__file__)))
@@ -74,7 +74,7 @@ def some_number(chance, most):
 def some_volume(chance):
     axes = [chance.choice([1, 1, 2, 3, 4, 5, 7]) for _ in range(3)]
     if chance.randrange(20) == 0:
-        axes[chance.randrange(3)] = 32
+        axes[chance.randrange(3)] = chance.choice([32, 33, AXIS_LIMIT])
     n = axes[0] * axes[1] * axes[2]
     while n > 900:
         axes[axes.index(max(axes))] //= 2
@@ -112,7 +112,7 @@ def damaged(chance, stock):
             new = chance.choice([old + 1, old - 1, old ^ 0x100, 0, 1, 5, 6, 127, 128, 255, 256, 0xFFFFFFFF, 0x80000000, len(data)])
             struct.pack_into("<I", data, place, new % 2 ** 32)
         elif what == 6:
-            struct.pack_into("<H", data, 4 + 2 * chance.randrange(4), chance.choice([0, 1, 2, 4, 5, 6, 16, 17, 32, 33, 65535])) if len(data) >= 12 else None
+            struct.pack_into("<H", data, 4 + 2 * chance.randrange(4), chance.choice([0, 1, 2, 4, 5, 6, 16, 17, 32, 33, AXIS_LIMIT, AXIS_LIMIT + 1, 65535])) if len(data) >= 12 else None
         elif what == 7 and len(data) >= 4:
             place = 4 * chance.randrange(len(data) // 4)
             struct.pack_into("<I", data, place, chance.choice([0x7F800000, 0x7FC00000, 0xFF800000, 0x5F800000, 0x5F800001, 0xDF800001, 0x80000000, 0x45800001]))
@@ -141,7 +141,7 @@ def main():
         compare(made[at:at + 200], "volume")
     print("%d random volumes agree byte for byte when read and written (%d of them refused for a thin edge)" % (len(made), len(refused)))
 
-    stock = list(good())[:-1] + [f for f in made if len(f) < 800][:200]
+    stock = [f for f in [*good(), *made[:1000]] if len(f) < 800]
     done = bad = 0
     while done < files:
         batch = [damaged(chance, stock) for _ in range(min(BATCH, files - done))]

@@ -7,6 +7,8 @@ import math
 import struct
 
 MARK = b"VGRD"
+# the most voxels along an axis, and the most bytes that volstat takes
+AXIS_LIMIT = 128
 LIMIT = 65536
 
 
@@ -54,7 +56,7 @@ def judge(data):
     if len(data) < 12 or data[:4] != MARK:
         return None
     *axes, count = struct.unpack_from("<4H", data, 4)
-    if not all(1 <= a <= 32 for a in axes) or not 5 <= count <= 16 or len(data) < 12 + 12 * count:
+    if not all(1 <= a <= AXIS_LIMIT for a in axes) or not 5 <= count <= 16 or len(data) < 12 + 12 * count:
         return None
     entries = [struct.unpack_from("<3I", data, 12 + 12 * i) for i in range(count)]
     kinds = [kind for kind, _, _ in entries]

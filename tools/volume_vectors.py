@@ -9,7 +9,7 @@ import struct
 import sys
 
 sys.dont_write_bytecode = True
-from volume_file import answer, assemble, bits, bodies, figures, frame, judge, write
+from volume_file import AXIS_LIMIT, LIMIT, answer, assemble, bits, bodies, figures, frame, judge, write
 
 HERE = os.path.dirname(os.path.dirname(os.path.abspath(__file__)))
 UNIT = [bits(x) for x in (0, 0, 0, 1, 1, 1)]
@@ -40,6 +40,11 @@ def unlike():
     return assemble([2, 3, 4], bodies(corners, light, volume, occupied, active) + [(130, b"plate"), (200, b"\x00\x01")])
 
 
+def along(axis, number):
+    """Axes of which one is this number, and the others 1."""
+    return [number if k == axis else 1 for k in range(3)]
+
+
 def good():
     five = parts()
     yield smallest()
@@ -58,10 +63,20 @@ def good():
     full = assemble([1, 1, 1], five + [(140, b"")])
     yield assemble([1, 1, 1], five + [(140, bytes(65536 - len(full)))])
     # masks about a word's end: 63, 64, 65 and 128 voxels
-    for axes in ((7, 9, 1), (4, 4, 4), (5, 13, 1), (8, 4, 4)):
-        n = axes[0] * axes[1] * axes[2]
-        ends = [1 if i % 64 in (0, 1, 62, 63) else 0 for i in range(n)]
-        yield assemble(list(axes), parts(axes, occupied=ends, active=[1 if (i * i) % 7 < 3 else 0 for i in range(n)]))
+    for axes in ([7, 9, 1], [4, 4, 4], [5, 13, 1], [8, 4, 4]):
+        yield marked(axes)
+    # past the limit that was 32, at the limit of each axis, and the most voxels beside such an axis that volstat takes
+    yield marked([33, 1, 1])
+    for axis in range(3):
+        yield marked(along(axis, AXIS_LIMIT))
+    yield marked([AXIS_LIMIT, (LIMIT - 96) // 70 // AXIS_LIMIT, 1])
+
+
+def marked(axes):
+    """A file with bits of its masks set on both sides of every word's end."""
+    n = axes[0] * axes[1] * axes[2]
+    ends = [1 if i % 64 in (0, 1, 62, 63) else 0 for i in range(n)]
+    return assemble(axes, parts(axes, occupied=ends, active=[1 if (i * i) % 7 < 3 else 0 for i in range(n)]))
 
 
 def bad():
@@ -80,7 +95,6 @@ def bad():
     for x in (4096.00048828125, float("inf"), float("nan"), -1):
         yield assemble([1, 1, 1], parts(corners=[bits(v) for v in (0, 0, 0, 1, x, 1)]))
     yield assemble([1, 1, 1], parts(corners=[bits(0)] * 3 + [bits(1 / 1024) - 1, bits(1), bits(1)]))
-    yield assemble([33, 1, 1], parts((33, 1, 1)))
     yield assemble([0, 1, 1], parts())
     yield assemble([2, 1, 1], parts())
     for kind in (0, 6, 127, 256, 0x01000001, 0xFFFFFFFF):
@@ -123,6 +137,14 @@ def bad():
             yield one[:12] + b"".join(one[12 + 12 * i:24 + 12 * i] for i in order) + one[72:]
     for i in range(len(one)):
         yield one[:i]
+    # axes outside the limit: one more and none with bodies of their lengths, the most that two bytes say with bodies of one voxel; a grid's
+    # largest axes with bodies of one voxel too
+    for axis in range(3):
+        for number in (AXIS_LIMIT + 1, 0):
+            yield assemble(along(axis, number), parts(along(axis, number)))
+        yield assemble(along(axis, 65535), parts())
+    yield assemble([65535, 65535, 65535], parts())
+    yield assemble([AXIS_LIMIT, AXIS_LIMIT, AXIS_LIMIT], parts())
 
 
 def changed():

@@ -1,13 +1,13 @@
 //! A bake by shares, in calls of an allowance, that can be stopped and gone on with.
 //!
 //! One share is the library's own bake, and that a bake spread over calls ends as the unbroken one is proved of it. More shares divide the active voxels, each
-//! into one; every share is a bake of its own mask, its unblurred volume is joined onto the first one's by the library's `join`, and its blur of coefficients
-//! takes the mean last. That calls made so end in the bits of the unbroken bake is proved (`demand-of-shares` of crate shared_bake); that they are made so is
+//! into one; every share is a bake of its own mask, its unblurred volume is joined by the library's `join` onto that of a first share without a voxel, ambient
+//! everywhere, and its blur of coefficients takes the mean last. That calls made so end in the bits of the unbroken bake is proved (`demand-of-shares` of crate shared_bake); that they are made so is
 //! what stands here, and is tested (tests/).
 use crate::hall::Hall;
 use crate::part::{Only, Part};
 use crate::volume::Volume;
-use anyhow::{Context, Result};
+use anyhow::Result;
 use geaidnosa::*;
 use std::sync::atomic::{AtomicBool, AtomicU64, AtomicUsize, Ordering::SeqCst};
 use std::sync::Mutex;
@@ -47,21 +47,12 @@ impl Prepared {
     }
 }
 
-/// The unblurred volumes of shares, each with its mask, joined onto the first one's; none of none.
-fn joined<'a>(axes: Axes, mut shares: impl Iterator<Item = (&'a [u64], &'a [f32])>) -> Result<Option<Vec<f32>>> {
-    let Some((_, first)) = shares.next() else { return Ok(None) };
-    let mut all = first.to_vec();
-    for (mask, unblurred) in shares {
-        join(axes, mask, unblurred, &mut all)?;
-    }
-    Ok(Some(all))
-}
-
-/// The unblurred volume of all shares over machines, given in their order.
-pub fn joined_shares(hall: &Hall, prepared: &Prepared, shares: &[Part]) -> Result<Vec<f32>> {
-    let masks = shares_of(&prepared.active, shares.len());
-    let volumes = masks.iter().zip(shares).map(|(mask, part)| (&mask[..], &part.volume[..]));
-    joined(hall.axes, volumes)?.context("there are no shares")
+/// Ambient everywhere: the volume of a share without a voxel, onto which the others are joined.
+pub fn ambient_of(hall: &Hall, light: &[f32]) -> Result<Vec<f32>> {
+    let (mut volume, mut scratch) = (vec![0.0; 16 * hall.axes.count()], vec![0.0; 16 * hall.axes.count()]);
+    let none = vec![0; hall.axes.words()];
+    bake(hall.input(&none, light), &mut volume, &mut scratch, Scratch::new(hall).lent(), Progress::ZERO, u64::MAX)?;
+    Ok(volume)
 }
 
 pub struct Scratch {
@@ -91,6 +82,22 @@ pub fn active_of(hall: &Hall) -> Result<Vec<u64>> {
     Ok(masked(hall)?.1)
 }
 
+/// How many voxels are occupied and active.
+pub fn marked_of(hall: &Hall) -> Result<Marked> {
+    Ok(masked(hall)?.2)
+}
+
+/// How many bytes a bake by so many shares at a time holds at most: what is saved, a copy of it, and each share's volume and scratch. The lists of a number or less
+/// a voxel are small beside.
+pub fn most_bytes(axes: Axes, shares: usize) -> u64 {
+    4 * VOXEL_LENGTH as u64 * axes.count() as u64 * (2 + 2 * shares as u64)
+}
+
+/// How often a bake is saved where nobody says it, in seconds: every ten, and in a large hall a second for each megabyte that is written.
+pub fn save_every(axes: Axes) -> f64 {
+    (4.0 * VOXEL_LENGTH as f64 * axes.count() as f64 / 1e6).max(10.0)
+}
+
 pub fn prepare(hall: &Hall) -> Result<Prepared> {
     let n = hall.axes.count();
     let (mut light, mut scratch) = (vec![0.0; n], vec![0.0; n]);
@@ -111,17 +118,26 @@ pub fn shares_of(active: &[u64], count: usize) -> Vec<Vec<u64>> {
 
 /// What is baked of a hall's active voxels: all, or one machine's share.
 pub fn mask_of(active: &[u64], only: Option<Only>) -> Vec<u64> {
-    match only {
-        Some(only) => shares_of(active, only.of).swap_remove(only.share - 1),
-        None => active.to_vec(),
-    }
+    let Some(only) = only else { return active.to_vec() };
+    let mut own = vec![0; active.len()];
+    marked_voxels(active).skip(only.share - 1).step_by(only.of).for_each(|voxel| mark(&mut own, voxel));
+    own
 }
 
 /// The voxels of a mask that a bake of it has passed.
 pub fn passed(mask: &[u64], next: usize) -> Vec<u64> {
-    let mut below = vec![0; mask.len()];
-    marked_voxels(mask).take_while(|voxel| *voxel < next).for_each(|voxel| mark(&mut below, voxel));
-    below
+    // the bits of a word that stand for voxels below next
+    let below = |place: usize| match next.saturating_sub(64 * place) {
+        0 => 0,
+        bits @ 1..=63 => (1 << bits) - 1,
+        _ => !0,
+    };
+    mask.iter().enumerate().map(|(place, word)| word & below(place)).collect()
+}
+
+/// How many they are.
+pub fn passed_count(mask: &[u64], next: usize) -> u64 {
+    marked_count(&passed(mask, next))
 }
 
 /// What is asked of a bake.
@@ -135,7 +151,7 @@ pub struct Asked<'a> {
     pub until: Option<Instant>,
     /// Called after each call and now and then with what is done so far, from any thread.
     pub tell: &'a (dyn Fn(Told) + Sync),
-    /// Called now and then with what there is to save.
+    /// Called now and then with what there is to save: no sooner than `save_every` after the last time was done.
     pub save: &'a (dyn Fn(&Part) -> Result<()> + Sync),
 }
 
@@ -148,31 +164,29 @@ pub struct Told {
 }
 
 pub enum Outcome {
-    /// `part` has the unblurred numbers.
-    Done { volume: Volume, part: Part, seconds: f64 },
+    /// The whole bake, its mean taken.
+    Done { volume: Volume, rays: u64, seconds: f64 },
+    /// One machine's share at its end, unblurred.
+    Share { part: Part },
     Stopped { part: Part, done: u64 },
 }
 
-/// A share as it was after some call.
-#[derive(Clone)]
-struct State {
-    progress: Progress,
+/// What is saved: each share's progress after some call of it, and one volume for all of them, unblurred, with what each had passed then and ambient elsewhere.
+struct Kept {
+    shares: Vec<Progress>,
     volume: Vec<f32>,
 }
 
-/// The shares as their last calls left them, from what was saved of all: ambient everywhere, but for what a share has passed of its own.
-fn states_of(hall: &Hall, prepared: &Prepared, masks: &[Vec<u64>], part: &Part) -> Result<Vec<State>> {
-    let n = hall.axes.count();
-    let mut ambient = vec![0.0; 16 * n];
-    // a bake of no voxel fills the volume
-    let none = vec![0; hall.axes.words()];
-    bake(hall.input(&none, &prepared.light), &mut ambient, &mut vec![0.0; 16 * n], Scratch::new(hall).lent(), Progress::ZERO, u64::MAX)?;
-    let state = |(progress, mask): (&Progress, &Vec<u64>)| -> Result<State> {
-        let mut volume = ambient.clone();
-        join(hall.axes, &passed(mask, progress.next), &part.volume, &mut volume)?;
-        Ok(State { progress: *progress, volume })
-    };
-    part.shares.iter().zip(masks).map(state).collect()
+/// Of a bake that begins, or of what was saved of one.
+fn kept_of(hall: &Hall, prepared: &Prepared, masks: &[Vec<u64>], from: Option<Part>) -> Result<Kept> {
+    let mut volume = ambient_of(hall, &prepared.light)?;
+    let Some(part) = from else { return Ok(Kept { shares: vec![Progress::ZERO; masks.len()], volume }) };
+    let mut all = vec![0; hall.axes.words()];
+    for (mask, progress) in masks.iter().zip(&part.shares) {
+        all.iter_mut().zip(passed(mask, progress.next)).for_each(|(word, own)| *word |= own);
+    }
+    join(hall.axes, &all, &part.volume, &mut volume)?;
+    Ok(Kept { shares: part.shares, volume })
 }
 
 pub fn run(hall: &Hall, prepared: &Prepared, from: Option<Part>, asked: &Asked) -> Result<Outcome> {
@@ -181,68 +195,75 @@ pub fn run(hall: &Hall, prepared: &Prepared, from: Option<Part>, asked: &Asked) 
     let count = from.as_ref().map_or(asked.shares, |p| p.shares.len()).clamp(1, (prepared.marked.active as usize).max(1));
     let masks = shares_of(&prepared.active, count);
     let before = from.as_ref().map_or(0.0, |p| p.seconds);
-    // how many active voxels each mask has below an index
-    let taken = |mask: &[u64], next: usize| marked_count(&passed(mask, next));
-    let begun_from = match &from {
-        Some(part) => states_of(hall, prepared, &masks, part)?,
-        None => vec![State { progress: Progress::ZERO, volume: vec![0.0; 16 * n] }; count],
-    };
-    let kept: Vec<Mutex<State>> = begun_from.into_iter().map(Mutex::new).collect();
-    let voxels = AtomicU64::new(kept.iter().zip(&masks).map(|(k, m)| taken(m, k.lock().unwrap().progress.next)).sum());
-    let rays = AtomicU64::new(kept.iter().map(|k| k.lock().unwrap().progress.rays).sum());
+    let kept = kept_of(hall, prepared, &masks, from)?;
+    let voxels = AtomicU64::new(kept.shares.iter().zip(&masks).map(|(p, mask)| passed_count(mask, p.next)).sum());
+    let rays = AtomicU64::new(kept.shares.iter().map(|p| p.rays).sum());
+    let kept = Mutex::new(kept);
     let calls = AtomicU64::new(0);
     let running = AtomicUsize::new(count);
     let halted = || asked.stop.load(SeqCst) || asked.until.map_or(false, |end| Instant::now() >= end);
     let failed = AtomicBool::new(false);
-    // the blurred volume, where one share was the whole bake
+    // the library's own blurred volume, where one share is the whole bake
     let blurred: Mutex<Option<Vec<f32>>> = Mutex::new(None);
 
     let told = || Told { voxels: voxels.load(SeqCst), rays: rays.load(SeqCst), calls: calls.load(SeqCst) };
+    let seconds = || before + begun.elapsed().as_secs_f64();
 
-    // One share to its end or to the stop.
+    // Joins what a share has passed onto what is kept of all.
+    let keep = |s: usize, progress: Progress, unblurred: &[f32]| -> Result<()> {
+        let mut kept = kept.lock().unwrap();
+        join(hall.axes, &passed(&masks[s], progress.next), unblurred, &mut kept.volume)?;
+        kept.shares[s] = progress;
+        Ok(())
+    };
+    // A share as its last call left it: its progress, and ambient everywhere but for what it has passed of its own.
+    let state_of = |s: usize| -> Result<(Progress, Vec<f32>)> {
+        let progress = kept.lock().unwrap().shares[s];
+        if progress == Progress::ZERO {
+            return Ok((progress, vec![0.0; 16 * n]));
+        }
+        let mut volume = ambient_of(hall, &prepared.light)?;
+        join(hall.axes, &passed(&masks[s], progress.next), &kept.lock().unwrap().volume, &mut volume)?;
+        Ok((progress, volume))
+    };
+    // One share to its end or to the stop. Its volume and scratch are held while it runs, so that shares that wait cost nothing.
     let work = |s: usize| -> Result<()> {
+        let may_go_on = || !halted() && !failed.load(SeqCst);
+        if kept.lock().unwrap().shares[s].next == n || !may_go_on() {
+            return Ok(());
+        }
         let mask = &masks[s];
-        let mut state = kept[s].lock().unwrap().clone();
+        let (mut progress, mut volume) = state_of(s)?;
         let mut scratch = vec![0.0; 16 * n];
         let mut hits = Scratch::new(hall);
         let mut saved = Instant::now();
-        while state.progress.next < n && !halted() && !failed.load(SeqCst) {
-            let was = state.progress;
-            let baked = bake(hall.input(mask, &prepared.light), &mut state.volume, &mut scratch, hits.lent(), was, asked.allowance)?;
-            state.progress = baked.progress;
-            voxels.fetch_add(taken(mask, baked.progress.next) - taken(mask, was.next), SeqCst);
+        while progress.next < n && may_go_on() {
+            let was = progress;
+            let baked = bake(hall.input(mask, &prepared.light), &mut volume, &mut scratch, hits.lent(), was, asked.allowance)?;
+            progress = baked.progress;
+            voxels.fetch_add(passed_count(mask, progress.next) - passed_count(mask, was.next), SeqCst);
             rays.fetch_add(baked.rays, SeqCst);
             calls.fetch_add(1, SeqCst);
             (asked.tell)(told());
-            if state.progress.next == n {
-                // the last call blurs the volume, unless nothing is active; what is kept for a save is the unblurred one
-                let unblurred = if marked_count(mask) > 0 { std::mem::take(&mut scratch) } else { state.volume.clone() };
-                let last = std::mem::replace(&mut state.volume, unblurred);
-                if count == 1 {
-                    *blurred.lock().unwrap() = Some(last);
-                }
-            }
-            if state.progress.next == n || saved.elapsed() >= asked.save_every {
-                *kept[s].lock().unwrap() = state.clone();
+            if progress.next < n && saved.elapsed() >= asked.save_every {
+                keep(s, progress, &volume)?;
                 saved = Instant::now();
             }
         }
-        *kept[s].lock().unwrap() = state;
+        // the last call blurs the volume, unless nothing is active; what is kept is the unblurred one
+        let blurs = progress.next == n && marked_count(mask) > 0;
+        keep(s, progress, if blurs { &scratch } else { &volume })?;
+        if progress.next == n && count == 1 {
+            *blurred.lock().unwrap() = Some(volume);
+        }
         Ok(())
     };
 
-    // What all shares are at: at their ends the unblurred volume, before them what each has passed, and ambient elsewhere. None where none has begun.
-    let whole = || -> Result<Option<Part>> {
-        let states: Vec<State> = kept.iter().map(|k| k.lock().unwrap().clone()).collect();
-        let done: Vec<Vec<u64>> = states.iter().zip(&masks).map(|(state, mask)| passed(mask, state.progress.next)).collect();
-        let volumes = done.iter().zip(&states).filter(|(_, state)| state.progress.next > 0).map(|(done, state)| (&done[..], &state.volume[..]));
-        let part = |volume| Part {
-            shares: states.iter().map(|s| s.progress).collect(),
-            only: prepared.only,
-            seconds: before + begun.elapsed().as_secs_f64(),
-            volume,
-        };
-        Ok(joined(hall.axes, volumes)?.map(part))
+    // What there is to save; none where no share has begun.
+    let so_far = || -> Option<Part> {
+        let kept = kept.lock().unwrap();
+        let begun = kept.shares.iter().any(|p| p.next > 0);
+        begun.then(|| Part { shares: kept.shares.clone(), only: prepared.only, seconds: seconds(), volume: kept.volume.clone() })
     };
     let pool = rayon::ThreadPoolBuilder::new().num_threads(asked.threads.clamp(1, count)).build()?;
     let results: Mutex<Vec<anyhow::Error>> = Mutex::new(Vec::new());
@@ -266,7 +287,7 @@ pub fn run(hall: &Hall, prepared: &Prepared, from: Option<Part>, asked: &Asked) 
             std::thread::sleep(Duration::from_millis(20));
             (asked.tell)(told());
             if saved.elapsed() >= asked.save_every && running.load(SeqCst) > 0 {
-                if let Err(error) = whole().and_then(|part| part.map_or(Ok(()), |part| (asked.save)(&part))) {
+                if let Err(error) = so_far().map_or(Ok(()), |part| (asked.save)(&part)) {
                     failed.store(true, SeqCst);
                     results.lock().unwrap().push(error);
                 }
@@ -278,15 +299,16 @@ pub fn run(hall: &Hall, prepared: &Prepared, from: Option<Part>, asked: &Asked) 
         return Err(error);
     }
     (asked.tell)(told());
-    let finished = kept.iter().all(|k| k.lock().unwrap().progress.next == n);
-    if !finished {
-        let part = whole()?.unwrap_or_else(|| Part { shares: vec![Progress::ZERO; count], only: prepared.only, seconds: before, volume: vec![0.0; 16 * n] });
-        return Ok(Outcome::Stopped { done: told().voxels, part });
+    let (seconds, rays, done) = (seconds(), rays.into_inner(), voxels.into_inner());
+    let Kept { shares, volume } = kept.into_inner().unwrap();
+    let finished = shares.iter().all(|p| p.next == n);
+    if !finished || prepared.only.is_some() {
+        let part = Part { shares, only: prepared.only, seconds, volume };
+        return Ok(if finished { Outcome::Share { part } } else { Outcome::Stopped { part, done } });
     }
-    let part = whole()?.expect("every share is at its end");
     let volume = match blurred.into_inner().unwrap() {
         Some(volume) => prepared.volume(hall, volume),
-        None => prepared.meant(hall, part.volume.clone())?,
+        None => prepared.meant(hall, volume)?,
     };
-    Ok(Outcome::Done { volume, part, seconds: before + begun.elapsed().as_secs_f64() })
+    Ok(Outcome::Done { volume, rays, seconds })
 }

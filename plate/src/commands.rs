@@ -28,6 +28,14 @@ fn cores() -> usize {
     std::thread::available_parallelism().map_or(1, |n| n.get())
 }
 
+/// Bytes in words.
+fn sized(bytes: u64) -> String {
+    match bytes as f64 / 1e6 {
+        small if small < 1000.0 => format!("{small:.1} MB"),
+        large => format!("{:.1} GB", large / 1000.0),
+    }
+}
+
 fn lasting(seconds: f64) -> String {
     match seconds as u64 {
         s if s < 10 => format!("{seconds:.1} s"),
@@ -59,7 +67,7 @@ pub fn check(paths: &[PathBuf], json: bool) -> Result<u8> {
                 println!("{}: {} is good: {} triangles, {} materials, {} lamps, {} faces, {} × {} × {} voxels of {:.3} × {:.3} × {:.3} m", path.display(),
                     hall.name, thousands(hall.triangles() as u64), hall.kinds.len(), hall.lamp_count(), hall.faces.len(),
                     hall.axes.width, hall.axes.height, hall.axes.depth, edge.x, edge.y, edge.z);
-                let marked = baking::prepare(&hall)?.marked;
+                let marked = baking::marked_of(&hall)?;
                 let idle = hall.axes.count() as u64 - marked.active;
                 if idle > 0 {
                     println!("note: {} of {} voxels lie more than two voxels from every surface. They are not baked but hold the open sky's light, and their neighbours some of it by the mean: \
@@ -107,7 +115,9 @@ fn watch_stop() -> Result<()> {
 
 pub fn bake(args: &Bake) -> Result<u8> {
     ensure!(args.out.is_none() || args.halls.len() == 1, "--out names one volume, and {} halls are given", args.halls.len());
-    ensure!(args.save_every.is_finite() && (0.0..=86_400.0).contains(&args.save_every), "--save-every {}: seconds from 0 to 86,400", args.save_every);
+    if let Some(seconds) = args.save_every {
+        ensure!((0.0..=86_400.0).contains(&seconds), "--save-every {seconds}: seconds from 0 to 86,400");
+    }
     let threads = threads_of(args.threads)?;
     let shares = args.shares.unwrap_or(threads);
     ensure!((1..=1024).contains(&shares), "--shares {shares}: from 1 to 1,024");
@@ -138,7 +148,7 @@ struct Baking {
     share: Option<Only>,
     allowance: u64,
     until: Option<Instant>,
-    save_every: f64,
+    save_every: Option<f64>,
     resume: bool,
     fresh: bool,
     json: bool,
@@ -210,27 +220,30 @@ fn bake_one(hall: &Hall, out: &Path, asked: &Baking, stop: &AtomicBool) -> Resul
         }
     };
     let save = |part: &Part| part.write(&part_path, hall);
-    let save_every = Duration::from_secs_f64(asked.save_every);
+    let save_every = Duration::from_secs_f64(asked.save_every.unwrap_or_else(|| baking::save_every(hall.axes)));
     let run = Asked { shares: asked.shares, threads: asked.threads, allowance: asked.allowance, save_every, stop, until: asked.until, tell: &tell, save: &save };
     let outcome = baking::run(hall, &prepared, from, &run)?;
     bar.finish_and_clear();
     let said = |words: String, line: serde_json::Value| if asked.json { println!("{line}") } else { println!("{words}") };
+    let done = |rays: u64, seconds: f64| -> Result<u8> {
+        if part_path.exists() {
+            removed(&part_path)?;
+        }
+        let (active, time) = (prepared.marked.active, lasting(seconds));
+        said(
+            format!("{}: {}, {} of {} voxels active, {} rays in all, {time}", hall.name, out.display(), thousands(active), thousands(hall.axes.count() as u64), thousands(rays)),
+            serde_json::json!({ "event": "done", "hall": hall.name, "volume": out.display().to_string(), "voxels": active, "rays": rays, "seconds": seconds }),
+        );
+        Ok(GOOD)
+    };
     match outcome {
-        Outcome::Done { volume, part, seconds } => {
-            let rays = part.rays();
-            match asked.share {
-                Some(_) => part.write(out, hall)?,
-                None => volume.write(out)?,
-            }
-            if part_path.exists() {
-                removed(&part_path)?;
-            }
-            let (active, time) = (prepared.marked.active, lasting(seconds));
-            said(
-                format!("{}: {}, {} of {} voxels active, {} rays in all, {time}", hall.name, out.display(), thousands(active), thousands(hall.axes.count() as u64), thousands(rays)),
-                serde_json::json!({ "event": "done", "hall": hall.name, "volume": out.display().to_string(), "voxels": active, "rays": rays, "seconds": seconds }),
-            );
-            Ok(GOOD)
+        Outcome::Done { volume, rays, seconds } => {
+            volume.write(out)?;
+            done(rays, seconds)
+        }
+        Outcome::Share { part } => {
+            part.write(out, hall)?;
+            done(part.rays(), part.seconds)
         }
         Outcome::Stopped { part, done } => {
             part.write(&part_path, hall)?;
@@ -245,33 +258,54 @@ fn bake_one(hall: &Hall, out: &Path, asked: &Baking, stop: &AtomicBool) -> Resul
     }
 }
 
-/// The shares in their order, each once; every fault in words.
-fn all_shares(hall: &Hall, active: &[u64], paths: &[PathBuf]) -> Result<Vec<Part>> {
+/// All shares of a bake, each once, joined as they are read; every fault in words.
+struct Shares {
+    /// Unblurred.
+    volume: Vec<f32>,
+    count: usize,
+    rays: u64,
+    seconds: f64,
+}
+
+fn all_shares(hall: &Hall, prepared: &Prepared, paths: &[PathBuf]) -> Result<Shares> {
+    let mut all = Shares { volume: baking::ambient_of(hall, &prepared.light)?, count: 0, rays: 0, seconds: 0.0 };
     let mut faults = Vec::new();
-    let mut read: Vec<(Only, &PathBuf, Part)> = Vec::new();
+    let mut read: Vec<(Only, &PathBuf)> = Vec::new();
     for path in paths {
-        let part = std::fs::read(path).map_err(anyhow::Error::from).and_then(|bytes| Part::of_bytes(&bytes, hall, active));
-        match part.map(|p| (p.only, p)) {
-            Err(error) => faults.push(format!("{}: {error:#}", path.display())),
-            Ok((None, _)) => faults.push(format!("{}: it is the part of a whole bake, and no share", path.display())),
-            Ok((Some(only), part)) if !part.finished(hall) => faults.push(format!("{}: share {only} is not at its end: {} rays so far", path.display(), thousands(part.rays()))),
-            Ok((Some(only), part)) => match read.iter().find(|(other, ..)| *other == only) {
-                Some((_, other, _)) => faults.push(format!("{}: share {only} is given twice, {} is it too", path.display(), other.display())),
-                None => read.push((only, path, part)),
+        let mut fault = |words: String| faults.push(format!("{}: {words}", path.display()));
+        let part = match std::fs::read(path).map_err(anyhow::Error::from).and_then(|bytes| Part::of_bytes(&bytes, hall, &prepared.active)) {
+            Ok(part) => part,
+            Err(error) => {
+                fault(format!("{error:#}"));
+                continue;
+            }
+        };
+        let (first, twice) = (read.first(), |only: Only| read.iter().find(|(other, _)| *other == only));
+        match (part.only, first) {
+            (None, _) => fault("it is the part of a whole bake, and no share".into()),
+            (Some(only), _) if !part.finished(hall) => fault(format!("share {only} is not at its end: {} rays so far", thousands(part.rays()))),
+            (Some(only), Some((first, other))) if first.of != only.of => fault(format!("share {only}, where {} is one of {}", other.display(), first.of)),
+            (Some(only), _) => match twice(only) {
+                Some((_, other)) => fault(format!("share {only} is given twice, {} is it too", other.display())),
+                None => {
+                    let joined = geaidnosa::join(hall.axes, &baking::mask_of(&prepared.active, Some(only)), &part.volume, &mut all.volume);
+                    joined.unwrap_or_else(|refusal| fault(refusal.to_string()));
+                    (all.rays, all.seconds) = (all.rays + part.rays(), all.seconds + part.seconds);
+                    read.push((only, path));
+                }
             },
         }
     }
-    let of = read.first().map_or(0, |(only, ..)| only.of);
-    faults.extend(read.iter().filter(|(only, ..)| only.of != of).map(|(only, path, _)| format!("{}: share {only}, where {} is one of {of}", path.display(), read[0].1.display())));
+    all.count = read.len();
     if faults.is_empty() {
-        let missing: Vec<String> = (1..=of).filter(|s| read.iter().all(|(only, ..)| only.share != *s)).map(|share| Only { share, of }.to_string()).collect();
+        let of = read.first().map_or(0, |(only, _)| only.of);
+        let missing: Vec<String> = (1..=of).filter(|s| read.iter().all(|(only, _)| only.share != *s)).map(|share| Only { share, of }.to_string()).collect();
         if !missing.is_empty() {
             faults.push(format!("missing: share {}", missing.join(", ")));
         }
     }
     ensure!(faults.is_empty(), "{}", faults.join("\n"));
-    read.sort_by_key(|(only, ..)| only.share);
-    Ok(read.into_iter().map(|(.., part)| part).collect())
+    Ok(all)
 }
 
 pub fn join(hall: &Path, paths: &[PathBuf], out: Option<&Path>) -> Result<u8> {
@@ -279,11 +313,10 @@ pub fn join(hall: &Path, paths: &[PathBuf], out: Option<&Path>) -> Result<u8> {
     let out = out.map_or_else(|| hall.file.with_extension("vgrd"), Path::to_path_buf);
     files::clear_temporaries(&out);
     let prepared = baking::prepare(&hall)?;
-    let shares = all_shares(&hall, &prepared.active, paths)?;
-    prepared.meant(&hall, baking::joined_shares(&hall, &prepared, &shares)?)?.write(&out)?;
-    let rays = shares.iter().map(Part::rays).sum();
-    println!("{}: {} of {} shares, {} of {} voxels active, {} rays in all, {} over the shares", hall.name, out.display(), shares.len(),
-        thousands(prepared.marked.active), thousands(hall.axes.count() as u64), thousands(rays), lasting(shares.iter().map(|p| p.seconds).sum()));
+    let Shares { volume, count, rays, seconds } = all_shares(&hall, &prepared, paths)?;
+    prepared.meant(&hall, volume)?.write(&out)?;
+    println!("{}: {} of {count} shares, {} of {} voxels active, {} rays in all, {} over the shares", hall.name, out.display(),
+        thousands(prepared.marked.active), thousands(hall.axes.count() as u64), thousands(rays), lasting(seconds));
     Ok(GOOD)
 }
 
@@ -304,8 +337,11 @@ fn under_way(hall: &Hall, active: &[u64], of: u64) {
     }
 }
 
+/// The most voxels that a plan bakes where nobody says how many: some seconds' work.
+const MOST_SAMPLED: usize = 1024;
+
 pub fn plan(args: &Plan) -> Result<u8> {
-    ensure!(args.sample >= 1, "--sample {}: one voxel in at least one", args.sample);
+    ensure!(args.sample != Some(0), "--sample 0: one voxel in at least one");
     let threads = threads_of(args.threads)?;
     let mut all = 0.0;
     for path in &args.halls {
@@ -320,25 +356,33 @@ pub fn plan(args: &Plan) -> Result<u8> {
             continue;
         }
         println!("  sure: from {} to {} rays ({LEAST_RAYS} to {cost} a voxel)", thousands(LEAST_RAYS * marked.active), thousands(cost * marked.active));
+        let at_once = threads.min(marked.active as usize);
+        println!("  memory: {} at most with {threads} threads; the volume file has {}, the part file {}", sized(baking::most_bytes(hall.axes, at_once)),
+            sized(geaidnosa::volume_bytes(hall.axes)? as u64), sized(64 * n as u64));
         under_way(&hall, &active, marked.active);
-        let mut mask = vec![0; hall.axes.words()];
-        let mut taken = 0;
-        for (j, voxel) in marked_voxels(&active).enumerate() {
-            if j % args.sample == args.sample / 2 || (taken == 0 && j as u64 + 1 == marked.active) {
-                mark(&mut mask, voxel);
-                taken += 1;
-            }
-        }
-        let (mut volume, mut scratch) = (vec![0.0; 16 * n], vec![0.0; 16 * n]);
-        let begun = Instant::now();
-        let baked = geaidnosa::bake(hall.input(&mask, &light), &mut volume, &mut scratch, Scratch::new(&hall).lent(), Progress::ZERO, u64::MAX)?;
-        let seconds = begun.elapsed().as_secs_f64();
-        let factor = marked.active as f64 / f64::from(taken);
-        let rays = baked.rays as f64 * factor;
-        let whole = seconds * factor / threads as f64;
+        let sample = args.sample.unwrap_or((marked.active as usize / MOST_SAMPLED).max(8));
+        let first = sample.min(marked.active as usize) / 2;
+        let voxels: Vec<usize> = marked_voxels(&active).skip(first).step_by(sample).collect();
+        let (mut volume, mut scratch, mut hits) = (vec![0.0; 16 * n], vec![0.0; 16 * n], Scratch::new(&hall));
+        // what is fired from a progress on, the progress then, and the time
+        let mut timed = |voxels: &[usize], progress: Progress| -> Result<(u64, Progress, f64)> {
+            let mut mask = vec![0; hall.axes.words()];
+            voxels.iter().for_each(|voxel| mark(&mut mask, *voxel));
+            let begun = Instant::now();
+            let baked = geaidnosa::bake(hall.input(&mask, &light), &mut volume, &mut scratch, hits.lent(), progress, u64::MAX)?;
+            Ok((baked.rays, baked.progress, begun.elapsed().as_secs_f64()))
+        };
+        // A bake of one voxel shows what the grid costs by itself, and a call of a finished bake what each call does: in a large hall both are more than a voxel.
+        let (_, _, grid) = timed(&voxels[..1], Progress::ZERO)?;
+        let (fired, end, seconds) = timed(&voxels, Progress::ZERO)?;
+        let (_, _, call) = timed(&voxels, end)?;
+        let rays = fired as f64 * marked.active as f64 / voxels.len() as f64;
+        let calls = (rays / args.allowance as f64).ceil();
+        let a_voxel = if voxels.len() > 1 { (seconds - grid).max(0.0) / (voxels.len() - 1) as f64 } else { seconds };
+        let whole = grid + (a_voxel * marked.active as f64 + calls * call) / threads as f64;
         all += whole;
-        println!("  foretold from {taken} voxels baked in {}: some {} rays, {} calls at {} rays, {} with {threads} threads", lasting(seconds),
-            thousands(rays as u64), thousands((rays / args.allowance as f64).ceil() as u64), thousands(args.allowance), lasting(whole));
+        println!("  foretold from {} voxels baked in {}: some {} rays, {} calls at {} rays, {} with {threads} threads", thousands(voxels.len() as u64), lasting(seconds),
+            thousands(rays as u64), thousands(calls as u64), thousands(args.allowance), lasting(whole));
     }
     if args.halls.len() > 1 {
         println!("all {} halls: {}", args.halls.len(), lasting(all));
@@ -386,10 +430,13 @@ pub fn slice(args: &Slice) -> Result<u8> {
     std::fs::create_dir_all(dir).with_context(|| dir.display().to_string())?;
     let plain = (0..volume.axes.count()).map(|v| args.of.colour(&volume, v)).collect();
     let exposure = asked.unwrap_or_else(|| Picture { width: volume.axes.count(), height: 1, pixels: plain }.exposure());
+    // as many digits as sort by name
+    let digits = if counts[axis] > 100 { 3 } else { 2 };
+    let file = |place: usize| format!("{name}{place:0digits$}.png");
     for place in 0..counts[axis] {
-        exposed(&picture::slice(&volume, axis, place, args.of, hall.as_ref(), Some(exposure)), Some(exposure), &dir.join(format!("{name}{place:02}.png")))?;
+        exposed(&picture::slice(&volume, axis, place, args.of, hall.as_ref(), Some(exposure)), Some(exposure), &dir.join(file(place)))?;
     }
-    println!("{}: {} slices across {name}, {name}00.png to {name}{:02}.png, white is {:.4}", dir.display(), counts[axis], counts[axis] - 1, 1.0 / exposure);
+    println!("{}: {} slices across {name}, {} to {}, white is {:.4}", dir.display(), counts[axis], file(0), file(counts[axis] - 1), 1.0 / exposure);
     Ok(GOOD)
 }
 
@@ -653,7 +700,7 @@ pub fn explain(number: u32) -> Result<u8> {
     };
     println!("refusal {number}: {}", refusal.words());
     println!("{}", match refusal {
-        Refusal::Axis => "In hall.toml, grid.voxels: width, height and depth are whole numbers from 1 to 32.",
+        Refusal::Axis => "In hall.toml, grid.voxels: width, height and depth are whole numbers within these.",
         Refusal::Corner => "In hall.toml, grid.min and grid.max: min below max on every axis, all within 4,096 metres. Is unit right?",
         Refusal::Length => "A list handed to the library has not the length that the grid or the triangles ask for. The program sees to this; a program of your own must.",
         Refusal::TooMany => "Leave out what casts no light worth baking: chairs, screws, what is outside. A drawing has at most 4,096 triangles and 256 materials.",
@@ -665,7 +712,7 @@ pub fn explain(number: u32) -> Result<u8> {
             the same mask and lamps. The program does; a part file that says otherwise was changed: `plate bake --fresh` begins anew.",
         Refusal::Allowance => "Give --allowance at least 384 rays, and 64 more for each lamp.",
         Refusal::Position => "A position looked up lies beyond 4,096 metres, or a slice past the grid.",
-        Refusal::File => "The volume file is not whole, not a volume, or changed since it was written. Bake it again.",
+        Refusal::File => "The volume file is not whole, not a volume, changed since it was written, or of a newer version with larger axes. Bake it again.",
         Refusal::Contents => "A list holds a number that no bake writes. Bake the volume again.",
         Refusal::TooLong => "`volstat` reads files of at most 65,536 bytes; `plate stats` reads all of them.",
         Refusal::Lamp => "In hall.toml, lamps: at most eight, each within 4,096 metres and of a colour of at most 65,536.",
@@ -693,7 +740,7 @@ fn laid_out(dir: &Path, list: &[(&str, &str)]) -> Result<()> {
         let there = std::fs::read(&path).ok();
         ensure!(there.is_none() || there.as_deref() == Some(text.as_bytes()), "{} is there and is another file", path.display());
     }
-    list.iter().try_for_each(|(name, text)| files::write_whole(&dir.join(name), &[text.as_bytes()]))
+    list.iter().try_for_each(|(name, text)| files::write_whole(&dir.join(name), [text.as_bytes()]))
 }
 
 pub fn new(dir: &Path) -> Result<u8> {
@@ -710,7 +757,7 @@ pub fn demo(args: &Demo) -> Result<u8> {
     let hall = read_hall(&dir.join("hall.toml"), true)?;
     println!("{}: a sample archery hall of {} triangles with {} lamps", dir.join("hall.toml").display(), hall.triangles(), hall.lamp_count());
     let out = dir.join("hall.vgrd");
-    let asked = Baking { threads, shares: threads, share: None, allowance: 100_000, until: None, save_every: 10.0, resume: false, fresh: false, json: false };
+    let asked = Baking { threads, shares: threads, share: None, allowance: 100_000, until: None, save_every: None, resume: false, fresh: false, json: false };
     watch_stop()?;
     if bake_one(&hall, &out, &asked, &STOP)? == SAVED {
         return Ok(SAVED);

@@ -15,12 +15,13 @@ fn prefix_of(path: &Path) -> String {
     format!(".{}.", path.file_name().map_or_else(|| "plate".into(), |n| n.to_string_lossy()))
 }
 
-pub fn write_whole(path: &Path, parts: &[&[u8]]) -> Result<()> {
+/// Writes the parts one after another; each may be made when its turn comes, so that a large file is never held whole.
+pub fn write_whole<Bytes: AsRef<[u8]>>(path: &Path, parts: impl IntoIterator<Item = Bytes>) -> Result<()> {
     let folder = folder_of(path);
     let said = || format!("{} cannot be written", path.display());
     let mut file = tempfile::Builder::new().prefix(&prefix_of(path)).suffix(".tmp").tempfile_in(&folder).with_context(said)?;
     for part in parts {
-        file.write_all(part).with_context(said)?;
+        file.write_all(part.as_ref()).with_context(said)?;
     }
     file.as_file().sync_all().with_context(said)?;
     // as any new file: readable by all, where the temporary was its owner's

@@ -122,7 +122,14 @@ pub struct Hall {
 }
 
 pub fn sha256(bytes: &[u8]) -> String {
-    Sha256::digest(bytes).iter().map(|b| format!("{b:02x}")).collect()
+    sha256_of([bytes])
+}
+
+/// Of pieces, as of all of them in one.
+pub fn sha256_of<Bytes: AsRef<[u8]>>(pieces: impl IntoIterator<Item = Bytes>) -> String {
+    let mut all = Sha256::new();
+    pieces.into_iter().for_each(|piece| all.update(piece));
+    all.finalize().iter().map(|b| format!("{b:02x}")).collect()
 }
 
 pub mod vec {
@@ -347,10 +354,9 @@ fn grid(reading: &mut Reading, grid: &GridFile) -> (Axes, Corners) {
         reading.fault(&grid.voxels, format!("grid.voxels: {} numbers where three are needed, width, height and depth", voxels.len()), None);
     } else {
         for (k, name) in ["width", "height", "depth"].iter().enumerate() {
-            if (1..=32).contains(&voxels[k]) {
-                sizes[k] = voxels[k] as usize;
-            } else {
-                reading.fault(&grid.voxels, format!("grid.voxels: {name} {} is outside 1..32", voxels[k]), Some(Refusal::Axis));
+            match usize::try_from(voxels[k]) {
+                Ok(size) if (1..=AXIS_LIMIT).contains(&size) => sizes[k] = size,
+                _ => reading.fault(&grid.voxels, format!("grid.voxels: {name} {} is outside 1..{AXIS_LIMIT}", voxels[k]), Some(Refusal::Axis)),
             }
         }
     }

@@ -119,9 +119,9 @@ pub struct Plan {
     /// How many threads the bake would have; all cores where it is left out
     #[arg(long)]
     threads: Option<usize>,
-    /// One active voxel in how many is baked for the sample
-    #[arg(long, default_value_t = 8)]
-    sample: usize,
+    /// One active voxel in how many is baked for the sample; where it is left out one in eight, and in a large hall some 1,024 in all
+    #[arg(long)]
+    sample: Option<usize>,
     /// Rays a call of the bake
     #[arg(long, default_value_t = 100_000)]
     allowance: u64,
@@ -149,9 +149,9 @@ pub struct Bake {
     /// Stop and save at this time of the day, HH:MM (the next one that comes)
     #[arg(long)]
     until: Option<String>,
-    /// Save at least this often, in seconds
-    #[arg(long, default_value_t = 10.0)]
-    save_every: f64,
+    /// Save this often, in seconds; where it is left out every ten, and in a large hall a second for each megabyte of the part file
+    #[arg(long)]
+    save_every: Option<f64>,
     /// Go on from the part file, and refuse where there is none
     #[arg(long, conflicts_with = "fresh")]
     resume: bool,

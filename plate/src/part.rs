@@ -1,8 +1,8 @@
 //! The part file of an unfinished bake: one line of mark and SHA-256 of the rest, one line of JSON, then the unblurred volume as far as it is, f32 bits
 //! little-endian. It is written whole, and read only where every input is as it was. The file of one machine's share has the same form, and names its share.
-use crate::baking::{mask_of, passed, shares_of};
+use crate::baking::{mask_of, passed_count, shares_of};
 use crate::files;
-use crate::hall::{sha256, thousands, Hall, Input};
+use crate::hall::{sha256, sha256_of, thousands, Hall, Input};
 use anyhow::{bail, ensure, Context, Result};
 use geaidnosa::{marked_count, Progress, LEAST_RAYS};
 use serde::{Deserialize, Serialize};
@@ -13,6 +13,9 @@ pub const KIND: &[u8] = b"plate-part-";
 const MARK: &str = "plate-part-2";
 /// Of files whose shares were no record of the library's.
 const EARLIER: &str = "plate-part-1";
+
+/// How many numbers are made bytes at a time.
+const PIECE: usize = 1 << 16;
 
 /// The library's record of a share's progress, as the head has it.
 #[derive(Clone, Copy, Debug, PartialEq, Eq, Serialize, Deserialize)]
@@ -88,10 +91,11 @@ impl Part {
             shares: self.shares.iter().map(|p| Share { next: p.next, rays: p.rays }).collect(),
             only: self.only,
         };
-        let mut body = serde_json::to_vec(&head)?;
-        body.push(b'\n');
-        body.extend(self.volume.iter().flat_map(|x| x.to_bits().to_le_bytes()));
-        files::write_whole(path, &[format!("{MARK} {}\n", sha256(&body)).as_bytes(), &body])
+        let mut line = serde_json::to_vec(&head)?;
+        line.push(b'\n');
+        // the body twice, in pieces: for its sum, and for the file
+        let body = || std::iter::once(line.clone()).chain(self.volume.chunks(PIECE).map(|piece| piece.iter().flat_map(|x| x.to_bits().to_le_bytes()).collect()));
+        files::write_whole(path, std::iter::once(format!("{MARK} {}\n", sha256_of(body())).into_bytes()).chain(body()))
     }
 
     /// The part of this hall's bake, or of the share asked of it; an error in words where the file is damaged, an input has changed or it is of another share.
@@ -119,7 +123,7 @@ impl Part {
     /// How many voxels each share has passed of its own.
     fn voxels_passed(&self, active: &[u64]) -> Vec<u64> {
         let masks = shares_of(&mask_of(active, self.only), self.shares.len());
-        self.shares.iter().zip(masks).map(|(p, mask)| marked_count(&passed(&mask, p.next))).collect()
+        self.shares.iter().zip(masks).map(|(p, mask)| passed_count(&mask, p.next)).collect()
     }
 
     pub fn finished(&self, hall: &Hall) -> bool {

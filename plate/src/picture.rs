@@ -30,7 +30,7 @@ impl Picture {
         let image = image::RgbImage::from_raw(self.width as u32, self.height as u32, bytes).context("a picture of its size")?;
         let mut png = Cursor::new(Vec::new());
         image.write_to(&mut png, image::ImageOutputFormat::Png)?;
-        files::write_whole(path, &[&png.into_inner()])
+        files::write_whole(path, [&png.into_inner()])
     }
 
     fn line(&mut self, (x0, y0): (f32, f32), (x1, y1): (f32, f32), colour: [f32; 3]) {

@@ -33,7 +33,7 @@ impl Volume {
     }
 
     pub fn write(&self, path: &Path) -> Result<()> {
-        files::write_whole(path, &[&self.bytes()?])
+        files::write_whole(path, [&self.bytes()?])
     }
 
     /// One voxel's sixteen numbers.

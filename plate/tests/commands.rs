@@ -129,7 +129,8 @@ fn shares_give_the_same_bits() {
         let (mut stops, mut so_far) = (0, 0);
         let done = loop {
             match baked(&hall, from.take(), shares, 2, 1) {
-                baking::Outcome::Done { volume, part, .. } => break (volume, part.rays()),
+                baking::Outcome::Done { volume, rays, .. } => break (volume, rays),
+                baking::Outcome::Share { .. } => panic!("no share was asked"),
                 baking::Outcome::Stopped { part, .. } => {
                     let file = path.with_extension("part");
                     part.write(&file, &hall).unwrap();
@@ -334,8 +335,8 @@ fn killed_bakes_go_on_to_the_same_bits() {
     let (volume, rays) = unbroken(&hall);
     let (bytes, active) = (volume.bytes().unwrap(), volume.active);
     let halves = [1, 2].map(|share| match baked_of(&hall, &baking::prepare(&hall).unwrap().share(Only { share, of: 2 }), None, 1, 1, u64::MAX) {
-        baking::Outcome::Done { part, .. } => part,
-        baking::Outcome::Stopped { .. } => panic!("share {share} was stopped"),
+        baking::Outcome::Share { part } => part,
+        _ => panic!("share {share} was stopped, or taken as a whole bake"),
     });
     // the whole volume, or the file of a share
     let as_it_should = |half: Option<&Part>, found: &[u8]| match half {
@@ -512,7 +513,9 @@ fn check_says_every_fault_with_its_place() {
     let at = dir.path();
     says(at, &["check", "hall.toml"], 0, &["my hall is good", "16 triangles", "1 lamps"]);
     says(at, &["check", "hall.toml", "--json"], 0, &["\"faults\":[]"]);
-    edit(&path, "voxels = [12, 6, 16]", "voxels = [12, 0, 33]");
+    edit(&path, "voxels = [12, 6, 16]", "voxels = [128, 1, 128]");
+    says(at, &["check", "hall.toml"], 0, &["128 × 1 × 128 voxels"]);
+    edit(&path, "voxels = [128, 1, 128]", "voxels = [-1, 0, 129]");
     edit(&path, "min = [-0.1, -0.1, -0.1]", "min = [-0.1, -5000.0, -0.1]");
     edit(&path, "towards = [0.5, 0.7, 0.5]", "towards = [0.0, 0.0, 0.0]");
     edit(&path, "horizon = [0.6, 0.6, 0.6]", "horizon = [0.6, 70000.0, 0.6]");
@@ -525,7 +528,7 @@ fn check_says_every_fault_with_its_place() {
         &["check", "hall.toml"],
         3,
         &[
-            "hall.toml:", "height 0 is outside 1..32 (refusal 1)", "depth 33 is outside 1..32 (refusal 1)", "grid.min: -5000 is not a number within ±4,096 (refusal 2)",
+            "hall.toml:", "width -1 is outside 1..128 (refusal 1)", "height 0 is outside 1..128 (refusal 1)", "depth 129 is outside 1..128 (refusal 1)", "grid.min: -5000 is not a number within ±4,096 (refusal 2)",
             "sun.towards: a direction of no length (refusal 7)", "sky.horizon: 70000", "transmission 1.5 is outside 0..1 (refusal 6)", "lamp 1: at: 2 numbers where three",
             "lamp 1: colour: NaN", "(refusal 19)", "across and up span no face",
         ],

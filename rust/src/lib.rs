@@ -12,7 +12,15 @@ use std::fmt;
 mod face;
 
 /// The version of the C face that this crate was written to.
-pub const VERSION_NUMBER: u32 = 3_000;
+pub const VERSION_NUMBER: u32 = 4_000;
+/// The number itself, so that the words of [`Refusal::Axis`] are made of it too.
+macro_rules! axis_limit {
+    () => {
+        128
+    };
+}
+/// The most voxels along an axis: each of a grid's three is from 1 to this. A volume at the limit has 2,097,152 voxels and takes 134,217,728 bytes.
+pub const AXIS_LIMIT: usize = axis_limit!();
 /// How many numbers a sky and the list of directions have: nine sets of 64 triples.
 pub const SKY_LENGTH: usize = 1_728;
 /// How many numbers a voxel has: four coefficients of red, green, blue and a fourth number.
@@ -49,7 +57,7 @@ impl From<Vec3> for [f32; 3] {
     }
 }
 
-/// How many voxels stand along each axis.
+/// How many voxels stand along each axis, 1 to [`AXIS_LIMIT`].
 #[repr(C)]
 #[derive(Clone, Copy, Debug, Default, PartialEq, Eq)]
 pub struct Axes {
@@ -192,7 +200,7 @@ impl Refusal {
     /// The table's words.
     pub fn words(self) -> &'static str {
         match self {
-            Refusal::Axis => "an axis outside 1..32",
+            Refusal::Axis => concat!("an axis outside 1..", axis_limit!()),
             Refusal::Corner => "a corner not finite or beyond 4,096 in magnitude, or a voxel edge below 1/1024",
             Refusal::Length => "a lent list of the wrong length",
             Refusal::TooMany => "more than 4,096 triangles or 256 materials",
@@ -313,7 +321,8 @@ pub fn mark(mask: &mut [u64], voxel: usize) {
 
 /// The voxels that a mask marks, the lowest first.
 pub fn marked_voxels(mask: &[u64]) -> impl Iterator<Item = usize> + '_ {
-    (0..64 * mask.len()).filter(|voxel| is_marked(mask, *voxel))
+    let marked = mask.iter().enumerate().filter(|(_, word)| **word != 0);
+    marked.flat_map(|(place, word)| (0..64).filter(move |bit| (word >> bit) & 1 == 1).map(move |bit| 64 * place + bit))
 }
 
 /// How many voxels a mask marks.

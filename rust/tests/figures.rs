@@ -20,6 +20,8 @@ fn the_archive_is_of_this_version() {
     assert_eq!(version(), VERSION_NUMBER);
     let header = include_str!("../../include/geaidnosa.h");
     assert!(header.contains(&format!("GEAIDNOSA_VERSION_NUMBER {VERSION_NUMBER} ")));
+    assert!(header.contains(&format!("#define GEAIDNOSA_AXIS_LIMIT {AXIS_LIMIT}\n")));
+    assert!(Refusal::Axis.words().ends_with(&format!(" 1..{AXIS_LIMIT}")));
     // the words of the table are the header's
     for row in Refusal::ALL {
         assert!(header.contains(&format!("{:>5}  {}\n", row.number(), row.words())), "{row}");
@@ -60,7 +62,7 @@ fn grids() {
     let points: Vec<f32> = Q_POINTS.iter().map(|x| x * 0.5).collect();
     assert_eq!(masks(axes, unit_box(6.0), &points, &mut occupied, &mut active), Ok(Marked { occupied: 1, active: 3 }));
     assert_eq!((occupied, active), ([0b1], [0b111]));
-    assert_eq!(masks(Axes { width: 33, ..axes }, unit_box(6.0), &points, &mut occupied, &mut active), Err(Refusal::Axis));
+    assert_eq!(masks(Axes { width: AXIS_LIMIT + 1, ..axes }, unit_box(6.0), &points, &mut occupied, &mut active), Err(Refusal::Axis));
     assert_eq!(masks(axes, unit_box(f32::NAN), &points, &mut occupied, &mut active), Err(Refusal::Corner));
     for words in [0, 2] {
         assert_eq!(masks(axes, unit_box(6.0), &points, &mut vec![0; words], &mut active), Err(Refusal::Length));
@@ -80,6 +82,77 @@ fn grids() {
     directions(&mut table).unwrap();
     assert!(table.chunks(3).all(|d| (d.iter().map(|x| x * x).sum::<f32>() - 1.0).abs() < 1e-5));
     assert_eq!(directions(&mut [0.0; 3]), Err(Refusal::Length));
+}
+
+/// Axes of which one is this number, and the others 1.
+fn along(axis: usize, number: usize) -> Axes {
+    let at = |k| if k == axis { number } else { 1 };
+    Axes { width: at(0), height: at(1), depth: at(2) }
+}
+
+/// Every call that takes axes, from masks to file and back, over lists of a grid's lengths; the first refusal.
+fn every_call(axes: Axes) -> [Result<(), Refusal>; 14] {
+    let (n, words) = (axes.count().min(1 << 10), axes.words().min(1 << 4));
+    let max = |axis: usize| axis.min(1 << 10) as f32 / 64.0;
+    let corners = Corners { min: Vec3::default(), max: Vec3::new(max(axes.width), max(axes.height), max(axes.depth)) };
+    let scene = Scene { points: &Q_POINTS, uses: &[0], kinds: &[1], numbers: &SHEET };
+    let (mut occupied, mut active, mut light, mut scratch) = (vec![0; words], vec![0; words], vec![0.5; n], vec![0.0; n]);
+    let (mut volume, mut kept, mut bytes) = (vec![0.5; 16 * n], vec![0.0; 16 * n], vec![0; 96 + 70 * n]);
+    let (mut distances, mut places, up) = ([0.0], [0], Vec3::new(0.0, 0.0, 1.0));
+    let masked = masks(axes, corners, &Q_POINTS, &mut occupied, &mut active).map(drop);
+    let sunned = sun(axes, corners, scene, up, &active, &mut light, &mut scratch, HitScratch { distances: &mut distances, places: &mut places }).map(drop);
+    let light_of_sun = Light { direction: up, colour: up };
+    let input = BakeInput { axes, corners, scene, light: light_of_sun, ambient: Ambient::default(), sky: &[1.0; SKY_LENGTH], lamps: &[], active: &active, lights: &light };
+    let baked = bake(input, &mut volume, &mut kept, HitScratch { distances: &mut distances, places: &mut places }, Progress::ZERO, u64::MAX).map(drop);
+    let one = |refused: FirstRefused| refused.refusal;
+    let middle = Vec3::new(corners.max.x / 2.0, corners.max.y / 2.0, corners.max.z / 2.0);
+    let middles = [middle.x, middle.y, middle.z];
+    [
+        masked,
+        sunned,
+        baked,
+        join(axes, &active, &kept, &mut volume),
+        light_blur(axes, &mut light, &mut scratch),
+        coefficient_blur(axes, &mut volume, &mut kept),
+        light_at(axes, corners, &light, middle).map(drop),
+        coefficients_at(axes, corners, &volume, middle).map(drop),
+        frame_lights(axes, corners, &light, &middles, &mut [0.0]).map_err(one),
+        frame_coefficients(axes, corners, &volume, &middles, &mut [0.0; 16]).map_err(one),
+        voxel_part(axes, &volume, &kept, n - n.min(1), false).map(drop),
+        voxel_refusal(axes, &volume, &kept, n - n.min(1), true),
+        volume_bytes(axes).map(drop),
+        write_volume(axes, corners, &light, &volume, &occupied, &active, &mut bytes),
+    ]
+}
+
+#[test]
+fn axes_to_the_limit() {
+    for axis in 0..3 {
+        for good in [1, 32, 33, AXIS_LIMIT] {
+            assert_eq!(every_call(along(axis, good)), [Ok(()); 14], "{good} on axis {axis}");
+        }
+        for bad in [0, AXIS_LIMIT + 1, (1 << 16) + 1, (1 << 32) + 1, usize::MAX] {
+            assert_eq!(every_call(along(axis, bad)), [Err(Refusal::Axis); 14], "{bad} on axis {axis}");
+        }
+        // a file says its axis in two bytes: the limit comes back bit for bit, one more is refused and writes nothing
+        let axes = along(axis, AXIS_LIMIT);
+        let (light, volume) = (vec![0.25; AXIS_LIMIT], (0..16 * AXIS_LIMIT).map(|i| i as f32).collect::<Vec<f32>>());
+        let mut bytes = vec![0; volume_bytes(axes).unwrap()];
+        assert_eq!(bytes.len(), 96 + 70 * AXIS_LIMIT);
+        write_volume(axes, unit_box(1.0), &light, &volume, &[1, 1 << 63], &[!0, !0], &mut bytes).unwrap();
+        assert_eq!(file_axes(&bytes), Ok(Head { axes, corners: unit_box(1.0) }));
+        assert_eq!(file_figures(&bytes), Ok(Figures { axes, occupied: 2, active: 128, zeros: 0 }));
+        let (mut l, mut v, mut o, mut a) = (vec![7.0; AXIS_LIMIT], vec![7.0; 16 * AXIS_LIMIT], [7; 2], [7; 2]);
+        for wrong in [0, AXIS_LIMIT + 1, 65_535] {
+            let mut other = bytes.clone();
+            other[4 + 2 * axis..6 + 2 * axis].copy_from_slice(&(wrong as u16).to_le_bytes());
+            assert_eq!(read_volume(&other, &mut l, &mut v, &mut o, &mut a), Err(Refusal::File));
+            assert_eq!((file_axes(&other), file_figures(&other)), (Err(Refusal::File), Err(Refusal::File)));
+        }
+        assert!(l.iter().chain(&v).all(|x| *x == 7.0) && (o, a) == ([7; 2], [7; 2]));
+        assert_eq!(read_volume(&bytes, &mut l, &mut v, &mut o, &mut a), Ok(Head { axes, corners: unit_box(1.0) }));
+        assert_eq!((l, v, o, a), (light, volume, [1, 1 << 63], [!0, !0]));
+    }
 }
 
 #[test]
@@ -257,7 +330,7 @@ fn joins() {
         assert!(joined.iter().all(|x| *x == 5.0));
     };
     refused(Axes { width: 0, ..axes }, &[1], &unblurred, 48, Refusal::Axis);
-    refused(Axes { depth: 33, ..axes }, &[1], &unblurred, 48, Refusal::Axis);
+    refused(Axes { depth: AXIS_LIMIT + 1, ..axes }, &[1], &unblurred, 48, Refusal::Axis);
     refused(axes, &[], &unblurred, 48, Refusal::Length);
     refused(axes, &[1, 0], &unblurred, 48, Refusal::Length);
     refused(axes, &[1], &unblurred[..47], 48, Refusal::Length);

@@ -6,15 +6,14 @@
 
 #include "geaidnosa.h"
 
-enum { VOXELS = 32 * 32 * 32, WORDS = VOXELS / 64, TRIANGLES = 4096, MATERIALS = 256, SKY = 1728, LAMPS = 8, BYTES = 96 + 70 * VOXELS };
+enum { TRIANGLES = 4096, MATERIALS = 256, SKY = 1728, LAMPS = 8 };
 
 static GeaidnosaAxes axes;
 static float corner_numbers[6], light_numbers[6], ambient_numbers[12], points[9 * TRIANGLES], numbers[7 * MATERIALS], sky[SKY], lamps[6 * LAMPS];
 static uint32_t uses[TRIANGLES];
-static uint8_t kinds[MATERIALS], bytes[BYTES];
+static uint8_t kinds[MATERIALS];
 static size_t triangles, materials, lamp_count, places[TRIANGLES];
-static uint64_t occupied[WORDS], active[WORDS], share[WORDS];
-static float lights[VOXELS], lights_scratch[VOXELS], volume[16 * VOXELS], scratch[16 * VOXELS], joined[16 * VOXELS], distances[TRIANGLES];
+static float distances[TRIANGLES];
 
 static void fail(const char *what, const char *more) {
     fprintf(stderr, "hall: %s %s\n", what, more);
@@ -26,6 +25,15 @@ static void good(const char *call, uint32_t refusal) {
     fprintf(stderr, "hall: %s refuses %u\n", call, refusal);
     exit(1);
 }
+
+/* A list of zeros, which the end of the program gives back. */
+static void *list_of(size_t count, size_t size) {
+    void *list = calloc(count, size);
+    if (!list) fail("no memory for a grid of these axes", "");
+    return list;
+}
+
+static int outside(size_t axis) { return axis < 1 || axis > GEAIDNOSA_AXIS_LIMIT; }
 
 static size_t whole(void) {
     char *word = strtok(NULL, " \n"), *end;
@@ -78,7 +86,9 @@ static void read_lists(void) {
         }
         if (strtok(NULL, " \n")) fail("more than it takes:", name);
     }
-    if (axes.width > 32 || axes.height > 32 || axes.depth > 32) fail("an axis above 32", "");
+    if (!outside(axes.width) && !outside(axes.height) && !outside(axes.depth)) return;
+    fprintf(stderr, "hall: %zu × %zu × %zu: an axis outside 1..%d\n", axes.width, axes.height, axes.depth, GEAIDNOSA_AXIS_LIMIT);
+    exit(1);
 }
 
 int main(int count, char **words) {
@@ -92,6 +102,9 @@ int main(int count, char **words) {
     memcpy(&light, light_numbers, sizeof light);
     memcpy(&ambient, ambient_numbers, sizeof ambient);
     const size_t n = axes.width * axes.height * axes.depth, mask_words = (n + 63) / 64;
+    uint64_t *occupied = list_of(mask_words, sizeof *occupied), *active = list_of(mask_words, sizeof *active), *share = list_of(mask_words, sizeof *share);
+    float *lights = list_of(n, sizeof *lights), *lights_scratch = list_of(n, sizeof *lights_scratch);
+    float *volume = list_of(16 * n, sizeof *volume), *scratch = list_of(16 * n, sizeof *scratch), *joined = shares > 1 ? list_of(16 * n, sizeof *joined) : NULL;
     const GeaidnosaMarked marked = geaidnosa_masks(axes, corners, points, 9 * triangles, occupied, mask_words, active, mask_words);
     good("masks", marked.refusal);
     const GeaidnosaSunned sunned = geaidnosa_sun(axes, corners, points, 9 * triangles, uses, triangles, kinds, materials, numbers, 7 * materials, light.direction,
@@ -100,7 +113,7 @@ int main(int count, char **words) {
     uint64_t rays = 0;
     for (size_t s = 0; s < shares; s++) {
         size_t turn = 0, own = 0;
-        memset(share, 0, sizeof share);
+        memset(share, 0, mask_words * sizeof *share);
         for (size_t i = 0; i < n; i++) {
             if (!((active[i / 64] >> (i % 64)) & 1) || turn++ % shares != s) continue;
             share[i / 64] |= (uint64_t)1 << (i % 64);
@@ -116,15 +129,16 @@ int main(int count, char **words) {
         }
         rays += progress.rays;
         const float *unblurred = own ? scratch : volume;
-        if (shares > 1 && s == 0) memcpy(joined, unblurred, 16 * n * sizeof(float));
+        if (shares > 1 && s == 0) memcpy(joined, unblurred, 16 * n * sizeof *joined);
         if (s > 0) good("join", geaidnosa_join(axes, share, mask_words, unblurred, 16 * n, joined, 16 * n));
     }
     if (shares > 1) {
-        memcpy(volume, joined, sizeof volume);
+        memcpy(volume, joined, 16 * n * sizeof *volume);
         if (marked.active) good("coefficient_blur", geaidnosa_coefficient_blur(axes, volume, 16 * n, scratch, 16 * n));
     }
     const GeaidnosaNeeded needed = geaidnosa_volume_bytes(axes);
     good("volume_bytes", needed.refusal);
+    uint8_t *bytes = list_of(needed.bytes, 1);
     good("write_volume", geaidnosa_write_volume(axes, corners, lights, n, volume, 16 * n, occupied, mask_words, active, mask_words, bytes, needed.bytes));
     FILE *out = fopen(words[1], "wb");
     if (!out || fwrite(bytes, 1, needed.bytes, out) != needed.bytes || fclose(out)) fail("cannot write", words[1]);
