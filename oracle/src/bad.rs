@@ -4,7 +4,7 @@
 use crate::calls::{Bake, Call, Grid, Lists, Progress, Ray, Scratch};
 use crate::chance::Chance;
 use crate::progress_places;
-use crate::table;
+use crate::table::{self, AXIS};
 use crate::words;
 use crate::worlds::{self, step, voxels, World};
 use std::rc::Rc;
@@ -130,7 +130,7 @@ fn hits_of(call: &mut Call) -> Option<&mut Scratch> {
     }
 }
 
-fn axes_of(call: &mut Call) -> Option<&mut [u64; 3]> {
+pub fn axes_of(call: &mut Call) -> Option<&mut [u64; 3]> {
     match call {
         Call::Masks { grid, .. } | Call::Sun { grid, .. } | Call::LightLookup { grid, .. } | Call::CoefficientLookup { grid, .. } => Some(&mut grid.axes),
         Call::LightBlur { axes, .. } | Call::CoefficientBlur { axes, .. } | Call::Part { axes, .. } => Some(axes),
@@ -319,7 +319,7 @@ pub fn changes(call: &Call, few: bool) -> Vec<Change> {
     // axes
     if axes_of(&mut call.clone()).is_some() {
         for i in 0..3 {
-            for (value, number) in [(0, Some(1)), (33, Some(1)), (u64::MAX, Some(1)), (1 << 32, Some(1)), ((1 << 32) + 1, Some(1)), (32, None)] {
+            for (value, number) in [(0, Some(1)), (AXIS + 1, Some(1)), (u64::MAX, Some(1)), (1 << 32, Some(1)), ((1 << 32) + 1, Some(1)), (32, None)] {
                 out.push(change(format!("axis {i} := {value}"), number, move |call| axes_of(call).expect("axes")[i] = value));
             }
         }
@@ -331,7 +331,7 @@ pub fn changes(call: &Call, few: bool) -> Vec<Change> {
                 out.push(change(format!("edge {i} at 1/1024{}", if down { " less a step" } else { "" }), if down { Some(2) } else { None }, move |call| {
                     let grid = grid_of(call).expect("grid");
                     let low = grid.corners[i];
-                    if !(low.abs() <= 4096.0) || grid.axes[i] < 1 || grid.axes[i] > 32 {
+                    if !(low.abs() <= 4096.0) || grid.axes[i] < 1 || grid.axes[i] > AXIS {
                         return;
                     }
                     let mut high = low + grid.axes[i] as f32 / 1024.0;
@@ -725,7 +725,7 @@ fn readable(call: &mut Call) {
     }
 }
 
-fn applied(base: &Call, changes: &[&Change]) -> Bad {
+pub fn applied(base: &Call, changes: &[&Change]) -> Bad {
     let mut call = base.clone();
     for change in changes {
         (change.make)(&mut call);
@@ -810,4 +810,4 @@ pub fn base_world(seed: u64) -> World {
     w
 }
 
-const FAMILY_ANYTHING: usize = 19;
+pub const FAMILY_ANYTHING: usize = 19;

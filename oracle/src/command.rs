@@ -5,6 +5,7 @@ use crate::progress_places;
 use crate::records::Record;
 use crate::scene::recorded_bits;
 use crate::watch;
+use crate::wide_places;
 use crate::word_places;
 use crate::worlds::{world, FAMILIES};
 use std::fs;
@@ -214,8 +215,9 @@ fn report() -> Result<bool, String> {
     Ok(good)
 }
 
-/// The recorded answers: which seeds each module's program replays. First those inside the limits, then the bad inputs.
-fn recorded(name: &str) -> (Vec<Item>, Vec<Item>) {
+/// The recorded answers: which seeds each module's program replays. First those inside the limits, then the bad inputs; then the same of
+/// grids that C-21 lets in. Each stretch says whether all of it is inside the limits.
+fn recorded(name: &str) -> [(bool, Vec<Item>); 4] {
     let (seeds, bases): (u64, u64) = match name {
         "rays" => (60, 2),
         "masks" => (100, 3),
@@ -245,7 +247,7 @@ fn recorded(name: &str) -> (Vec<Item>, Vec<Item>) {
     let mut bad: Vec<Item> = (0..bases).flat_map(|seed| items::bad(name, seed, true, 10)).collect();
     bad.extend(word_places::bad(name, 0));
     bad.extend(progress_places::bad(name, 0));
-    (out, bad)
+    [(true, out), (false, bad), (true, wide_places::made(name)), (false, wide_places::bad(name, 0))]
 }
 
 /// The program that replays a module's records: the bake's also has the rays that it fires.
@@ -260,10 +262,11 @@ fn record(folder: &str, compare: bool) -> Result<bool, String> {
         let parent = format!("{folder}/replay_{name}");
         let (mut bytes, mut records, mut comparisons) = (Vec::new(), 0, 0);
         for module in MODULES.into_iter().filter(|module| program(module) == name) {
-            let (inside, bad) = recorded(module);
-            for (place, item) in inside.iter().chain(&bad).enumerate() {
+            let stretches = recorded(module);
+            let items = stretches.iter().flat_map(|(inside, items)| items.iter().map(move |item| (*inside, item)));
+            for (place, (inside, item)) in items.enumerate() {
                 let record = item.record();
-                if place < inside.len() {
+                if inside {
                     good &= accepted(&record, &format!("{module}: record {place}"))?;
                 }
                 bytes.extend(record.bytes);

@@ -7,6 +7,7 @@ use crate::lamp_places;
 use crate::progress_places;
 use crate::records::{self, Record};
 use crate::table;
+use crate::wide_places;
 use crate::word_places;
 use crate::worlds::{self, voxels, World};
 
@@ -76,19 +77,21 @@ pub fn bad(module: &str, seed: u64, few: bool, several: usize) -> Vec<Item> {
     out
 }
 
-/// What of a seed is streamed: its scene's records, then those of a grid of whole words or nearly so, then those of a bake's progress.
+/// What of a seed is streamed: its scene's records, then those of a grid of whole words or nearly so, of a bake's progress and of a wide grid.
 pub fn seeded(module: &str, seed: u64) -> Vec<Item> {
     let mut out = good(module, seed);
     out.extend(word_places::seeded(module, seed));
     out.extend(progress_places::seeded(module, seed));
+    out.extend(wide_places::seeded(module, seed));
     out
 }
 
-/// The bad inputs of a seed, then those of masks in words and of a bake's progress.
+/// The bad inputs of a seed, then those of masks in words, of a bake's progress and of axes about the limit.
 pub fn all_bad(module: &str, seed: u64, few: bool, several: usize) -> Vec<Item> {
     let mut out = bad(module, seed, few, several);
     out.extend(word_places::bad(module, seed));
     out.extend(progress_places::bad(module, seed));
+    out.extend(wide_places::bad(module, seed));
     out
 }
 

@@ -17,6 +17,7 @@ mod table;
 mod text;
 mod timed;
 mod watch;
+mod wide_places;
 mod word_places;
 mod words;
 mod worlds;

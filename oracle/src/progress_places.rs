@@ -87,7 +87,7 @@ fn asked(bake: Bake, calls: Vec<(Progress, u64, u32)>, what: &str) -> Item {
 
 /// A next voxel with rays one below the fewest and one above the most, and `far` ones: each 9. Then, where the answer stays short, the fewest,
 /// the most and some between, each accepted.
-fn about(bake: &Bake, next: u64, and_far: bool) -> Item {
+pub fn about(bake: &Bake, next: u64, and_far: bool) -> Item {
     let (least, most) = least_and_most(bake, next);
     let cost = table::cost(&bake.lamps);
     let mut wrong = vec![most + 1];
@@ -131,7 +131,7 @@ fn places(bake: &Bake) -> Vec<u64> {
 }
 
 /// Next voxels above the count, whatever the rays.
-fn above(bake: &Bake) -> Item {
+pub fn above(bake: &Bake) -> Item {
     let n = voxels(&bake.grid) as u64;
     let (least, most) = least_and_most(bake, n);
     let nexts = [n + 1, n + 2, n + 64, 64 * needed(n as usize) as u64 + 1, (1 << 32) + n, 1 << 32, (1 << 58) + n, 1 << 63, u64::MAX];
@@ -141,7 +141,7 @@ fn above(bake: &Bake) -> Item {
 
 /// A bake in calls that may each take so many rays, with wrong records between the right ones: those are refused and write nothing, and the
 /// right one goes on.
-fn handed_on(bake: &Bake, allowances: &[u64]) -> Item {
+pub fn handed_on(bake: &Bake, allowances: &[u64]) -> Item {
     let figures = baked(bake, Some(&bake.active));
     let n = voxels(&bake.grid) as u64;
     let mut now = bake.clone();

@@ -10,7 +10,7 @@
 //! must stand as it was.
 use crate::answers::{self, as_handed_in, bake_answer, bake_call, baked};
 use crate::calls::{bits, bytes, halves, Answer, Bake, Call, Grid, Lists, Progress, Ray, Scratch};
-use crate::table;
+use crate::table::{self, AXIS};
 
 /// A record, led by its length; the comparisons that its program makes of it; and the refusals among its answers, 0 for none.
 pub struct Record {
@@ -19,9 +19,14 @@ pub struct Record {
     pub refusals: Vec<u32>,
 }
 
+/// The limit before C-21. Lists of a grid with an axis above it are held to more patterns and may differ from them more often; the others
+/// stand as they were recorded then.
+const AXIS_BEFORE: u64 = 32;
+
 #[derive(Default)]
 struct Writer {
     words: Vec<u32>,
+    wide_grid: bool,
     comparisons: u64,
     refusals: Vec<u32>,
 }
@@ -39,18 +44,35 @@ impl Writer {
         self.words.extend(bits(l));
     }
 
-    /// Of the patterns tried, the one that makes the list shortest: its first words repeated, its last ones, or the list itself.
+    /// Of the patterns tried, the one that makes the list shortest: its first words repeated, its last ones, in a wide grid those a third on, or
+    /// the list itself.
     fn list(&mut self, l: &[u32]) {
         let n = l.len();
-        let apart = |pattern: &[u32]| (0..n).filter(|i| l[*i] != pattern[*i % pattern.len()]).collect::<Vec<usize>>();
+        // up to so many places where a list is not its pattern
+        let apart = |pattern: &[u32], most: usize| {
+            let rows = l.chunks(pattern.len()).enumerate();
+            let odd = rows.flat_map(|(row, part)| (0..part.len()).filter(|j| part[*j] != pattern[*j]).map(move |j| row * pattern.len() + j));
+            odd.take(most + 1).collect::<Vec<usize>>()
+        };
+        let lengths: &[usize] = if self.wide_grid { &[1, 2, 3, 7, 9, 16, 18, 192, 112, 128, 256, 2048] } else { &[1, 2, 3, 7, 9, 16, 18, 192] };
+        let most = if self.wide_grid { 4000 } else { 40 };
         let mut best = (l.to_vec(), Vec::new());
-        for k in [1, 2, 3, 7, 9, 16, 18, 192] {
+        for k in lengths.iter().cloned() {
             if k < n {
                 // entry i of the last k stands at place i mod k
                 let last: Vec<u32> = (0..k).map(|j| l[n - 1 - (n - 1 - j) % k]).collect();
-                for pattern in [l[..k].to_vec(), last] {
-                    let odd = apart(&pattern);
-                    if odd.len() <= 40 && k + 2 * odd.len() < best.0.len() + 2 * best.1.len() {
+                let mut patterns = vec![l[..k].to_vec(), last];
+                if self.wide_grid {
+                    let on = n / k / 3 * k;
+                    patterns.push(l[on..on + k].to_vec());
+                }
+                for pattern in patterns {
+                    let shorter = best.0.len() + 2 * best.1.len();
+                    if k >= shorter {
+                        continue;
+                    }
+                    let odd = apart(&pattern, most.min(shorter / 2));
+                    if odd.len() <= most && k + 2 * odd.len() < shorter {
                         best = (pattern, odd);
                     }
                 }
@@ -80,6 +102,7 @@ impl Writer {
     }
 
     fn axes(&mut self, axes: [u64; 3]) {
+        self.wide_grid = axes.iter().all(|a| (1..=AXIS).contains(a)) && axes.iter().any(|a| *a > AXIS_BEFORE);
         for a in axes {
             self.wide(a);
         }

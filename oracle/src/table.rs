@@ -1,9 +1,10 @@
-//! Document 01's table of refusals with what document 02's C-12, C-16 and C-18 make of it, and the order in which each call tests them, written
+//! Document 01's table of refusals with what document 02's C-12, C-16, C-18 and C-21 make of it, and the order in which each call tests them, written
 //! from these and the open points alone: which numbers are accepted, and for each call the first number whose condition holds, 0 if none.
 use crate::calls::{Bake, Call, Grid, Lists, Progress, Ray, Scratch};
 use crate::words;
 
-const AXIS: u64 = 32;
+/// "Axes rise to 1..128."
+pub const AXIS: u64 = 128;
 const POINT: f32 = 4096.0;
 const EDGE: f32 = 1.0 / 1024.0;
 const TRIANGLES: usize = 4096;

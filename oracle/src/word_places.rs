@@ -61,7 +61,7 @@ fn masks(c: &mut Chance, n: usize) -> Vec<Vec<u8>> {
 }
 
 /// The same words as a list of another length: as long as the grid, as long as its words, or as short as they and the last voxel let it be.
-fn same_words(mask: &[u8], form: usize) -> Vec<u8> {
+pub fn same_words(mask: &[u8], form: usize) -> Vec<u8> {
     let mut out = mask.to_vec();
     match form % 3 {
         1 => out.resize(64 * needed(mask.len()), 0),
@@ -72,7 +72,7 @@ fn same_words(mask: &[u8], form: usize) -> Vec<u8> {
 }
 
 /// A triangle so small that its one sample is the middle of a voxel.
-fn speck(grid: &Grid, voxel: usize) -> [f32; 9] {
+pub fn speck(grid: &Grid, voxel: usize) -> [f32; 9] {
     let [w, h, _] = grid.axes.map(|a| a as usize);
     let [x, y, z] = [voxel % w, voxel / w % h, voxel / (w * h)].map(|i| i as f32 + 0.5);
     [x - 0.25, y - 0.25, z, x + 0.25, y - 0.25, z, x - 0.25, y + 0.25, z]
@@ -88,7 +88,7 @@ fn plane(x: usize) -> Vec<f32> {
     vec![x, 0.0, 0.0, x, 32.0, 0.0, x, 0.0, 32.0, x, 32.0, 32.0, x, 0.0, 32.0, x, 32.0, 0.0]
 }
 
-fn masks_call(axes: [u64; 3], points: Vec<f32>, occupied: Vec<u8>, active: Vec<u8>) -> Call {
+pub fn masks_call(axes: [u64; 3], points: Vec<f32>, occupied: Vec<u8>, active: Vec<u8>) -> Call {
     Call::Masks { grid: grid(axes), points, occupied, active }
 }
 
@@ -154,7 +154,7 @@ pub fn hits(lists: &Lists) -> Scratch {
 }
 
 /// A sheet far above the whole grid, which lets through so much, and over the lower half of x an opaque one.
-fn sheets(axes: [u64; 3], through: f32, half: bool) -> Lists {
+pub fn sheets(axes: [u64; 3], through: f32, half: bool) -> Lists {
     let mut lists = Lists::default();
     add(&mut lists, [-200.0, -200.0, 100.0, 400.0, -200.0, 100.0, -200.0, 400.0, 100.0], 1, [0.5, 0.5, 0.5, 0.0, 0.0, 0.0, through]);
     if half {
@@ -164,7 +164,7 @@ fn sheets(axes: [u64; 3], through: f32, half: bool) -> Lists {
     lists
 }
 
-fn sun_call(axes: [u64; 3], lists: Lists, active: Vec<u8>) -> Call {
+pub fn sun_call(axes: [u64; 3], lists: Lists, active: Vec<u8>) -> Call {
     let n = voxels(&grid(axes));
     let hits = hits(&lists);
     Call::Sun { grid: grid(axes), lists, direction: [0.0, 0.0, 2.0], active, light: vec![f32::NAN; n], scratch: vec![0.25; n], hits }

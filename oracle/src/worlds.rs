@@ -43,7 +43,7 @@ pub fn voxels(grid: &Grid) -> usize {
     (grid.axes[0] * grid.axes[1] * grid.axes[2]) as usize
 }
 
-fn sized(c: &mut Chance, axes: [u64; 3], edge: f32, least: f32) -> Grid {
+pub fn sized(c: &mut Chance, axes: [u64; 3], edge: f32, least: f32) -> Grid {
     let low = [0, 1, 2].map(|_| least + c.pick(&[0.0, -0.0, -1.0, 0.25, 0.1, 3.7]));
     let stretch = [0, 1, 2].map(|_| c.pick(&[1.0, 1.0, 0.75, 1.3]));
     let mut corners = [0.0; 6];
@@ -109,7 +109,7 @@ fn somewhere(c: &mut Chance, grid: &Grid, reach: f32) -> [f32; 3] {
     })
 }
 
-fn scatter(c: &mut Chance, grid: &Grid, lists: &mut Lists, count: usize) {
+pub fn scatter(c: &mut Chance, grid: &Grid, lists: &mut Lists, count: usize) {
     for _ in 0..count {
         let a = somewhere(c, grid, 0.2);
         let mut p = [a, somewhere(c, grid, 0.2), somewhere(c, grid, 0.2)];
