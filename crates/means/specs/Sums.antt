@@ -33,6 +33,10 @@ unfoldable pub boxSum : List Float → ℕ → ℕ → ℕ → ℕ → Span → 
 boxSum src stride c w h columns rows planes s =
     fold (plusPlane src stride c w h columns rows) (planes .past - planes .first) (planes .first) s
 
--- what f gives for each of a voxel's sixteen numbers
+-- the voxel of a box that stands last in the list
+abbrev pub lastIn : ℕ → ℕ → Span → Span → Span → ℕ
+lastIn w h columns rows planes = ((planes .past - 1) * h + (rows .past - 1)) * w + (columns .past - 1)
+
+-- what f gives for each of sixteen numbers
 abbrev pub each : (ℕ → Float) → List Float
 each f = tab f 16 0

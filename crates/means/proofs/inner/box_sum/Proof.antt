@@ -22,12 +22,12 @@ loop-holds c = (omega arith, refl)
 mul-plane-sum : tie.Need-mul-plane-sum Inv-loop μ-loop
 mul-plane-sum c =
     let a = c .before .before .before .before .args in let p = c .before .before .before .before .pre in let z = c .before .before .loop .z in
-    omega (arith, inside z (a .planes .past) (a .rows .past) (a .h) (omega arith) (p .3), factor (a .planes .past * a .h) (a .w) (p .5) (p .7))
+    omega (arith, inside z (a .planes .past) (a .rows .past) (a .h) (omega arith) (p .4), factor (a .planes .past * a .h) (a .w) (p .6) (p .8))
 
 plane-sum-requires : tie.Need-plane-sum-requires Inv-loop μ-loop
 plane-sum-requires c κs =
     let a = c .before .before .before .before .args in let p = c .before .before .before .before .pre in let z = c .before .before .loop .z in
-    (p .0, p .1, p .2, p .5, omega (arith, mul-le-mul-right (a .w) (inside z (a .planes .past) (a .rows .past) (a .h) (omega arith) (p .3))))
+    (p .0, p .1, p .2, p .3, p .6, omega (arith, mul-le-mul-right (a .w) (inside z (a .planes .past) (a .rows .past) (a .h) (omega arith) (p .4))))
 
 add-z : tie.Need-add-z Inv-loop μ-loop
 add-z c = omega arith

@@ -29,6 +29,7 @@ box-sum-requires c κs =
       omega arith,
       omega arith,
       omega arith,
+      omega arith,
       omega (arith, mul-le-mul-right (a .w) (mul-le-mul-right (a .h) n)),
     )
 

@@ -2,15 +2,13 @@
 -- the product of its sides. Assumes nothing.
 use borrow.Author.Needs.{needs}
 use native.Mathlib.Omega.{arith}
-use native.Mathlib.Nat.{mul-le-mul-right}
 use mathlib.Core.Path.{_≡_, refl, sym, ap, ap₂, _∙_}
 use mathlib.Core.List.{List}
-use Prim.Native.Nat.{ℕ, _-_, _≤_, _*_}
+use Prim.Native.Nat.{ℕ, _-_, _*_}
 use lib.IntN.{pos}
 use lib.ListN.{getD, replicate, getD-replicate}
 use lib.Ieee.{Float, nan, binary32, div, ofInt}
 use Rattle.names.specs.Bits.{zero32}
-use Rattle.lists.specs.Fold.{scaled}
 use Rattle.means.specs.declared.Span.{Span}
 use Rattle.means.specs.Box.{meanIn}
 use Rattle.means.specs.Sums.{spanOf, span-is, boxSum, each}
@@ -20,16 +18,16 @@ use Rattle.means.proofs.inner.means_in.Statement.{statement}
 use Rattle.means.proofs.inner.means_in.Tie as tie
 
 -- each of the sixteen
-module _ (src : List Float) (w h d x y z : ℕ) {columns rows planes : Span} {s : List Float} {k : Float} where
+module _ (src : List Float) (stride w h d x y z : ℕ) {columns rows planes : Span} {s : List Float} {k : Float} where
   whole : columns ≡ spanOf x w → rows ≡ spanOf y h → planes ≡ spanOf z d
-      → s ≡ each (λ j. boxSum src 16 j w h columns rows planes (getD (replicate 16 zero32) j nan))
+      → s ≡ each (λ j. boxSum src stride j w h columns rows planes (getD (replicate 16 zero32) j nan))
       → k ≡ ofInt binary32 (pos ((planes .past - planes .first) * ((rows .past - rows .first) * (columns .past - columns .first))))
-      → each (λ j. div binary32 (getD s j nan) k) ≡ each (λ j. meanIn src 16 j w h d x y z)
+      → each (λ j. div binary32 (getD s j nan) k) ≡ each (λ j. meanIn src stride j w h d x y z)
   whole ec er ep es ek =
       each-same _ _
       (λ j p.
-      ap₂ (div binary32) (ap (λ (l : List Float). getD l j nan) es ∙ getD-each _ j p ∙ ap (boxSum src 16 j w h columns rows planes) (getD-replicate 16 j zero32 nan p)) ek
-      ∙ rw (ec, er, ep) (sym (mean-by-rows src 16 j w h d x y z)))
+      ap₂ (div binary32) (ap (λ (l : List Float). getD l j nan) es ∙ getD-each _ j p ∙ ap (boxSum src stride j w h columns rows planes) (getD-replicate 16 j zero32 nan p)) ek
+      ∙ rw (ec, er, ep) (sym (mean-by-rows src stride j w h d x y z)))
 
 near-requires : tie.Need-near-requires
 near-requires c κs = search needs
@@ -42,17 +40,15 @@ near-requires-3 c κs = search needs
 
 box-sums-requires : tie.Need-box-sums-requires
 box-sums-requires c κs =
-    let a = c .before .before .before .before .args in
-    let p = c .before .before .before .before .pre in
-    let n : c .near3 .result .past ≤ a .d = omega arith in (
+    let p = c .before .before .before .before .pre in (
       omega arith,
       omega arith,
       omega arith,
       omega arith,
       omega arith,
       omega arith,
-      omega arith,
-      scaled 16 (mul-le-mul-right (a .w) (mul-le-mul-right (a .h) n)) (p .3),
+      p .3,
+      rw (c .near3 .ensures .1, c .before .near2 .ensures .1, c .before .before .near .ensures .1) (p .4),
       refl,
     )
 
@@ -79,7 +75,7 @@ returns c =
     let rows = b .before .before .near2 in
     let columns = b .before .before .before .near in
     c .shares .ensures
-    ∙ whole (a .src .now) (a .w) (a .h) (a .d) (a .x) (a .y) (a .z)
+    ∙ whole (a .src .now) (a .stride) (a .w) (a .h) (a .d) (a .x) (a .y) (a .z)
     (span-is (columns .result) (a .x) (a .w) (columns .ensures .0) (columns .ensures .1))
     (span-is (rows .result) (a .y) (a .h) (rows .ensures .0) (rows .ensures .1))
     (span-is (planes .result) (a .z) (a .d) (planes .ensures .0) (planes .ensures .1))

@@ -21,17 +21,17 @@ loop-holds c = (omega arith, refl)
 add-row-sum : tie.Need-add-row-sum Inv-loop μ-loop
 add-row-sum c =
     let a = c .before .before .before .before .args in let p = c .before .before .before .before .pre in let y = c .before .before .loop .y in
-    omega (arith, factor (a .plane + a .rows .past) (a .w) (p .3) (p .4))
+    omega (arith, factor (a .plane + a .rows .past) (a .w) (p .4) (p .5))
 
 mul-row-sum : tie.Need-mul-row-sum Inv-loop μ-loop
 mul-row-sum c =
     let a = c .before .before .before .before .args in let p = c .before .before .before .before .pre in let y = c .before .before .loop .y in
-    omega (arith, inside (a .plane + y) (a .plane + a .rows .past) (a .columns .past) (a .w) (omega arith) (p .1))
+    omega (arith, inside (a .plane + y) (a .plane + a .rows .past) (a .columns .past) (a .w) (omega arith) (p .2))
 
 row-sum-requires : tie.Need-row-sum-requires Inv-loop μ-loop
 row-sum-requires c κs =
     let a = c .before .before .before .before .args in let p = c .before .before .before .before .pre in let y = c .before .before .loop .y in
-    (p .0, omega (arith, inside (a .plane + y) (a .plane + a .rows .past) (a .columns .past) (a .w) (omega arith) (p .1)))
+    (p .0, p .1, omega (arith, inside (a .plane + y) (a .plane + a .rows .past) (a .columns .past) (a .w) (omega arith) (p .2)))
 
 add-y : tie.Need-add-y Inv-loop μ-loop
 add-y c = omega arith

@@ -1,59 +1,114 @@
--- `means::inner::row_sum` gives the definition's fold: what is left of the cells, folded over the sum so far, is the whole. Assumes nothing.
-use Prim.Native.Nat.{_+_, _-_, _*_, _≤_, _<_}
-use mathlib.Core.Path.{_≡_, refl, sym, _∙_}
+-- `means::inner::row_sum` gives the definition's fold over one, two or three columns. Assumes nothing.
+use borrow.Author.Needs.{needs}
 use native.Mathlib.Omega.{arith}
+use mathlib.Core.Path.{_≡_, sym, ap, _∙_}
+use mathlib.Core.List.{List}
+use Prim.Native.Nat.{ℕ, _+_, _-_, _*_}
+use lib.ListN.{getD}
+use lib.Ieee.{Float, nan, binary32, add}
 use Rattle.lists.specs.Fold.{fold, fold-step, fold-end}
+use Rattle.means.specs.declared.Span.{Span}
 use Rattle.means.specs.Sums.{plusCell, rowSum}
+use Rattle.means.proofs.Lanes.{fold-same}
 use Rattle.means.proofs.inner.row_sum.Statement.{statement}
 use Rattle.means.proofs.inner.row_sum.Tie as tie
 
-abbrev Inv-loop : tie.InvT-loop
-Inv-loop src row columns s sum₀ x₀ sum x =
-    (x ≤ columns .past) × (rowSum src 1 0 row columns s ≡ fold (plusCell src 1 0 row) (columns .past - x) x sum)
+module _ (src : List Float) (row : ℕ) (columns : Span) (s : Float) where
+  abbrev cell : ℕ → Float → Float
+  cell x a = add binary32 a (getD src (row + x) nan)
 
-abbrev μ-loop : tie.MeasureT-loop
-μ-loop src row columns s sum₀ x₀ sum x = columns .past - x
+  by-cells : rowSum src 1 0 row columns s ≡ fold cell (columns .past - columns .first) (columns .first) s
+  unfolding rowSum
+  by-cells =
+      fold-same (plusCell src 1 0 row) cell
+      (λ x a. (let p : (row + x) * 1 + 0 ≡ row + x = omega arith in ap (λ (n : ℕ). add binary32 a (getD src n nan)) p)) _ _ s
 
-loop-holds : tie.Need-loop-holds Inv-loop μ-loop
-unfolding rowSum
-loop-holds c = (omega arith, refl)
+  one : columns .past ≡ columns .first + 1 → cell (columns .first) s ≡ rowSum src 1 0 row columns s
+  one h =
+      let x = columns .first in let to = columns .past in
+      sym (by-cells ∙ fold-step cell x to s (omega arith) ∙ fold-end cell (x + 1) to _ (omega arith))
 
-add-sum : tie.Need-add-sum Inv-loop μ-loop
-add-sum c = omega arith
+  two : columns .past ≡ columns .first + 2 → cell (columns .first + 1) (cell (columns .first) s) ≡ rowSum src 1 0 row columns s
+  two h =
+      let x = columns .first in let to = columns .past in
+      sym (by-cells ∙ fold-step cell x to s (omega arith) ∙ fold-step cell (x + 1) to _ (omega arith) ∙ fold-end cell (x + 1 + 1) to _ (omega arith))
 
-mul-sum : tie.Need-mul-sum Inv-loop μ-loop
-mul-sum c = omega arith
+  three : columns .past ≡ columns .first + 3 → cell (columns .first + 2) (cell (columns .first + 1) (cell (columns .first) s)) ≡ rowSum src 1 0 row columns s
+  three h =
+      let x = columns .first in let to = columns .past in
+      let z : x + 1 + 1 ≡ x + 2 = omega arith in
+      sym
+      (by-cells
+      ∙ fold-step cell x to s (omega arith)
+      ∙ fold-step cell (x + 1) to _ (omega arith)
+      ∙ fold-step cell (x + 1 + 1) to _ (omega arith)
+      ∙ fold-end cell (x + 1 + 1 + 1) to _ (omega arith)
+      ∙ ap (λ (n : ℕ). cell n (cell (x + 1) (cell x s))) z)
 
-shared-slice-read-sum : tie.Need-shared-slice-read-sum Inv-loop μ-loop
-shared-slice-read-sum c = omega arith
+sub-count : tie.Need-sub-count
+sub-count c = search needs
 
-add-x : tie.Need-add-x Inv-loop μ-loop
-add-x c = omega arith
+add-one : tie.Need-add-one
+add-one c = search needs
 
-loop-less : tie.Need-loop-less Inv-loop μ-loop
-loop-less c = omega arith
+mul-one : tie.Need-mul-one
+mul-one c = search needs
 
-loop-again : tie.Need-loop-again Inv-loop μ-loop
-loop-again c =
-    let at = c .before .before .before .loop in
-    let a = c .before .before .before .before .args in
-    let one : (a .row + at .x) * 1 + 0 ≡ a .row + at .x = omega arith in
-    (omega arith, rw one at (at .inv .1 ∙ fold-step (plusCell (a .src .now) 1 0 (a .row)) (at .x) (a .columns .past) (at .sum) (omega arith)))
+shared-slice-read-one : tie.Need-shared-slice-read-one
+shared-slice-read-one c = search needs
 
-returns : tie.Need-returns Inv-loop μ-loop
-returns c = sym (c .before .before .loop .inv .1 ∙ fold-end _ (c .before .before .loop .x) (c .before .before .before .args .columns .past) _ (omega arith))
+returns : tie.Need-returns
+returns c =
+    let a = c .before .before .before .args in one (a .src .now) (a .row) (a .columns) (a .s) (omega arith)
+
+add-two : tie.Need-add-two
+add-two c = search needs
+
+add-two-2 : tie.Need-add-two-2
+add-two-2 c = search needs
+
+mul-two : tie.Need-mul-two
+mul-two c = search needs
+
+shared-slice-read-two : tie.Need-shared-slice-read-two
+shared-slice-read-two c = search needs
+
+returns-2 : tie.Need-returns-2
+returns-2 c =
+    let a = c .before .before .before .before .before .args in two (a .src .now) (a .row) (a .columns) (a .s) (omega arith)
+
+add-result : tie.Need-add-result
+add-result c = search needs
+
+add-result-2 : tie.Need-add-result-2
+add-result-2 c = search needs
+
+mul-result : tie.Need-mul-result
+mul-result c = search needs
+
+shared-slice-read-result : tie.Need-shared-slice-read-result
+shared-slice-read-result c = search needs
+
+returns-3 : tie.Need-returns-3
+returns-3 c =
+    let a = c .before .before .before .before .before .before .args in three (a .src .now) (a .row) (a .columns) (a .s) (omega arith)
 
 pub row-sum-spec : {M : Type 1} → statement M
 row-sum-spec =
     tie.close
     (tie.spec
-    Inv-loop
-    μ-loop
-    loop-holds
-    add-sum
-    mul-sum
-    shared-slice-read-sum
-    add-x
-    loop-less
-    loop-again
-    returns)
+    sub-count
+    add-one
+    mul-one
+    shared-slice-read-one
+    returns
+    add-two
+    add-two-2
+    mul-two
+    shared-slice-read-two
+    returns-2
+    add-result
+    add-result-2
+    mul-result
+    shared-slice-read-result
+    returns-3)

@@ -1,59 +1,82 @@
--- `means::inner::row_sums` gives the definition's sixteen folds: what is left of the cells, folded over the sums so far, is the whole. Assumes nothing.
-use Prim.Native.Nat.{_+_, _-_, _*_, _≤_}
-use mathlib.Core.Path.{_≡_, refl, sym, _∙_}
+-- `means::inner::row_sums` gives the definition's sixteen folds over one, two or three columns. Assumes nothing.
+use borrow.Author.Needs.{needs}
 use native.Mathlib.Omega.{arith}
-use lib.ListN.{length, getD}
-use lib.Ieee.{nan}
-use Rattle.lists.specs.Fold.{fold, length-tab, place-within, factor}
-use Rattle.means.specs.Sums.{plusCell, rowSum, each}
-use Rattle.means.proofs.Sixteen.{each-step, each-end}
+use Prim.Native.Nat.{_+_, _-_, _≤_}
+use Rattle.means.specs.Sums.{plusCell, rowSum}
+use Rattle.means.proofs.Sixteen.{each-one, each-two, each-three, before, in-length}
 use Rattle.means.proofs.inner.row_sums.Statement.{statement}
 use Rattle.means.proofs.inner.row_sums.Tie as tie
 
-abbrev Inv-loop : tie.InvT-loop
-Inv-loop src row columns sum₀ x₀ sum x =
-    (x ≤ columns .past) × (length sum ≡ 16)
-    × (each (λ k. rowSum src 16 k row columns (getD sum₀ k nan)) ≡ each (λ k. fold (plusCell src 16 k row) (columns .past - x) x (getD sum k nan)))
+sub-count : tie.Need-sub-count
+sub-count c = search needs
 
-abbrev μ-loop : tie.MeasureT-loop
-μ-loop src row columns sum₀ x₀ sum x = columns .past - x
+add-with-voxel : tie.Need-add-with-voxel
+add-with-voxel c =
+    let a = c .before .before .args in let p = c .before .before .pre in
+    omega (arith, in-length (a .stride) (a .row + (a .columns .past - 1)) (p .2) (p .3))
 
-loop-holds : tie.Need-loop-holds Inv-loop μ-loop
+with-voxel-requires : tie.Need-with-voxel-requires
+with-voxel-requires c κs =
+    let a = c .before .before .args in let p = c .before .before .pre in
+    let h : a .row + a .columns .first ≤ a .row + (a .columns .past - 1) = omega arith in before (a .stride) h (p .3)
+
+returns : tie.Need-returns
 unfolding rowSum
-loop-holds c = (omega arith, omega arith, refl)
-
-add-with-voxel : tie.Need-add-with-voxel Inv-loop μ-loop
-add-with-voxel c = omega arith
-
-with-voxel-requires : tie.Need-with-voxel-requires Inv-loop μ-loop
-with-voxel-requires c κs = omega arith
-
-add-x : tie.Need-add-x Inv-loop μ-loop
-add-x c = omega arith
-
-loop-less : tie.Need-loop-less Inv-loop μ-loop
-loop-less c = omega arith
-
-loop-again : tie.Need-loop-again Inv-loop μ-loop
-loop-again c =
-    let k = c .before .before .before in let a = k .before .before .args in
-    (omega arith, rw (c .with-voxel .ensures) (length-tab _ 16 0), k .loop .inv .2 ∙ each-step (λ j. plusCell (a .src .now) 16 j (a .row)) (k .loop .x) (a .columns .past) (k .loop .sum) _ (omega arith) (c .with-voxel .ensures))
-
-returns : tie.Need-returns Inv-loop μ-loop
 returns c =
-    let l = c .before .before .loop in let a = c .before .before .before .before .args in
-    sym (l .inv .2 ∙ each-end (λ j. plusCell (a .src .now) 16 j (a .row)) (l .x) (a .columns .past) (l .sum) (omega arith) (l .inv .1))
+    let a = c .before .before .before .before .args in
+    each-one (λ k. plusCell (a .src .now) (a .stride) k (a .row)) (a .columns .first) (a .columns .past) (a .s) _ (omega arith) (c .before .with-voxel .ensures)
+
+add-with-voxel-2 : tie.Need-add-with-voxel-2
+add-with-voxel-2 c = search needs
+
+add-with-voxel-3 : tie.Need-add-with-voxel-3
+add-with-voxel-3 c =
+    let a = c .before .before .before .before .args in let p = c .before .before .before .before .pre in
+    omega (arith, in-length (a .stride) (a .row + (a .columns .past - 1)) (p .2) (p .3))
+
+with-voxel-requires-2 : tie.Need-with-voxel-requires-2
+with-voxel-requires-2 c κs =
+    let a = c .before .before .before .before .args in let p = c .before .before .before .before .pre in
+    let h : a .row + (a .columns .first + 1) ≤ a .row + (a .columns .past - 1) = omega arith in before (a .stride) h (p .3)
+
+returns-2 : tie.Need-returns-2
+unfolding rowSum
+returns-2 c =
+    let a = c .before .before .before .before .before .before .args in
+    each-two (λ k. plusCell (a .src .now) (a .stride) k (a .row)) (a .columns .first) (a .columns .past) (a .s) _ _ (omega arith) (c .before .before .before .with-voxel .ensures) (c .before .with-voxel2 .ensures)
+
+add-with-voxel-4 : tie.Need-add-with-voxel-4
+add-with-voxel-4 c = search needs
+
+add-with-voxel-5 : tie.Need-add-with-voxel-5
+add-with-voxel-5 c =
+    let a = c .before .before .before .before .before .before .args in let p = c .before .before .before .before .before .before .pre in
+    omega (arith, in-length (a .stride) (a .row + (a .columns .past - 1)) (p .2) (p .3))
+
+with-voxel-requires-3 : tie.Need-with-voxel-requires-3
+with-voxel-requires-3 c κs =
+    let a = c .before .before .before .before .before .before .args in let p = c .before .before .before .before .before .before .pre in
+    let h : a .row + (a .columns .first + 2) ≤ a .row + (a .columns .past - 1) = omega arith in before (a .stride) h (p .3)
+
+returns-3 : tie.Need-returns-3
+unfolding rowSum
+returns-3 c =
+    let a = c .before .before .before .before .before .before .before .args in
+    each-three (λ k. plusCell (a .src .now) (a .stride) k (a .row)) (a .columns .first) (a .columns .past) (a .s) _ _ _ (omega arith) (c .before .before .before .before .with-voxel .ensures) (c .before .before .with-voxel2 .ensures) (c .with-voxel3 .ensures)
 
 pub row-sums-spec : {M : Type 1} → statement M
 row-sums-spec =
     tie.close
     (tie.spec
-    Inv-loop
-    μ-loop
-    loop-holds
+    sub-count
     add-with-voxel
     with-voxel-requires
-    add-x
-    loop-less
-    loop-again
-    returns)
+    returns
+    add-with-voxel-2
+    add-with-voxel-3
+    with-voxel-requires-2
+    returns-2
+    add-with-voxel-4
+    add-with-voxel-5
+    with-voxel-requires-3
+    returns-3)

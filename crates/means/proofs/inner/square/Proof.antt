@@ -1,11 +1,11 @@
--- `means::inner::square` fills the list: what is written and what the definition gives for the rest is the whole. Assumes nothing.
+-- `means::inner::square` fills the list, some voxels at a time: what is written and what the definition gives for the rest is the whole. Assumes nothing.
 use native.Mathlib.Omega.{arith}
 use native.Mathlib.Nat.{sub-zero}
 use mathlib.Core.Path.{_≡_, refl, sym, _∙_}
 use mathlib.Core.List.{_++_}
 use Prim.Native.Nat.{_≤_, _-_}
-use lib.ListN.{length, take, length-set}
-use Rattle.lists.specs.Fold.{tab, tab-step, tab-end}
+use lib.ListN.{length, take}
+use Rattle.lists.specs.Fold.{tab, tab-end}
 use Rattle.means.specs.Box.{squareAt, lightBlurOf}
 use Rattle.means.proofs.inner.square.Statement.{statement}
 use Rattle.means.proofs.inner.square.Tie as tie
@@ -21,26 +21,21 @@ loop-holds : tie.Need-loop-holds Inv-loop μ-loop
 unfolding lightBlurOf
 loop-holds c = (omega arith, omega arith, rw (sub-zero, c .before .before .pre .3) refl)
 
-square-at-requires : tie.Need-square-at-requires Inv-loop μ-loop
-square-at-requires c κs =
-    let p = c .before .before .before .before .pre in (p .0, p .1, p .2, omega arith)
-
-mul-dst : tie.Need-mul-dst Inv-loop μ-loop
-mul-dst c = omega arith
-
-slice-write-dst : tie.Need-slice-write-dst Inv-loop μ-loop
-slice-write-dst c = omega arith
+squares-requires : tie.Need-squares-requires Inv-loop μ-loop
+squares-requires c κs =
+    let p = c .before .before .before .before .before .pre in (p .0, p .1, p .2, omega arith, omega arith)
 
 add-i : tie.Need-add-i Inv-loop μ-loop
 add-i c = omega arith
 
 loop-less : tie.Need-loop-less Inv-loop μ-loop
-loop-less c = simp length-set (omega arith)
+loop-less c = omega arith
 
 loop-again : tie.Need-loop-again Inv-loop μ-loop
 loop-again c =
-    let l = c .before .before .loop in
-    simp length-set (omega arith, l .inv .1, rw (c .square-at .ensures) (tab-step _ (l .dst) (l .i) (omega arith) ∙ l .inv .2))
+    let b = c .before .before in
+    let l = b .before .before .before .loop in
+    (omega arith, omega arith, b .squares .ensures .2 ∙ l .inv .2)
 
 same-length : tie.Need-same-length Inv-loop μ-loop
 same-length c = omega arith
@@ -55,9 +50,7 @@ square-spec =
     Inv-loop
     μ-loop
     loop-holds
-    square-at-requires
-    mul-dst
-    slice-write-dst
+    squares-requires
     add-i
     loop-less
     loop-again

@@ -1,125 +1,75 @@
--- `means::inner::voxel` writes the voxel's sixteen means: what is written up to number k, and what the definition gives from there on, does not change. Assumes nothing.
+-- `means::inner::voxel` writes the voxel's sixteen means, which are the definition's of the list's numbers from there on. Assumes nothing.
 use borrow.Author.Needs.{needs}
 use native.Mathlib.Omega.{arith}
-use native.Mathlib.Nat.{mod-lt, div-lt-iff-lt-mul, add-zero}
-use mathlib.Core.Path.{_≡_, refl, sym, ap, _∙_}
-use mathlib.Core.List.{List, _++_}
-use Prim.Native.Nat.{ℕ, _+_, _*_, _/_, _%_, _≤_, _<_, _-_}
-use lib.ListN.{length, take, set, getD, length-set}
-use lib.Ieee.{Float, nan}
-use Rattle.lists.specs.Fold.{tab, tab-step}
-use Rattle.means.specs.Box.{meanIn, meanAt}
-use Rattle.means.specs.Sums.{each}
-use Rattle.means.proofs.Sixteen.{getD-each}
+use native.Mathlib.Nat.{mod-lt, div-lt-iff-lt-mul}
+use mathlib.Core.Path.{_≡_, refl}
+use mathlib.Core.List.{List}
+use Prim.Native.Nat.{ℕ, _+_, _-_, _*_, _/_, _%_, _<_}
+use lib.Ieee.{Float}
+use Rattle.lists.specs.Fold.{length-tab, place}
+use Rattle.means.specs.Box.{pastNear, meanIn, meanAt}
+use Rattle.means.proofs.Sixteen.{placed}
 use Rattle.means.proofs.inner.voxel.Statement.{statement}
 use Rattle.means.proofs.inner.voxel.Tie as tie
 
 -- number k of voxel v is the list's number v * 16 + k
-number : (src : List Float) (w h d v k : ℕ) → k < 16 → getD (each (λ j. meanIn src 16 j w h d (v % w) (v / w % h) (v / w / h))) k nan ≡ meanAt src 16 w h d (v * 16 + k)
+number : (src : List Float) (w h d v k : ℕ) → k < 16 → meanIn src 16 k w h d (v % w) (v / w % h) (v / w / h) ≡ meanAt src 16 w h d (v * 16 + k)
 unfolding meanAt
 number src w h d v k p =
     let m : (v * 16 + k) % 16 ≡ k = omega arith in
     let q : (v * 16 + k) / 16 ≡ v = omega arith in
-    getD-each (λ j. meanIn src 16 j w h d (v % w) (v / w % h) (v / w / h)) k p ∙ rw (m, q) refl
+    rw (m, q) refl
 
--- one number more
-more : (f : ℕ → Float) (l : List Float) (at k : ℕ) (y : Float) → at + k < length l → y ≡ f (at + k)
-    → take (at + (k + 1)) (set l (at + k) y) ++ tab f (length (set l (at + k) y) - (at + (k + 1))) (at + (k + 1)) ≡ take (at + k) l ++ tab f (length l - (at + k)) (at + k)
-more f l at k y h e =
-    let s : at + (k + 1) ≡ at + k + 1 = omega arith in
-    rw (e, length-set l (at + k) (f (at + k)), s) (tab-step f l (at + k) h)
-
-abbrev Inv-loop : tie.InvT-loop
-Inv-loop src dst₀ w h d v r m at k₀ dst k =
-    (k ≤ 16) × (length dst ≡ length dst₀)
-    × (take (at + k) dst ++ tab (meanAt src 16 w h d) (length dst - (at + k)) (at + k) ≡ take at dst₀ ++ tab (meanAt src 16 w h d) (length dst₀ - at) at)
-
-abbrev μ-loop : tie.MeasureT-loop
-μ-loop src dst₀ w h d v r m at k₀ dst k = 16 - k
-
-div-r : tie.Need-div-r Inv-loop μ-loop
+div-r : tie.Need-div-r
 div-r c = search needs
 
-rem-means-in : tie.Need-rem-means-in Inv-loop μ-loop
+rem-means-in : tie.Need-rem-means-in
 rem-means-in c = search needs
 
-rem-means-in-2 : tie.Need-rem-means-in-2 Inv-loop μ-loop
+rem-means-in-2 : tie.Need-rem-means-in-2
 rem-means-in-2 c = search needs
 
-div-means-in : tie.Need-div-means-in Inv-loop μ-loop
+div-means-in : tie.Need-div-means-in
 div-means-in c = search needs
 
-means-in-requires : tie.Need-means-in-requires Inv-loop μ-loop
+means-in-requires : tie.Need-means-in-requires
 means-in-requires c κs =
     let a = c .before .before .args in
-    let p = c .before .before .pre in (
-      mod-lt (a .v) (p .0),
-      mod-lt (a .v / a .w) (p .1),
-      div-lt-iff-lt-mul (p .1) .1 (div-lt-iff-lt-mul (p .0) .1 (omega arith)),
-      omega arith,
-    )
+    let p = c .before .before .pre in
+    let x = mod-lt (a .v) (p .0) in
+    let y = mod-lt (a .v / a .w) (p .1) in
+    let z : a .v / a .w / a .h < a .d = div-lt-iff-lt-mul (p .1) .1 (div-lt-iff-lt-mul (p .0) .1 (omega arith)) in
+    let cx : pastNear (a .v % a .w) (a .w) - 1 < a .w = omega arith in
+    let cy : pastNear (a .v / a .w % a .h) (a .h) - 1 < a .h = omega arith in
+    let cz : pastNear (a .v / a .w / a .h) (a .d) - 1 < a .d = omega arith in
+    (x, y, z, omega arith, omega (arith, place (place cz cy) cx))
 
-mul-at : tie.Need-mul-at Inv-loop μ-loop
-mul-at c = search needs
+mul-put : tie.Need-mul-put
+mul-put c = search needs
 
-loop-holds : tie.Need-loop-holds Inv-loop μ-loop
-loop-holds c = (omega arith, refl, rw add-zero refl)
+put-requires : tie.Need-put-requires
+put-requires c κs = (omega arith, rw (c .before .means-in .ensures) (length-tab _ 16 0))
 
-mul-dst : tie.Need-mul-dst Inv-loop μ-loop
-mul-dst c = search needs
-
-array-read-dst : tie.Need-array-read-dst Inv-loop μ-loop
-array-read-dst c = search needs
-
-add-dst : tie.Need-add-dst Inv-loop μ-loop
-add-dst c = search needs
-
-mul-dst-2 : tie.Need-mul-dst-2 Inv-loop μ-loop
-mul-dst-2 c = search needs
-
-slice-write-dst : tie.Need-slice-write-dst Inv-loop μ-loop
-slice-write-dst c = search needs
-
-add-k : tie.Need-add-k Inv-loop μ-loop
-add-k c = search needs
-
-loop-less : tie.Need-loop-less Inv-loop μ-loop
-loop-less c = search needs
-
-loop-again : tie.Need-loop-again Inv-loop μ-loop
-loop-again c =
-    let k = c .before in
-    let a = k .before .before .before .before .args in
-    (omega arith, simp length-set (k .loop .inv .1), more (meanAt (a .src .now) 16 (a .w) (a .h) (a .d)) (k .loop .dst) (a .v * 16) (k .loop .k) _ (omega arith) (ap (λ (l : List Float). getD l (k .loop .k) nan) (k .before .means-in .ensures) ∙ number (a .src .now) (a .w) (a .h) (a .d) (a .v) (k .loop .k) (omega arith)) ∙ k .loop .inv .2)
-
-same-length : tie.Need-same-length Inv-loop μ-loop
+same-length : tie.Need-same-length
 same-length c = search needs
 
-returns : tie.Need-returns Inv-loop μ-loop
+returns : tie.Need-returns
 returns c =
-    let k : c .before .loop .k ≡ 16 = omega arith in
-    rw k at (c .before .loop .inv .2)
+    let b = c .before .before in
+    let m = b .before .before .means-in in
+    let a = b .before .before .before .before .before .args in
+    placed (meanAt (a .src .now) 16 (a .w) (a .h) (a .d)) _ (a .dst .now) _ _ (a .v * 16) 16 (omega arith) (omega arith) (omega arith) (b .put .ensures) (m .ensures) (λ j h. number (a .src .now) (a .w) (a .h) (a .d) (a .v) j h)
 
 pub voxel-spec : {M : Type 1} → statement M
 voxel-spec =
     tie.close
     (tie.spec
-    Inv-loop
-    μ-loop
     div-r
     rem-means-in
     rem-means-in-2
     div-means-in
     means-in-requires
-    mul-at
-    loop-holds
-    mul-dst
-    array-read-dst
-    add-dst
-    mul-dst-2
-    slice-write-dst
-    add-k
-    loop-less
-    loop-again
+    mul-put
+    put-requires
     same-length
     returns)

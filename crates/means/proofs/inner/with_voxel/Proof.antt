@@ -13,11 +13,11 @@ use Rattle.means.proofs.inner.with_voxel.Statement.{statement}
 use Rattle.means.proofs.inner.with_voxel.Tie as tie
 
 abbrev Inv-loop : tie.InvT-loop
-Inv-loop src v s at sum₀ k₀ sum k =
-    (k ≤ 16) × (length sum ≡ 16) × (take k sum ++ tab (λ j. plus src 16 j v (getD s j nan)) (length sum - k) k ≡ each (λ j. plus src 16 j v (getD s j nan)))
+Inv-loop src stride v s at sum₀ k₀ sum k =
+    (k ≤ 16) × (length sum ≡ 16) × (take k sum ++ tab (λ j. plus src stride j v (getD s j nan)) (length sum - k) k ≡ each (λ j. plus src stride j v (getD s j nan)))
 
 abbrev μ-loop : tie.MeasureT-loop
-μ-loop src v s at sum₀ k₀ sum k = 16 - k
+μ-loop src stride v s at sum₀ k₀ sum k = 16 - k
 
 mul-at : tie.Need-mul-at Inv-loop μ-loop
 mul-at c = search needs
