@@ -753,7 +753,12 @@ pub fn seeded(module: &str, seed: u64) -> Vec<Item> {
             vec![Item::One(Call::Sun { grid, direction: worlds::towards(&world), lists: world.lists, active, light, scratch, hits })]
         }
         "bake" => {
-            let mut bake = worlds::bake(c, &world, if n <= 400 { light } else { vec![0.5; n] });
+            let many = n > 400;
+            let mut bake = worlds::bake(c, &world, if many { vec![0.5; n] } else { light });
+            if many {
+                // numbers whose mean is exact, so that the volume stays short
+                bake.ambient = bake.ambient.map(|x| (x.clamp(-100.0, 100.0) * 8.0).round() / 8.0);
+            }
             let cost = table::cost(&bake.lamps);
             let interrupted = calls(&bake, &[cost + c.below(900) as u64, cost, u64::MAX, cost]);
             let next = c.below(n + 1) as u64;
