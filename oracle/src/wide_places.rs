@@ -532,6 +532,9 @@ pub fn bad(module: &str, seed: u64) -> Vec<Item> {
     for axes in HUGE {
         let count = (axes[0] * axes[1] * axes[2]) as usize;
         let mut lengths = vec![0, count % 256, count % 4096, count % 65_536, 64 * (needed(count) % 256)];
+        if axes == HUGE[3] {
+            lengths.push(32_768);
+        }
         lengths.retain(|n| *n <= 32_900);
         lengths.sort();
         lengths.dedup();
