@@ -23,6 +23,9 @@ pub struct Record {
 /// stand as they were recorded then.
 const AXIS_BEFORE: u64 = 32;
 
+/// What a program has room for.
+const MOST_WORDS: usize = 262_144;
+
 #[derive(Default)]
 struct Writer {
     words: Vec<u32>,
@@ -68,7 +71,8 @@ impl Writer {
                 }
                 for pattern in patterns {
                     let shorter = best.0.len() + 2 * best.1.len();
-                    if k >= shorter {
+                    // no pattern can be shorter, or in a wide grid this one will do
+                    if k >= shorter || self.wide_grid && 1000 * shorter < n {
                         continue;
                     }
                     let odd = apart(&pattern, most.min(shorter / 2));
@@ -133,6 +137,7 @@ impl Writer {
     }
 
     fn record(self) -> Record {
+        assert!(self.words.len() <= MOST_WORDS, "a record of {} words", self.words.len());
         let mut bytes = (4 * self.words.len() as u32).to_le_bytes().to_vec();
         for w in &self.words {
             bytes.extend(w.to_le_bytes());

@@ -532,6 +532,9 @@ pub fn bad(module: &str, seed: u64) -> Vec<Item> {
     for axes in HUGE {
         let count = (axes[0] * axes[1] * axes[2]) as usize;
         let mut lengths = vec![0, count % 256, count % 4096, count % 65_536, 64 * (needed(count) % 256)];
+        if axes == HUGE[3] {
+            lengths.push(32_768);
+        }
         lengths.retain(|n| *n <= 32_900);
         lengths.sort();
         lengths.dedup();
@@ -753,7 +756,12 @@ pub fn seeded(module: &str, seed: u64) -> Vec<Item> {
             vec![Item::One(Call::Sun { grid, direction: worlds::towards(&world), lists: world.lists, active, light, scratch, hits })]
         }
         "bake" => {
-            let mut bake = worlds::bake(c, &world, if n <= 400 { light } else { vec![0.5; n] });
+            let many = n > 400;
+            let mut bake = worlds::bake(c, &world, if many { vec![0.5; n] } else { light });
+            if many {
+                // numbers whose mean is exact, so that the volume stays short
+                bake.ambient = bake.ambient.map(|x| (x.clamp(-100.0, 100.0) * 8.0).round() / 8.0);
+            }
             let cost = table::cost(&bake.lamps);
             let interrupted = calls(&bake, &[cost + c.below(900) as u64, cost, u64::MAX, cost]);
             let next = c.below(n + 1) as u64;

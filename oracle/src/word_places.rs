@@ -12,7 +12,7 @@ use crate::worlds::voxels;
 
 /// 1, 63, 64, 65 and 128 voxels.
 const SMALL: [[u64; 3]; 5] = [[1, 1, 1], [7, 3, 3], [4, 4, 4], [13, 5, 1], [8, 4, 4]];
-/// 32,768 voxels: no bit of the last word is unused.
+/// 32,768 voxels, the most before C-21: no bit of the last word is unused.
 const LARGEST: [u64; 3] = [32, 32, 32];
 /// 27,000 voxels: eight bits are unused.
 const LARGE: [u64; 3] = [30, 30, 30];
