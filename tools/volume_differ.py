@@ -141,7 +141,7 @@ def main():
         compare(made[at:at + 200], "volume")
     print("%d random volumes agree byte for byte when read and written (%d of them refused for a thin edge)" % (len(made), len(refused)))
 
-    stock = [f for f in [*good(), *made[:1000]] if len(f) < 800]
+    stock = [f for f in good() if len(f) < 10000] + [f for f in made if len(f) < 800][:200]
     done = bad = 0
     while done < files:
         batch = [damaged(chance, stock) for _ in range(min(BATCH, files - done))]

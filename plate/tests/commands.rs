@@ -149,6 +149,46 @@ fn shares_give_the_same_bits() {
     }
 }
 
+#[test]
+fn an_axis_at_the_limit() {
+    let (dir, path) = small();
+    let at = dir.path();
+    for voxels in ["[128, 2, 1]", "[1, 2, 128]", "[2, 128, 1]"] {
+        let text = std::fs::read_to_string(&path).unwrap();
+        let was = text.lines().find(|line| line.starts_with("voxels")).unwrap();
+        edit(&path, was, &format!("voxels = {voxels}"));
+        let (volume, rays) = unbroken(&read(&path));
+        for (shares, name) in [("1", "one.vgrd"), ("3", "three.vgrd")] {
+            let said = says(at, &["bake", "hall.toml", "--shares", shares, "--threads", "2", "--allowance", "5000", "-o", name], 0, &[]);
+            assert_eq!(rays_said(&said), rays, "{voxels}");
+            assert!(std::fs::read(at.join(name)).unwrap() == volume.bytes().unwrap(), "{voxels} by {shares} shares");
+        }
+        says(at, &["verify", "three.vgrd", "hall.toml"], 0, &["good"]);
+    }
+    // what a large hall takes is said; nothing of it is taken here
+    let large = Axes { width: AXIS_LIMIT, height: AXIS_LIMIT, depth: AXIS_LIMIT };
+    assert_eq!((baking::most_bytes(large, 1), baking::most_bytes(large, 8)), (4 * 134_217_728, 18 * 134_217_728));
+    let small = Axes { width: 24, height: 6, depth: 32 };
+    assert_eq!((baking::save_every(small), baking::save_every(large).round()), (10.0, 134.0));
+}
+
+#[test]
+fn masks_of_shares_and_of_what_they_have_passed() {
+    let active = [0x8000_0000_0000_0001, 0, !0, 0x0123_4567_89ab_cdef, 1 << 63];
+    for of in [1, 2, 3, 7, 300] {
+        let masks = baking::shares_of(&active, of);
+        for (k, mask) in masks.iter().enumerate() {
+            assert_eq!(baking::mask_of(&active, Some(Only { share: k + 1, of })), *mask, "{} of {of}", k + 1);
+        }
+    }
+    assert_eq!(baking::mask_of(&active, None), active);
+    for next in (0..=330).chain([usize::MAX]) {
+        let passed = baking::passed(&active, next);
+        assert!((0..320).all(|voxel| is_marked(&passed, voxel) == (is_marked(&active, voxel) && voxel < next)), "{next}");
+        assert_eq!(baking::passed_count(&active, next), marked_voxels(&active).take_while(|voxel| *voxel < next).count() as u64);
+    }
+}
+
 /// The rays that a command says.
 fn rays_said(said: &str) -> u64 {
     let before = said.split(" rays").next().unwrap();
@@ -720,7 +760,8 @@ fn pictures_and_numbers() {
     says(at, &["look", "hall.vgrd", "q.csv", "--direct", "hall.toml"], 3, &["needs a normal"]);
     says(at, &["stats", "hall.vgrd"], 0, &["12 × 6 × 16 voxels", "irradiance facing +z"]);
     says(at, &["stats", "hall.toml"], 3, &["refusal 12"]);
-    says(at, &["plan", "hall.toml"], 0, &["sure: from", "foretold"]);
+    says(at, &["plan", "hall.toml", "--threads", "3"], 0, &["sure: from", "memory: 0.6 MB at most with 3 threads; the volume file has 0.1 MB, the part file 0.1 MB", "foretold"]);
+    says(at, &["plan", "hall.toml", "--sample", "100000"], 0, &["foretold from 1 voxels"]);
     says(at, &["plan", "hall.toml", "hall.toml", "--sample", "1"], 0, &["all 2 halls"]);
     says(at, &["plan", "hall.toml", "--sample", "0"], 3, &["--sample 0"]);
     // differing and verifying
