@@ -17,6 +17,10 @@ const LONG: [[u64; 3]; 3] = [[AXIS, 1, 1], [1, AXIS, 1], [1, 1, AXIS]];
 const BESIDE: [[u64; 3]; 6] = [[33, 1, 1], [1, 33, 1], [1, 1, 33], [AXIS - 1, 1, 1], [1, AXIS - 1, 1], [1, 1, AXIS - 1]];
 /// The limit on two axes: 32,768 voxels.
 const FLAT: [[u64; 3]; 3] = [[AXIS, AXIS, 2], [AXIS, 2, AXIS], [2, AXIS, AXIS]];
+/// 81,920 voxels, more than sixteen bits count. The programs have room for its masks and its light, and for no volume of it.
+const DEEP: [u64; 3] = [AXIS, AXIS, 5];
+/// Its voxels about 65,536, which sixteen bits take for 0, and its last.
+const PAST_SIXTEEN_BITS: [usize; 5] = [65_535, 65_536, 65_537, 65_536 + 300, 81_919];
 /// Least corner and edge on a long axis: edges that are no whole numbers, the widest and the narrowest.
 const EDGES: [(f32, f32); 5] = [(0.1, 0.3), (-0.7, 0.011), (3.3, 1.3), (-4096.0, 64.0), (1.0, 1.0 / 1024.0)];
 /// Cells and planes between cells about the old limit and about the ends.
@@ -151,6 +155,9 @@ fn good_masks(c: &mut Chance) -> Vec<Item> {
     over(c, grid(FLAT[0]), large.flatten().collect(), 2);
     // the last of each row: what is active about it stays in its row
     over(c, grid(FLAT[0]), (0..128).flat_map(|y| small_triangle([127.5, y as f32 + 0.5, 1.5], 0.25)).collect(), 1);
+    for (form, voxel) in PAST_SIXTEEN_BITS.into_iter().enumerate() {
+        over(c, grid(DEEP), speck(&grid(DEEP), voxel).to_vec(), 1 + form % 2);
+    }
     out
 }
 
@@ -210,6 +217,8 @@ fn good_sun(c: &mut Chance) -> Vec<Item> {
     out.push(sun(axes, 2, shade(2, 0, -200.0, 0.0), (0..n).map(|i| (i % 128 == 127) as u8).collect()));
     out.push(sun(axes, 2, shade(2, 0, -200.0, 0.7), marked(n, &[n - 1, n - 129, 16384, 16383])));
     out.push(sun(axes, 2, shade(2, 0, -200.0, 0.7), vec![0; n]));
+    let deep = voxels(&grid(DEEP));
+    out.extend(PAST_SIXTEEN_BITS.map(|voxel| sun(DEEP, 2, shade(2, 0, -200.0, 0.7), only(deep, voxel))));
     out
 }
 
@@ -254,6 +263,14 @@ fn good_blurs(c: &mut Chance) -> Vec<Item> {
     }
     let n = voxels(&grid(FLAT[0]));
     out.push(coefficient_blur(FLAT[0], (0..16 * n).map(|i| (i % 2048 * 37 % 101) as f32 / 8.0).collect()));
+    out.push(light_blur(DEEP, deep_light()));
+    out
+}
+
+/// One number all over, and others past sixteen bits.
+fn deep_light() -> Vec<f32> {
+    let mut out = vec![0.5; voxels(&grid(DEEP))];
+    PAST_SIXTEEN_BITS.into_iter().enumerate().for_each(|(k, i)| out[i] = 1.0 + k as f32 / 16.0);
     out
 }
 
@@ -305,6 +322,8 @@ fn good_lookups(c: &mut Chance) -> Vec<Item> {
         ends(n).into_iter().for_each(|i| light[i] = c.unit() + 1.0);
         over(c, grid(axes), light, 40);
     }
+    let past = PAST_SIXTEEN_BITS.map(|i| [(i % 128) as f32 + 0.25, (i / 128 % 128) as f32 + 0.5, (i / 16_384) as f32 + 0.125]);
+    out.push(Item::LightLookups { grid: grid(DEEP), light: deep_light(), positions: past.to_vec() });
     for axes in LONG {
         out.extend([0, 32, 63, 126, 127].map(|index| Item::One(part(axes, index, index % 2 == 1))));
     }
