@@ -1,6 +1,6 @@
 -- The rows at their limits, computed from the definitions: the bound itself, the next number past it, −0, NaN and the infinities.
 use mathlib.Core.Path.{_≡_, refl}
-use mathlib.Core.Bool.{true, false}
+use mathlib.Core.Bool.{Bool, true, false}
 use mathlib.Core.List.{List, [], _∷_, map}
 use Prim.Native.Nat.{ℕ}
 use lib.ListN.{replicate}

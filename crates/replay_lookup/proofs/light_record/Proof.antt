@@ -6,8 +6,8 @@ use borrow.Author.Needs.{needs}
 use Rattle.replay_lookup.proofs.light_record.Statement.{statement}
 use Rattle.replay_lookup.proofs.light_record.Tie as tie
 
-room-for-light-requires : tie.Need-room-for-light-requires
-room-for-light-requires c κs = search needs
+room-for-wide-light-requires : tie.Need-room-for-wide-light-requires
+room-for-wide-light-requires c κs = search needs
 
 fit-requires : tie.Need-fit-requires
 fit-requires c κs = search needs
@@ -34,7 +34,7 @@ pub light-record-spec : {M : Type 1} → statement M
 light-record-spec =
     tie.close
     (tie.spec
-    room-for-light-requires
+    room-for-wide-light-requires
     fit-requires
     fits-requires
     held-requires

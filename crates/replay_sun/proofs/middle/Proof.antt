@@ -12,8 +12,8 @@ room-for-numbers-requires c κs = search needs
 room-for-mask-requires : tie.Need-room-for-mask-requires
 room-for-mask-requires c κs = search needs
 
-room-for-lights-requires : tie.Need-room-for-lights-requires
-room-for-lights-requires c κs = search needs
+room-for-wide-light-requires : tie.Need-room-for-wide-light-requires
+room-for-wide-light-requires c κs = search needs
 
 nth-requires : tie.Need-nth-requires
 nth-requires c κs = search needs
@@ -72,7 +72,7 @@ middle-spec =
     (tie.spec
     room-for-numbers-requires
     room-for-mask-requires
-    room-for-lights-requires
+    room-for-wide-light-requires
     nth-requires
     fit-requires
     nth-requires-2

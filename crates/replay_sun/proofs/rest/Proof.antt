@@ -6,8 +6,8 @@ use borrow.Author.Needs.{needs}
 use Rattle.replay_sun.proofs.rest.Statement.{statement}
 use Rattle.replay_sun.proofs.rest.Tie as tie
 
-room-for-lights-requires : tie.Need-room-for-lights-requires
-room-for-lights-requires c κs = search needs
+room-for-wide-light-requires : tie.Need-room-for-wide-light-requires
+room-for-wide-light-requires c κs = search needs
 
 room-for-distances-requires : tie.Need-room-for-distances-requires
 room-for-distances-requires c κs = search needs
@@ -79,7 +79,7 @@ pub rest-spec : {M : Type 1} → statement M
 rest-spec =
     tie.close
     (tie.spec
-    room-for-lights-requires
+    room-for-wide-light-requires
     room-for-distances-requires
     room-for-places-requires
     nth-requires

@@ -3,20 +3,14 @@ use native.Mathlib.Omega.{arith}
 use mathlib.Core.Path.{sym}
 use lib.Seq.{length-take-le}
 use borrow.Author.Needs.{needs}
-use Rattle.replay_lookup.proofs.coefficient_record.Statement.{statement}
-use Rattle.replay_lookup.proofs.coefficient_record.Tie as tie
+use Rattle.replay_lookup.proofs.wide_coefficients.Statement.{statement}
+use Rattle.replay_lookup.proofs.wide_coefficients.Tie as tie
 
-room-for-volume-requires : tie.Need-room-for-volume-requires
-room-for-volume-requires c κs = search needs
+room-for-wide-volume-requires : tie.Need-room-for-wide-volume-requires
+room-for-wide-volume-requires c κs = search needs
 
 fit-requires : tie.Need-fit-requires
 fit-requires c κs = search needs
-
-fits-requires : tie.Need-fits-requires
-fits-requires c κs = search needs
-
-held-requires : tie.Need-held-requires
-held-requires c κs = search needs
 
 array-borrow-prefix-volume : tie.Need-array-borrow-prefix-volume
 array-borrow-prefix-volume c = search needs
@@ -30,14 +24,12 @@ filled-requires c κs = search needs
 returns : tie.Need-returns
 returns c = search needs
 
-pub coefficient-record-spec : {M : Type 1} → statement M
-coefficient-record-spec =
+pub wide-coefficients-spec : {M : Type 1} → statement M
+wide-coefficients-spec =
     tie.close
     (tie.spec
-    room-for-volume-requires
+    room-for-wide-volume-requires
     fit-requires
-    fits-requires
-    held-requires
     array-borrow-prefix-volume
     slice-aggregate-filled
     filled-requires

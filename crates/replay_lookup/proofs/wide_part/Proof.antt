@@ -3,14 +3,14 @@ use native.Mathlib.Omega.{arith}
 use mathlib.Core.Path.{sym}
 use lib.Seq.{length-take-le}
 use borrow.Author.Needs.{needs}
-use Rattle.replay_lookup.proofs.part_record.Statement.{statement}
-use Rattle.replay_lookup.proofs.part_record.Tie as tie
+use Rattle.replay_lookup.proofs.wide_part.Statement.{statement}
+use Rattle.replay_lookup.proofs.wide_part.Tie as tie
 
-room-for-volume-requires : tie.Need-room-for-volume-requires
-room-for-volume-requires c κs = search needs
+room-for-wide-volume-requires : tie.Need-room-for-wide-volume-requires
+room-for-wide-volume-requires c κs = search needs
 
-room-for-volume-requires-2 : tie.Need-room-for-volume-requires-2
-room-for-volume-requires-2 c κs = search needs
+room-for-wide-volume-requires-2 : tie.Need-room-for-wide-volume-requires-2
+room-for-wide-volume-requires-2 c κs = search needs
 
 past-requires : tie.Need-past-requires
 past-requires c κs = search needs
@@ -20,15 +20,6 @@ fit-requires c κs = search needs
 
 fit-requires-2 : tie.Need-fit-requires-2
 fit-requires-2 c κs = search needs
-
-fits-requires : tie.Need-fits-requires
-fits-requires c κs = search needs
-
-fits-requires-2 : tie.Need-fits-requires-2
-fits-requires-2 c κs = search needs
-
-held-requires : tie.Need-held-requires
-held-requires c κs = search needs
 
 array-borrow-prefix-volume : tie.Need-array-borrow-prefix-volume
 array-borrow-prefix-volume c = search needs
@@ -48,18 +39,15 @@ part-requires c κs = search needs
 returns : tie.Need-returns
 returns c = search needs
 
-pub part-record-spec : {M : Type 1} → statement M
-part-record-spec =
+pub wide-part-spec : {M : Type 1} → statement M
+wide-part-spec =
     tie.close
     (tie.spec
-    room-for-volume-requires
-    room-for-volume-requires-2
-    past-requires
+    room-for-wide-volume-requires
+    room-for-wide-volume-requires-2
     fit-requires
+    past-requires
     fit-requires-2
-    fits-requires
-    fits-requires-2
-    held-requires
     array-borrow-prefix-volume
     slice-aggregate-part
     array-borrow-prefix-scratch

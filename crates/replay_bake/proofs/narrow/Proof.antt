@@ -3,8 +3,8 @@ use native.Mathlib.Omega.{arith}
 use mathlib.Core.Path.{sym}
 use lib.Seq.{length-take-le}
 use borrow.Author.Needs.{needs}
-use Rattle.replay_bake.proofs.third.Statement.{statement}
-use Rattle.replay_bake.proofs.third.Tie as tie
+use Rattle.replay_bake.proofs.narrow.Statement.{statement}
+use Rattle.replay_bake.proofs.narrow.Tie as tie
 
 room-for-light-requires : tie.Need-room-for-light-requires
 room-for-light-requires c κs = search needs
@@ -75,8 +75,8 @@ same-length-6 c = search needs
 returns : tie.Need-returns
 returns c = search needs
 
-pub third-spec : {M : Type 1} → statement M
-third-spec =
+pub narrow-spec : {M : Type 1} → statement M
+narrow-spec =
     tie.close
     (tie.spec
     room-for-light-requires
