@@ -218,7 +218,8 @@ fn good_sun(c: &mut Chance) -> Vec<Item> {
     out.push(sun(axes, 2, shade(2, 0, -200.0, 0.7), marked(n, &[n - 1, n - 129, 16384, 16383])));
     out.push(sun(axes, 2, shade(2, 0, -200.0, 0.7), vec![0; n]));
     let deep = voxels(&grid(DEEP));
-    out.extend(PAST_SIXTEEN_BITS.map(|voxel| sun(DEEP, 2, shade(2, 0, -200.0, 0.7), only(deep, voxel))));
+    // the last two layers lie in the shade, and the first, in which sixteen bits would look for them, does not
+    out.extend(PAST_SIXTEEN_BITS.map(|voxel| sun(DEEP, 0, shade(0, 2, 3.25, 0.7), only(deep, voxel))));
     out
 }
 
