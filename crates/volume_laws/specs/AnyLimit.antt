@@ -78,7 +78,7 @@ faulty-where-bad s = by (headed s)
     by false = refl
 
 faulty-above : (most : ℕ) (s : List ℕ) → Above most (axesAt s) → faultyUnder most s ≡ true
-faulty-above most s h = rw (above-limit most (axesAt s) h) (faulty-where-bad s)
+faulty-above most s h = ap (λ (b : Bool). faultyWhere b s) (above-limit most (axesAt s) h) ∙ faulty-where-bad s
 
 pub axes-above : (most : ℕ) (s : List ℕ) (r : Head) → Above most (axesAt s) → FileAxesUnder most s r → r ≡ noHead 12
 unfolding firstOf unlessRefused
