@@ -2,6 +2,7 @@
 -- same of not before. A hit's distance is a number.
 use mathlib.Core.Path.{_≡_, refl, sym, _∙_}
 use mathlib.Core.Bool.{Bool, true, false, _||_, _&&_, false≢true, and-eq-true-iff}
+use mathlib.Core.List.{List}
 use Prim.Native.Nat.{ℕ, _≤_}
 use native.Mathlib.Omega.{arith}
 use borrow.Author.Tests.{lt-ltb, ltb-true, ltb-false}
@@ -10,17 +11,19 @@ use lib.Ieee.{Float, nan, inf, fin, lt, eq, le, isNan}
 use Rattle.floats.specs.Choice.{magnitudeOf}
 use Rattle.floats.specs.OrderLaws.{lt-transitive, lt-negatively-transitive, lt-tells-apart, eq-symmetric, eq-numbers}
 use Rattle.vectors.specs.declared.Ray.{Ray}
-use Rattle.vectors.specs.declared.Triangle.{Triangle}
-use Rattle.triangle.specs.Meet.{meetOf, largest32}
+use Rattle.triangle.specs.Meet.{largest32}
 use Rattle.triangle.specs.Laws.{hit-met}
 use Rattle.triangle.specs.declared.Meet.the-variants.{Hit}
+use Rattle.panels.specs.Panels.{metAt}
+use Rattle.panels.specs.PanelLaws.{met-answered}
 use Rattle.hits.specs.Hits.{Struck, before}
 use Rattle.hits.specs.Order.{lt-eq, eq-lt, eq-transitive}
 
 -- a hit's distance is a number
-pub hit-number : (ray : Ray) (triangle : Triangle) (t u v : Float) → meetOf ray triangle ≡ Hit t u v → isNan t ≡ false
+pub hit-number : (points : List Float) (uses kinds : List ℕ) (ray : Ray) (i : ℕ) (t u v : Float) (front : Bool) → metAt points uses kinds ray i ≡ Hit t u v front
+    → isNan t ≡ false
 unfolding isNan le lt eq magnitudeOf
-hit-number ray triangle t u v e = by t (hit-met ray triangle t u v e .finite)
+hit-number points uses kinds ray i t u v front e = by t (hit-met ray _ t u v front (met-answered points uses kinds ray i t u v front e .0) .finite)
   where
     by : (x : Float) → le (magnitudeOf x) largest32 ≡ true → isNan x ≡ false
     by nan h = absurd (false≢true h)

@@ -1,4 +1,4 @@
--- What the hits are: exactly those that the test answers, each with its place, and each place within the list.
+-- What the hits are: exactly the triangles that are met, each with its place, and each place within the list.
 use mathlib.Core.Path.{_≡_, refl}
 use mathlib.Core.Bool.{Bool, true, false, cond}
 use mathlib.Core.Logic.{_⊎_, inl, inr, ⊎-elim}
@@ -8,11 +8,11 @@ use native.Mathlib.Nat.{eq-or-lt-of-le, le-of-suc-le-suc, not-suc-le-zero}
 use native.Mathlib.Omega.{arith}
 use lib.ListN.{length, getD}
 use lib.Ieee.{Float}
+use Rattle.names.specs.Scene.{Scene}
 use Rattle.vectors.specs.declared.Ray.{Ray}
-use Rattle.triangle.specs.Meet.{meetOf}
-use Rattle.triangle.specs.Places.{triangleAt}
 use Rattle.triangle.specs.declared.Meet.{Meet}
 use Rattle.triangle.specs.declared.Meet.the-variants.{Miss, Hit}
+use Rattle.panels.specs.Panels.{meetAt}
 use Rattle.hits.specs.Hits.{Struck, struck, before, insertOf, withMeet, hitsOf, placesOf}
 
 -- ---- one inserted
@@ -51,44 +51,45 @@ put-only h {k} (g ∷ gs) m = by (before h g) m (λ n. put-only h gs n)
 -- ---- all of them
 
 -- a hit of the ray at a place below n
-pub record Stands (points : List Float) (ray : Ray) (n : ℕ) (h : Struck) : Type 0 where
+pub record Stands (scene : Scene) (ray : Ray) (n : ℕ) (h : Struck) : Type 0 where
   pub within : h .place < n
   pub first : Float
   pub second : Float
-  pub met : meetOf ray (triangleAt points (h .place)) ≡ Hit (h .distance) first second
+  pub front : Bool
+  pub met : meetAt scene ray (h .place) ≡ Hit (h .distance) first second front
 
-wider : {points : List Float} {ray : Ray} {n : ℕ} {h : Struck} → Stands points ray n h → Stands points ray (suc n) h
-wider s = record { within = omega arith; first = s .first; second = s .second; met = s .met }
+wider : {scene : Scene} {ray : Ray} {n : ℕ} {h : Struck} → Stands scene ray n h → Stands scene ray (suc n) h
+wider s = record { within = omega arith; first = s .first; second = s .second; front = s .front; met = s .met }
 
--- every hit of the list is one that the test answers
-pub hits-only : (points : List Float) (ray : Ray) (n : ℕ) {h : Struck} → List·Memᴰ h (hitsOf points ray n) → Stands points ray n h
+-- every hit of the list is a triangle that is met
+pub hits-only : (scene : Scene) (ray : Ray) (n : ℕ) {h : Struck} → List·Memᴰ h (hitsOf scene ray n) → Stands scene ray n h
 unfolding hitsOf withMeet
-hits-only points ray zero m = absurd (List·Memᴰ·not-nil m)
-hits-only points ray (suc n) {h} m = by (meetOf ray (triangleAt points n)) refl m (λ r. hits-only points ray n r)
+hits-only scene ray zero m = absurd (List·Memᴰ·not-nil m)
+hits-only scene ray (suc n) {h} m = by (meetAt scene ray n) refl m (λ r. hits-only scene ray n r)
   where
-    by : (a : Meet) → meetOf ray (triangleAt points n) ≡ a → List·Memᴰ h (withMeet (hitsOf points ray n) n a)
-        → (List·Memᴰ h (hitsOf points ray n) → Stands points ray n h) → Stands points ray (suc n) h
+    by : (a : Meet) → meetAt scene ray n ≡ a → List·Memᴰ h (withMeet (hitsOf scene ray n) n a)
+        → (List·Memᴰ h (hitsOf scene ray n) → Stands scene ray n h) → Stands scene ray (suc n) h
     by Miss e q r = wider (r q)
-    by (Hit t u v) e q r =
+    by (Hit t u v front) e q r =
         ⊎-elim
-        (λ (s : h ≡ struck t n). let z : h .place ≡ n = rw s in record { within = omega arith; first = u; second = v; met = rw s e })
+        (λ (s : h ≡ struck t n). let z : h .place ≡ n = rw s in record { within = omega arith; first = u; second = v; front = front; met = rw s e })
         (λ s. wider (r s))
-        (put-only (struck t n) (hitsOf points ray n) q)
+        (put-only (struck t n) (hitsOf scene ray n) q)
 
--- and every hit that the test answers stands in the list
-pub hits-all : (points : List Float) (ray : Ray) (n i : ℕ) (t u v : Float) → i < n → meetOf ray (triangleAt points i) ≡ Hit t u v
-    → List·Memᴰ (struck t i) (hitsOf points ray n)
+-- and every triangle that is met stands in the list
+pub hits-all : (scene : Scene) (ray : Ray) (n i : ℕ) (t u v : Float) (front : Bool) → i < n → meetAt scene ray i ≡ Hit t u v front
+    → List·Memᴰ (struck t i) (hitsOf scene ray n)
 unfolding hitsOf withMeet
-hits-all points ray zero i t u v h e = absurd (not-suc-le-zero h)
-hits-all points ray (suc n) i t u v h e =
+hits-all scene ray zero i t u v front h e = absurd (not-suc-le-zero h)
+hits-all scene ray (suc n) i t u v front h e =
     ⊎-elim
-    (λ (s : i ≡ n). let f : meetOf ray (triangleAt points n) ≡ Hit t u v = rw s at e in rw (s, f) (put-here (struck t n) (hitsOf points ray n)))
-    (λ (s : i < n). kept (meetOf ray (triangleAt points n)) (hits-all points ray n i t u v s e))
+    (λ (s : i ≡ n). let f : meetAt scene ray n ≡ Hit t u v front = rw s at e in rw (s, f) (put-here (struck t n) (hitsOf scene ray n)))
+    (λ (s : i < n). kept (meetAt scene ray n) (hits-all scene ray n i t u v front s e))
     (eq-or-lt-of-le (le-of-suc-le-suc h))
   where
-    kept : (a : Meet) → List·Memᴰ (struck t i) (hitsOf points ray n) → List·Memᴰ (struck t i) (withMeet (hitsOf points ray n) n a)
+    kept : (a : Meet) → List·Memᴰ (struck t i) (hitsOf scene ray n) → List·Memᴰ (struck t i) (withMeet (hitsOf scene ray n) n a)
     kept Miss m = m
-    kept (Hit s p q) m = put-kept (struck s n) (hitsOf points ray n) m
+    kept (Hit s p q b) m = put-kept (struck s n) (hitsOf scene ray n) m
 
 -- ---- places
 
@@ -99,5 +100,5 @@ nth (h ∷ hs) zero p = (h, List·Memᴰ·head refl, refl)
 nth (h ∷ hs) (suc j) p = let r = nth hs j (le-of-suc-le-suc p) in (r .0, List·Memᴰ·tail (r .1), r .2)
 
 -- every place of the hits of the first n triangles is below n
-pub places-below : (points : List Float) (ray : Ray) (n j : ℕ) → j < length (placesOf (hitsOf points ray n)) → getD (placesOf (hitsOf points ray n)) j 0 < n
-places-below points ray n j p = let r = nth (hitsOf points ray n) j p in rw (r .2) (hits-only points ray n (r .1) .within)
+pub places-below : (scene : Scene) (ray : Ray) (n j : ℕ) → j < length (placesOf (hitsOf scene ray n)) → getD (placesOf (hitsOf scene ray n)) j 0 < n
+places-below scene ray n j p = let r = nth (hitsOf scene ray n) j p in rw (r .2) (hits-only scene ray n (r .1) .within)

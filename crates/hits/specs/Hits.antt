@@ -6,11 +6,11 @@ use lib.ListN.{take, drop}
 use lib.Dec.{ltb}
 use lib.Ieee as Ieee
 use lib.Ieee.{Float}
+use Rattle.names.specs.Scene.{Scene}
 use Rattle.vectors.specs.declared.Ray.{Ray}
-use Rattle.triangle.specs.Meet.{meetOf}
-use Rattle.triangle.specs.Places.{triangleAt}
 use Rattle.triangle.specs.declared.Meet.{Meet}
 use Rattle.triangle.specs.declared.Meet.the-variants.{Miss, Hit}
+use Rattle.panels.specs.Panels.{meetAt}
 
 -- a hit: how far, and the place of the triangle
 pub record Struck : Type 0 where
@@ -31,12 +31,12 @@ insertOf h (g ∷ gs) = cond (before h g) (h ∷ g ∷ gs) (g ∷ insertOf h gs)
 -- the hits with a meeting at place i among them
 unfoldable pub withMeet : List Struck → ℕ → Meet → List Struck
 withMeet hs i Miss = hs
-withMeet hs i (Hit t u v) = insertOf (struck t i) hs
+withMeet hs i (Hit t u v front) = insertOf (struck t i) hs
 
--- the hits of the first n triangles of a list of points
-unfoldable pub hitsOf : List Float → Ray → ℕ → List Struck
-hitsOf points ray zero = []
-hitsOf points ray (suc i) = withMeet (hitsOf points ray i) i (meetOf ray (triangleAt points i))
+-- the hits of the first n triangles of a scene
+unfoldable pub hitsOf : Scene → Ray → ℕ → List Struck
+hitsOf scene ray zero = []
+hitsOf scene ray (suc i) = withMeet (hitsOf scene ray i) i (meetAt scene ray i)
 
 abbrev pub placesOf : List Struck → List ℕ
 placesOf hs = map (λ (h : Struck). h .place) hs

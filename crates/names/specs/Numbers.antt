@@ -20,9 +20,16 @@ triangleLimit = 4096
 abbrev pub materialLimit : ℕ
 materialLimit = 256
 
--- "kind other than 0 opaque or 1 translucent"
+-- "0 opaque or 1 translucent"; "Material kind 2 is opaque from the front and absent from the back": a panel
+abbrev pub opaqueKind : ℕ
+opaqueKind = 0
+
+abbrev pub panelKind : ℕ
+panelKind = 2
+
+-- "6 now from kind 3 up"
 abbrev pub lastKind : ℕ
-lastKind = 1
+lastKind = 2
 
 -- "Up to eight point lamps per hall"
 abbrev pub lampLimit : ℕ

@@ -12,7 +12,7 @@ pub record Scene : Type 0 where
   pub points : List Float
   -- one a triangle: its material's place
   pub uses : List ℕ
-  -- one a material: 0 opaque, 1 translucent
+  -- one a material: 0 opaque, 1 translucent, 2 a panel, opaque from the front and absent from the back
   pub kinds : List ℕ
   -- seven a material: base colour RGB, emissive RGB, transmission
   pub numbers : List Float

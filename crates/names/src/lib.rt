@@ -8,7 +8,11 @@ pub const TRIANGLE_LIMIT: usize = 4096;
 
 pub const MATERIAL_LIMIT: usize = 256;
 
-pub const LAST_KIND: u8 = 1;
+pub const OPAQUE_KIND: u8 = 0;
+
+pub const PANEL_KIND: u8 = 2;
+
+pub const LAST_KIND: u8 = 2;
 
 pub const LAMP_LIMIT: usize = 8;
 

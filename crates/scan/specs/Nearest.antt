@@ -9,10 +9,9 @@ use lib.Ieee as Ieee
 use lib.Ieee.{Float}
 use Rattle.names.specs.Scene.{Scene}
 use Rattle.vectors.specs.declared.Ray.{Ray}
-use Rattle.triangle.specs.Meet.{meetOf}
-use Rattle.triangle.specs.Places.{triangleAt}
 use Rattle.triangle.specs.declared.Meet.{Meet}
 use Rattle.triangle.specs.declared.Meet.the-variants.{Miss, Hit}
+use Rattle.panels.specs.Panels.{meetAt}
 use Rattle.scan.specs.declared.Nearest.{Nearest}
 use Rattle.scan.specs.declared.Nearest.the-variants.{Nothing, At}
 
@@ -23,12 +22,8 @@ beats t i s j = Ieee.lt t s || (Ieee.eq t s && ltb j i)
 -- the better of what is held and a meeting at place i
 unfoldable pub nearerOf : Nearest → ℕ → Meet → Nearest
 nearerOf best i Miss = best
-nearerOf Nothing i (Hit t u v) = At i t u v
-nearerOf (At j s p q) i (Hit t u v) = cond (beats t i s j) (At i t u v) (At j s p q)
-
--- what the test answers of the triangle at place i
-abbrev pub meetAt : Scene → Ray → ℕ → Meet
-meetAt scene ray i = meetOf ray (triangleAt (scene .points) i)
+nearerOf Nothing i (Hit t u v front) = At i t u v front
+nearerOf (At j s p q side) i (Hit t u v front) = cond (beats t i s j) (At i t u v front) (At j s p q side)
 
 -- the nearest hit among the first n triangles
 unfoldable pub nearestTo : Scene → Ray → ℕ → Nearest

@@ -1,4 +1,4 @@
--- An opaque hit lets no light through, at whatever place of the order it stands. So the scan for a transmittance may end at the first that it meets, and
+-- A hit that stops light lets none through, at whatever place of the order it stands. So the scan for a transmittance may end at the first that it meets, and
 -- where it meets none the product need not ask.
 use mathlib.Core.Path.{_≡_, refl, ap}
 use mathlib.Core.Bool.{Bool, true, false, cond}
@@ -6,7 +6,6 @@ use mathlib.Core.Logic.{⊎-elim}
 use mathlib.Core.List.{List, [], _∷_, List·Memᴰ, List·Memᴰ·head, List·Memᴰ·tail, List·Memᴰ·cases-cons, List·Memᴰ·not-nil}
 use Prim.Native.Nat.{ℕ, _<_}
 use lib.ListN.{length}
-use lib.Dec.{eqb}
 use lib.Ieee as Ieee
 use lib.Ieee.{Float, binary32}
 use Rattle.names.specs.Bits.{zero32, one32}
@@ -14,21 +13,21 @@ use Rattle.names.specs.Numbers.{faintLimit}
 use Rattle.names.specs.Scene.{Scene}
 use Rattle.vectors.specs.declared.Ray.{Ray}
 use Rattle.triangle.specs.declared.Meet.the-variants.{Hit}
-use Rattle.scan.specs.Nearest.{meetAt}
+use Rattle.panels.specs.Panels.{kindAt, stopsLight, meetAt}
 use Rattle.hits.specs.Hits.{Struck, insertOf, placesOf}
 use Rattle.hits.specs.HitLaws.{put-only, hits-all}
-use Rattle.scan.specs.Transmittance.{kindAt, transmissionAt, passOf, transmittanceOf}
+use Rattle.scan.specs.Transmittance.{transmissionAt, passOf, transmittanceOf}
 
 either-way : (b : Bool) (x : Float) → cond b x x ≡ x
 either-way true x = refl
 either-way false x = refl
 
-opaque-pass : (uses kinds : List ℕ) (numbers : List Float) (w : Float) (i : ℕ) (is : List ℕ) → List·Memᴰ i is → kindAt uses kinds i ≡ 0
+opaque-pass : (uses kinds : List ℕ) (numbers : List Float) (w : Float) (i : ℕ) (is : List ℕ) → List·Memᴰ i is → stopsLight (kindAt uses kinds i) ≡ true
     → passOf uses kinds numbers w is ≡ zero32
 unfolding passOf
 opaque-pass uses kinds numbers w i [] m e = absurd (List·Memᴰ·not-nil m)
 opaque-pass uses kinds numbers w i (j ∷ is) m e =
-    ⊎-elim (λ (h : i ≡ j). let f : kindAt uses kinds j ≡ 0 = rw h at e in rw f refl)
+    ⊎-elim (λ (h : i ≡ j). let f : stopsLight (kindAt uses kinds j) ≡ true = rw h at e in rw f refl)
     (λ h. rw (opaque-pass uses kinds numbers _ i is h e, either-way, either-way) refl)
     (List·Memᴰ·cases-cons m)
 
@@ -36,24 +35,24 @@ place-of : {h : Struck} (hs : List Struck) → List·Memᴰ h hs → List·Mem�
 place-of [] m = absurd (List·Memᴰ·not-nil m)
 place-of (g ∷ hs) m = ⊎-elim (λ e. List·Memᴰ·head (ap (λ (x : Struck). x .place) e)) (λ n. List·Memᴰ·tail (place-of hs n)) (List·Memᴰ·cases-cons m)
 
--- a hit of an opaque triangle, at whatever place of the order, lets no light through
-pub opaque-dark : (scene : Scene) (ray : Ray) (i : ℕ) (t u v : Float) → i < length (scene .uses) → meetAt scene ray i ≡ Hit t u v
-    → kindAt (scene .uses) (scene .kinds) i ≡ 0 → transmittanceOf scene ray ≡ zero32
+-- a triangle that stops light and is met, at whatever place of the order, lets none through
+pub opaque-dark : (scene : Scene) (ray : Ray) (i : ℕ) (t u v : Float) (front : Bool) → i < length (scene .uses) → meetAt scene ray i ≡ Hit t u v front
+    → stopsLight (kindAt (scene .uses) (scene .kinds) i) ≡ true → transmittanceOf scene ray ≡ zero32
 unfolding transmittanceOf
-opaque-dark scene ray i t u v h e k =
+opaque-dark scene ray i t u v front h e k =
     opaque-pass (scene .uses) (scene .kinds) (scene .numbers) one32 i _
-    (place-of _ (hits-all (scene .points) ray (length (scene .uses)) i t u v h e)) k
+    (place-of _ (hits-all scene ray (length (scene .uses)) i t u v front h e)) k
 
--- what is left of w after the hits at these places, of which none is opaque
+-- what is left of w after the hits at these places, of which none stops light
 unfoldable pub clearPassOf : List ℕ → List Float → Float → List ℕ → Float
 clearPassOf uses numbers w [] = w
 clearPassOf uses numbers w (i ∷ is) =
     let x = Ieee.mul binary32 w (transmissionAt uses numbers i) in
     cond (Ieee.le x faintLimit) zero32 (clearPassOf uses numbers x is)
 
--- no hit of a list is opaque
+-- no hit of a list stops light
 abbrev pub NoneOpaque : List ℕ → List ℕ → List Struck → Type 0
-NoneOpaque uses kinds hs = (h : Struck) → List·Memᴰ h hs → eqb (kindAt uses kinds (h .place)) 0 ≡ false
+NoneOpaque uses kinds hs = (h : Struck) → List·Memᴰ h hs → stopsLight (kindAt uses kinds (h .place)) ≡ false
 
 pub clear-pass : (uses kinds : List ℕ) (numbers : List Float) (w : Float) (hs : List Struck) → NoneOpaque uses kinds hs
     → passOf uses kinds numbers w (placesOf hs) ≡ clearPassOf uses numbers w (placesOf hs)
@@ -62,7 +61,7 @@ clear-pass uses kinds numbers w [] n = refl
 clear-pass uses kinds numbers w (h ∷ hs) n =
     rw (n h (List·Memᴰ·head refl), clear-pass uses kinds numbers (Ieee.mul binary32 w (transmissionAt uses numbers (h .place))) hs (λ g m. n g (List·Memᴰ·tail m)))
 
--- one more that is not opaque
-pub none-opaque-put : (uses kinds : List ℕ) (h : Struck) (hs : List Struck) → eqb (kindAt uses kinds (h .place)) 0 ≡ false → NoneOpaque uses kinds hs
+-- one more that does not stop light
+pub none-opaque-put : (uses kinds : List ℕ) (h : Struck) (hs : List Struck) → stopsLight (kindAt uses kinds (h .place)) ≡ false → NoneOpaque uses kinds hs
     → NoneOpaque uses kinds (insertOf h hs)
 none-opaque-put uses kinds h hs e n g m = ⊎-elim (λ (f : g ≡ h). rw f e) (λ k. n g k) (put-only h hs m)

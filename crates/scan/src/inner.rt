@@ -4,13 +4,11 @@ ghost use Prim.Native.Nat.{ℕ, _+_, _*_, _≤_, _<_};
 ghost use lib.ListN.{length, getD};
 ghost use Rattle.names.specs.Bits.{one32};
 ghost use Rattle.names.specs.Scene.{Sound, sceneOf};
-ghost use Rattle.triangle.specs.Meet.{meetOf};
-ghost use Rattle.triangle.specs.Places.{triangleAt};
 ghost use Rattle.triangle.specs.declared.Meet.the-variants.{Hit};
 ghost use Rattle.scan.specs.Nearest.{beats, nearerOf, nearestOf};
 ghost use Rattle.scan.specs.FirstHit.{FirstFrom};
 ghost use Rattle.scan.specs.OpaqueLaws.{clearPassOf};
-ghost use Rattle.scan.specs.Transmittance.{kindAt, transmittanceOf};
+ghost use Rattle.scan.specs.Transmittance.{transmittanceOf};
 use super::Nearest;
 use names::FAINT_LIMIT;
 use triangle::Meet;
@@ -18,8 +16,7 @@ use vectors::Ray;
 
 // ---- the nearest hit
 
-// The nearest hit of the ray among all triangles; among equal distances the one of the highest place. The materials are not read: a later
-// request has them decide whether a triangle is met.
+// The nearest hit of the ray among all triangles that count; among equal distances the one of the highest place.
 pub fn nearest(points: &[f32], uses: &[u32], kinds: &[u8], numbers: &[f32], ray: Ray) -> Nearest
     requires { ⌜ Sound (sceneOf (now points) (now uses) (now kinds) (now numbers)) ⌝ }
     ensures { λ r. ⌜ r ≡ nearestOf (sceneOf (now (points .entry)) (now (uses .entry)) (now (kinds .entry)) (now (numbers .entry))) ray ⌝ }
@@ -28,13 +25,13 @@ pub fn nearest(points: &[f32], uses: &[u32], kinds: &[u8], numbers: &[f32], ray:
     let mut best = Nearest::Nothing;
     let mut i = 0;
     while i < n {
-        let f = first_hit(points, i, n, ray);
+        let f = first_hit(points, uses, kinds, i, n, ray);
         match f {
             Nearest::Nothing => {
                 i = n;
             }
-            Nearest::At(j, t, u, v) => {
-                best = nearer(best, j, t, u, v);
+            Nearest::At(j, t, u, v, front) => {
+                best = nearer(best, j, t, u, v, front);
                 i = j + 1;
             }
         }
@@ -43,14 +40,14 @@ pub fn nearest(points: &[f32], uses: &[u32], kinds: &[u8], numbers: &[f32], ray:
 }
 
 // The better of what is held and a hit at place i.
-fn nearer(best: Nearest, i: usize, t: f32, u: f32, v: f32) -> Nearest
-    ensures { λ r. ⌜ r ≡ nearerOf best i (Hit t u v) ⌝ }
+fn nearer(best: Nearest, i: usize, t: f32, u: f32, v: f32, front: bool) -> Nearest
+    ensures { λ r. ⌜ r ≡ nearerOf best i (Hit t u v front) ⌝ }
 {
     match best {
-        Nearest::Nothing => Nearest::At(i, t, u, v),
-        Nearest::At(j, s, _, _) => {
+        Nearest::Nothing => Nearest::At(i, t, u, v, front),
+        Nearest::At(j, s, _, _, _) => {
             if better(t, i, s, j) {
-                return Nearest::At(i, t, u, v);
+                return Nearest::At(i, t, u, v, front);
             }
             best
         }
@@ -73,8 +70,8 @@ fn better(t: f32, i: usize, s: f32, j: usize) -> bool
 // ---- how much light passes
 
 // How much light passes along the ray: the hits by distance, then by place, and the product of their transmissions. The two scratch lists hold
-// the hits on the way: in the list's order first, then in their own. An opaque hit leaves nothing at whatever place of the order (`opaque-dark`), so the
-// scan ends at the first it meets; the Rust collects all hits and sorts them.
+// the hits on the way: in the list's order first, then in their own. A hit that stops light leaves nothing at whatever place of the order (`opaque-dark`),
+// so the scan ends at the first it meets; the Rust collects all hits and sorts them.
 pub fn transmittance(
     points: &[f32],
     uses: &[u32],
@@ -94,14 +91,14 @@ pub fn transmittance(
     // after a hit the next triangle is searched by itself: it is often one too, and a run would be looked over for nothing
     let mut end = n;
     while i < n {
-        let f = first_hit(points, i, end, ray);
+        let f = first_hit(points, uses, kinds, i, end, ray);
         match f {
             Nearest::Nothing => {
                 i = end;
                 end = n;
             }
-            Nearest::At(j, t, _, _) => {
-                if kind_at(uses, kinds, j) == 0 {
+            Nearest::At(j, t, _, _, _) => {
+                if panels::inner::stops_light(panels::inner::kind_at(uses, kinds, j)) {
                     return 0.0;
                 }
                 distances[m] = t;
@@ -126,16 +123,7 @@ fn one_more(i: usize, n: usize) -> usize
     n
 }
 
-// The kind of the material that the triangle at place i uses: 0 is opaque.
-fn kind_at(uses: &[u32], kinds: &[u8], i: usize) -> u8
-    requires { ⌜ (i < length (now uses)) × (getD (now uses) i 0 < length (now kinds)) ⌝ }
-    ensures { λ r. ⌜ r ≡ kindAt (now (uses .entry)) (now (kinds .entry)) i ⌝ }
-{
-    let k = uses[i] as usize;
-    kinds[k]
-}
-
-// The product of the transmissions at these places, in order. None is opaque: the scan ends at the first that is.
+// The product of the transmissions at these places, in order. None stops light: the scan ends at the first that does.
 fn product(uses: &[u32], numbers: &[f32], places: &[usize]) -> f32
     requires { ⌜ ((i : ℕ) → i < length (now uses) → getD (now uses) i 0 * 7 + 6 < length (now numbers)) ⌝ }
     requires { ⌜ ((j : ℕ) → j < length (now places) → getD (now places) j 0 < length (now uses)) ⌝ }
@@ -161,11 +149,19 @@ fn product(uses: &[u32], numbers: &[f32], places: &[usize]) -> f32
 // again.
 const RUN: usize = 8;
 
-// The first hit from place i up to place n, in the list's order. Runs of triangles that are surely missed are passed over; the test decides of a
-// triangle that may be met.
-pub fn first_hit(points: &[f32], from: usize, n: usize, ray: Ray) -> Nearest
-    requires { ⌜ (from ≤ n) × (n * 9 ≤ length (now points)) ⌝ }
-    ensures { λ r. ⌜ FirstFrom (now (points .entry)) ray from n r ⌝ }
+// The first hit from place i up to place n, in the list's order. Runs of triangles that are surely missed are passed over, whatever their materials; the test
+// decides of a triangle that may be met, and its kind and side whether it counts.
+pub fn first_hit(
+    points: &[f32],
+    uses: &[u32],
+    kinds: &[u8],
+    from: usize,
+    n: usize,
+    ray: Ray,
+) -> Nearest
+    requires { ⌜ (from ≤ n) × (n * 9 ≤ length (now points)) × (n ≤ length (now uses)) ⌝ }
+    requires { ⌜ ((i : ℕ) → i < length (now uses) → getD (now uses) i 0 < length (now kinds)) ⌝ }
+    ensures { λ r. ⌜ FirstFrom (now (points .entry)) (now (uses .entry)) (now (kinds .entry)) ray from n r ⌝ }
 {
     let mut i = from;
     while i < n {
@@ -175,13 +171,13 @@ pub fn first_hit(points: &[f32], from: usize, n: usize, ray: Ray) -> Nearest
         if c == k {
             i = j;
         } else {
-            let m = meet_at(points, j, ray);
+            let m = panels::inner::meet_at(points, uses, kinds, j, ray);
             match m {
                 Meet::Miss => {
                     i = j + 1;
                 }
-                Meet::Hit(t, u, v) => {
-                    return Nearest::At(j, t, u, v);
+                Meet::Hit(t, u, v, front) => {
+                    return Nearest::At(j, t, u, v, front);
                 }
             }
         }
@@ -194,11 +190,4 @@ fn run_of(left: usize) -> u16
     ensures { λ r. ⌜ (r ≤ left) × (0 < left → 0 < r) ⌝ }
 {
     if left < RUN { left as u16 } else { RUN as u16 }
-}
-
-fn meet_at(points: &[f32], i: usize, ray: Ray) -> Meet
-    requires { ⌜ i * 9 + 8 < length (now points) ⌝ }
-    ensures { λ r. ⌜ r ≡ meetOf ray (triangleAt (now (points .entry)) i) ⌝ }
-{
-    triangle::inner::test(ray, triangle::inner::at(points, i))
 }

@@ -1,5 +1,6 @@
 -- Where a ray meets one triangle. "A triangle whose cross has squared length at most 1e-12 is absent everywhere. The test answers a miss, or a
 -- hit that carries distance, u and v. Miss if |det|≤1e-8, u outside 0..1, v<0, u+v>1, or t outside shortest..longest. A non-finite t is a miss."
+-- "The triangle test must also say which side was met: front exactly when det is above zero."
 -- Each operation is rounded once, in the Rust's order. A comparison with NaN is false, as in IEEE 754: u must pass both its bounds, so that a NaN
 -- there misses, while v, u+v and t must fail theirs, so that a NaN there passes, as in the Rust; the last test then misses a NaN distance.
 use mathlib.Core.Bool.{Bool, cond}
@@ -42,6 +43,10 @@ solvedOf ray triangle =
       t = Ieee.mul binary32 (dotV e2 q) inverse;
     }
 
+-- whether the front was met
+abbrev pub frontOf : Solved → Bool
+frontOf s = Ieee.lt zero32 (s .det)
+
 -- what stands of the determinant, u, v and t, between two distances
 unfoldable pub judgedOf : Solved → Float → Float → Meet
 judgedOf s shortest longest =
@@ -52,7 +57,7 @@ judgedOf s shortest longest =
     (cond (Ieee.lt one32 (Ieee.add binary32 (s .u) (s .v))) Miss
     (cond (Ieee.lt (s .t) shortest) Miss
     (cond (Ieee.lt longest (s .t)) Miss
-    (cond (Ieee.le (magnitudeOf (s .t)) largest32) (Hit (s .t) (s .u) (s .v)) Miss)))))
+    (cond (Ieee.le (magnitudeOf (s .t)) largest32) (Hit (s .t) (s .u) (s .v) (frontOf s)) Miss)))))
     Miss)
     Miss)
 

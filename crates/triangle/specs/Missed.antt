@@ -18,7 +18,7 @@ use Rattle.vectors.specs.declared.Triangle.{Triangle}
 use Rattle.triangle.specs.declared.Meet.{Meet}
 use Rattle.triangle.specs.declared.Meet.the-variants.{Miss, Hit}
 use Rattle.triangle.specs.declared.Solved.{Solved}
-use Rattle.triangle.specs.Meet.{largest32, solvedOf, judgedOf, meetOf}
+use Rattle.triangle.specs.Meet.{largest32, frontOf, solvedOf, judgedOf, meetOf}
 use Rattle.triangle.specs.Laws.{judged-missed}
 use Rattle.triangle.specs.Places.{triangleAt}
 
@@ -31,19 +31,23 @@ outsideOf s shortest longest =
     || Ieee.lt (s .t) shortest
     || Ieee.lt longest (s .t)
 
+-- of a meeting at each place, those from place i up to place j are misses
+abbrev pub AllMiss : (ℕ → Meet) → ℕ → ℕ → Type 0
+AllMiss meets i j = (l : ℕ) → i ≤ l → l < j → meets l ≡ Miss
+
 -- the triangles from place i up to place j are missed
 abbrev pub Missed : List Float → Ray → ℕ → ℕ → Type 0
-Missed points ray i j = (l : ℕ) → i ≤ l → l < j → meetOf ray (triangleAt points l) ≡ Miss
+Missed points ray i j = AllMiss (λ l. meetOf ray (triangleAt points l)) i j
 
-module _ (points : List Float) (ray : Ray) where
-  pub missed-more : (i j k : ℕ) → Missed points ray i j → Missed points ray j k → Missed points ray i k
+module _ (meets : ℕ → Meet) where
+  pub missed-more : (i j k : ℕ) → AllMiss meets i j → AllMiss meets j k → AllMiss meets i k
   missed-more i j k m n l p q = by (ltb l j) refl
     where
-      by : (b : Bool) → ltb l j ≡ b → meetOf ray (triangleAt points l) ≡ Miss
+      by : (b : Bool) → ltb l j ≡ b → meets l ≡ Miss
       by true e = m l p (ltb-true l j e)
       by false e = n l (ltb-false l j e) q
 
-  pub missed-one : (i j : ℕ) → Missed points ray i j → meetOf ray (triangleAt points j) ≡ Miss → Missed points ray i (j + 1)
+  pub missed-one : (i j : ℕ) → AllMiss meets i j → meets j ≡ Miss → AllMiss meets i (j + 1)
   missed-one i j m e = missed-more i j (j + 1) m (λ l p q. let s : l ≡ j = omega arith in rw s e)
 
 some-test : (flat from to low sum near far good : Bool) (hit : Meet) → not from || low || sum || near || far ≡ true
@@ -72,5 +76,5 @@ outside-missed ray triangle h =
     (Ieee.lt (s .t) (ray .shortest))
     (Ieee.lt (ray .longest) (s .t))
     (Ieee.le (magnitudeOf (s .t)) largest32)
-    (Hit (s .t) (s .u) (s .v))
+    (Hit (s .t) (s .u) (s .v) (frontOf s))
     h)

@@ -31,7 +31,7 @@ pub fn test(ray: Ray, triangle: Triangle) -> Meet
     let m = judged(rest_solved(ray.direction, h), ray.shortest, ray.longest);
     match m {
         Meet::Miss => m,
-        Meet::Hit(_, _, _) => {
+        Meet::Hit(_, _, _, _) => {
             if absent(triangle) {
                 return Meet::Miss;
             }
@@ -124,7 +124,7 @@ fn judged(s: Solved, shortest: f32, longest: f32) -> Meet
         return Meet::Miss;
     }
     if floats::magnitude(s.t) <= LARGEST {
-        return Meet::Hit(s.t, s.u, s.v);
+        return Meet::Hit(s.t, s.u, s.v, 0.0 < s.det);
     }
     Meet::Miss
 }

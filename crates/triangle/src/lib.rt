@@ -1,11 +1,12 @@
 // Where a ray meets one triangle: document 01's module 3, the test. The order of operations is the Rust's (raytracer.rs,
-// ray_triangle_intersect). Two things are added: a triangle too thin to count is absent, and a distance that is not finite is a miss.
+// ray_triangle_intersect). Three things are added: a triangle too thin to count is absent, a distance that is not finite is a miss, and a hit says which
+// side was met.
 pub mod inner;
 
-// "The test answers a miss, or a hit that carries distance, u and v."
+// "The test answers a miss, or a hit that carries distance, u and v", and "which side was met": true for the front.
 pub enum Meet {
     Miss,
-    Hit(f32, f32, f32),
+    Hit(f32, f32, f32, bool),
 }
 
 // What the test computes before it judges: the determinant, the two barycentric numbers and the distance.

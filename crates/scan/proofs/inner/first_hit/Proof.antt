@@ -3,16 +3,19 @@
 use mathlib.Core.Path.{_≡_, sym, _∙_}
 use Prim.Native.Nat.{_+_, _-_, _≤_, _<_}
 use native.Mathlib.Omega.{arith}
-use Rattle.triangle.specs.Missed.{Missed, missed-more, missed-one}
+use lib.ListN.{length}
+use Rattle.triangle.specs.Missed.{AllMiss, missed-more, missed-one}
+use Rattle.panels.specs.Panels.{metAt}
+use Rattle.panels.specs.PanelLaws.{all-missed-at}
 use borrow.Author.Needs.{needs}
 use Rattle.scan.proofs.inner.first_hit.Statement.{statement}
 use Rattle.scan.proofs.inner.first_hit.Tie as tie
 
 abbrev Inv-loop : tie.InvT-loop
-Inv-loop points from n ray i₀ i = (from ≤ i) × (i ≤ n) × Missed points ray from i
+Inv-loop points uses kinds from n ray i₀ i = (from ≤ i) × (i ≤ n) × AllMiss (metAt points uses kinds ray) from i
 
 abbrev μ-loop : tie.MeasureT-loop
-μ-loop points from n ray i₀ i = n - i
+μ-loop points uses kinds from n ray i₀ i = n - i
 
 loop-holds : tie.Need-loop-holds Inv-loop μ-loop
 loop-holds c = (omega arith, omega arith, λ l p q. absurd (omega arith))
@@ -35,12 +38,12 @@ add-j c = omega arith
 -- the run up to the triangle that may be met is missed too
 run-missed : (c : tie.After-clear Inv-loop μ-loop)
     → let at = c .before .before .before in
-    let a = at .before .before .args in
-    Missed (a .points .now) (a .ray) (a .from) (at .loop .i + c .clear .result)
+    let a = at .before .before .before .before .args in
+    AllMiss (metAt (a .points .now) (a .uses .now) (a .kinds .now) (a .ray)) (a .from) (at .loop .i + c .clear .result)
 run-missed c =
     let at = c .before .before .before in
-    let a = at .before .before .args in
-    missed-more (a .points .now) (a .ray) (a .from) (at .loop .i) _ (at .loop .inv .2) (c .clear .ensures .1)
+    let a = at .before .before .before .before .args in
+    missed-more _ (a .from) (at .loop .i) _ (at .loop .inv .2) (all-missed-at _ _ _ _ _ _ (c .clear .ensures .1))
 
 loop-less : tie.Need-loop-less Inv-loop μ-loop
 loop-less c = omega (arith, c .before .before .run-of .ensures .1 (omega arith))
@@ -49,7 +52,10 @@ loop-again : tie.Need-loop-again Inv-loop μ-loop
 loop-again c = (omega arith, omega arith, run-missed (c .before))
 
 meet-at-requires : tie.Need-meet-at-requires Inv-loop μ-loop
-meet-at-requires c κs = omega arith
+meet-at-requires c κs =
+    let s = c .before .before .before .before .before .before .before .before in
+    let b : c .before .before .before .before .loop .i + c .before .clear .result < length (s .args .uses .now) = omega arith in
+    (omega arith, b, s .pre .1 _ b)
 
 enum-told : tie.Need-enum-told Inv-loop μ-loop
 enum-told c = search needs
@@ -63,10 +69,10 @@ loop-less-2 c = omega arith
 loop-again-2 : tie.Need-loop-again-2 Inv-loop μ-loop
 loop-again-2 c =
     let m = c .before .before in
-    let a = m .before .before .before .before .before .before .before .args in (
+    let a = m .before .before .before .before .before .before .before .before .before .args in (
       omega arith,
       omega arith,
-      missed-one (a .points .now) (a .ray) (a .from) _ (run-missed (m .before .before)) (sym (m .meet-at .ensures) ∙ c .enum-told .given .1),
+      missed-one _ (a .from) _ (run-missed (m .before .before)) (sym (m .meet-at .ensures) ∙ c .enum-told .given .1),
     )
 
 enum-known-m : tie.Need-enum-known-m Inv-loop μ-loop

@@ -24,7 +24,9 @@ unfolding nearestTo
 loop-holds c = (search needs, refl)
 
 first-hit-requires : tie.Need-first-hit-requires Inv-loop μ-loop
-first-hit-requires c κs = (omega arith, omega arith)
+first-hit-requires c κs =
+    let s = c .before .before .before .before .before .before in
+    ((omega arith, omega arith, omega arith), λ i h. s .pre .within i h)
 
 enum-told : tie.Need-enum-told Inv-loop μ-loop
 enum-told c = search needs
@@ -61,7 +63,7 @@ loop-again-2 c =
     let h = c .before .before in
     let at = h .before .before .before .before .loop in
     let g = rw (h .f .given .1) at (h .before .before .first-hit .ensures) in
-    (omega (arith, g .1), rw (add-one, c .nearer .ensures, at .inv .1) (sym (nearest-first _ _ _ _ _ _ _ _ g)))
+    (omega (arith, g .1), rw (add-one, c .nearer .ensures, at .inv .1) (sym (nearest-first _ _ _ _ _ _ _ _ _ g)))
 
 returns : tie.Need-returns Inv-loop μ-loop
 unfolding nearestOf

@@ -1,15 +1,17 @@
 -- `scan::inner::transmittance` meets its contract. The loop's invariant: the first m of the two lists, put in order, are the hits of the first i
--- triangles, each distance is a number and no hit is opaque. The triangles before the first hit are missed and add none. An opaque hit is the whole answer; otherwise
+-- triangles, each distance is a number and no hit stops light. The triangles before the first hit are missed and add none. One that does is the whole answer; otherwise
 -- the product is taken over the places of all hits, each of which stands in the list of uses.
 use mathlib.Core.Path.{_≡_, refl, sym, ap, subst, _∙_}
+use mathlib.Core.Bool.{true, false}
 use mathlib.Core.List.{List, [], _++_, List·Memᴰ·not-nil}
 use Prim.Native.Nat.{_≤_, _<_, _-_}
 use native.Mathlib.Numerals.{add-one}
 use native.Mathlib.Omega.{arith}
-use borrow.Author.Tests.{ne-eqb}
 use lib.ListN.{length, take, drop, length-set}
 use lib.Seq.{length-take-le, length-front, take-at}
 use Rattle.names.specs.Bits.{one32}
+use Rattle.names.specs.Scene.{sceneOf}
+use Rattle.panels.specs.Panels.{kindAt, stopsLight}
 use Rattle.hits.specs.BeforeLaws.{hit-number}
 use Rattle.scan.specs.FirstHit.{FirstFrom, hits-over, hits-first}
 use Rattle.hits.specs.Hits.{Struck, struck, paired, hitsOf, placesOf}
@@ -26,8 +28,8 @@ use Rattle.scan.proofs.inner.transmittance.Tie as tie
 abbrev Inv-loop : tie.InvT-loop
 Inv-loop points uses kinds numbers ray distances₀ places₀ n m₀ i₀ end₀ distances places m i end =
     (i ≤ n) × (m ≤ i) × (length distances ≡ length distances₀) × (length places ≡ length places₀)
-    × (sortOf (paired (take m distances) (take m places)) ≡ hitsOf points ray i) × Numbers (paired (take m distances) (take m places))
-    × NoneOpaque uses kinds (hitsOf points ray i) × (i < n → i < end) × (end ≤ n)
+    × (sortOf (paired (take m distances) (take m places)) ≡ hitsOf (sceneOf points uses kinds numbers) ray i) × Numbers (paired (take m distances) (take m places))
+    × NoneOpaque uses kinds (hitsOf (sceneOf points uses kinds numbers) ray i) × (i < n → i < end) × (end ≤ n)
 
 abbrev μ-loop : tie.MeasureT-loop
 μ-loop points uses kinds numbers ray distances₀ places₀ n m₀ i₀ end₀ distances places m i end = n - i
@@ -37,7 +39,10 @@ unfolding hitsOf paired insertAll
 loop-holds c = (search needs, search needs, refl, refl, refl, tt, (λ h m. absurd (List·Memᴰ·not-nil m)), (λ h. h), omega arith)
 
 first-hit-requires : tie.Need-first-hit-requires Inv-loop μ-loop
-first-hit-requires c κs = let l = c .before .loop in (omega (arith, l .inv .7 (omega arith)), omega (arith, l .inv .8))
+first-hit-requires c κs =
+    let l = c .before .loop in
+    let s = c .before .before .before .before .before .before .before .before in
+    ((omega (arith, l .inv .7 (omega arith)), omega (arith, l .inv .8), l .inv .8), λ i h. s .pre .0 .within i h)
 
 enum-told : tie.Need-enum-told Inv-loop μ-loop
 enum-told c = search needs
@@ -76,19 +81,24 @@ kind-at-requires c κs =
     let b : h .f .given .0 .0 < length (s .args .uses .now) = omega (arith, g .1, f .before .before .loop .inv .8) in
     (b, s .pre .0 .within _ b)
 
+stops-light-requires : tie.Need-stops-light-requires Inv-loop μ-loop
+stops-light-requires c κs = search needs
+
 same-length : tie.Need-same-length Inv-loop μ-loop
-same-length c = c .before .before .before .before .before .before .before .loop .inv .2
+same-length c = c .before .before .before .before .before .before .before .before .loop .inv .2
 
 same-length-2 : tie.Need-same-length-2 Inv-loop μ-loop
-same-length-2 c = c .before .before .before .before .before .before .before .loop .inv .3
+same-length-2 c = c .before .before .before .before .before .before .before .before .loop .inv .3
 
 returns : tie.Need-returns Inv-loop μ-loop
 returns c =
-    let h = c .before .before .before in
+    let h = c .before .before .before .before in
     let g = rw (h .f .given .1) at (h .before .before .first-hit .ensures) in
     let a = h .before .before .before .before .before .before .before .before .before .before .before .args in
     let b : h .f .given .0 .0 < length (a .uses .now) = omega (arith, g .1, h .before .before .before .before .loop .inv .8) in
-    sym (opaque-dark _ _ _ _ _ _ b (g .3) (sym (c .before .kind-at .ensures) ∙ c .if1 .taken))
+    let dark : stopsLight (kindAt (a .uses .now) (a .kinds .now) (h .f .given .0 .0)) ≡ true =
+    rw (c .before .before .kind-at .ensures) at (sym (c .before .stops-light .ensures) ∙ c .if1 .taken) in
+    sym (opaque-dark _ _ _ _ _ _ _ b (g .3) dark)
 
 mul-distances : tie.Need-mul-distances Inv-loop μ-loop
 mul-distances c = omega arith
@@ -107,39 +117,45 @@ add-m c = omega arith
 
 add-i : tie.Need-add-i Inv-loop μ-loop
 add-i c =
-    let h = c .before .before .before in
+    let h = c .before .before .before .before in
     let g = rw (h .f .given .1) at (h .before .before .first-hit .ensures) in
-    omega (arith, g .1)
+    let l = h .before .before .before .before in
+    omega (arith, g .1, l .loop .inv .8, l .before .before .before .before .before .before .before .pre .0 .triangles)
 
 one-more-requires : tie.Need-one-more-requires Inv-loop μ-loop
 one-more-requires c κs = search needs
 
 loop-less-2 : tie.Need-loop-less-2 Inv-loop μ-loop
 loop-less-2 c =
-    let h = c .before .before .before .before in
+    let h = c .before .before .before .before .before in
     let g = rw (h .f .given .1) at (h .before .before .first-hit .ensures) in
     omega (arith, g .0, g .1, h .before .before .before .before .loop .inv .8)
 
 loop-again-2 : tie.Need-loop-again-2 Inv-loop μ-loop
 unfolding insertAll
 loop-again-2 c =
-    let h = c .before .before .before .before in
+    let h = c .before .before .before .before .before in
     let at = h .before .before .before .before .loop in
     let g = rw (h .f .given .1) at (h .before .before .first-hit .ensures) in
-    let one = stored (at .distances) (at .places) (at .m) (h .f .given .0 .1 .0) (h .f .given .0 .0) (omega arith) (omega arith) in
-    let a = h .before .before .before .before .before .before .before .before .before .before .before .args in
-    let clear = rw (c .before .before .kind-at .ensures) at (ne-eqb (c .before .before .kind-at .result) 0 (c .before .if1 .left)) in (
+    let s = h .before .before .before .before .before .before .before .before .before .before .before in
+    let left = h .before .before .before .loop-test .taken in
+    let one = stored (at .distances) (at .places) (at .m) (h .f .given .0 .1 .0) (h .f .given .0 .0)
+    (omega (arith, left, at .inv .1, at .inv .2, s .pre .1 .0)) (omega (arith, left, at .inv .1, at .inv .3, s .pre .1 .1)) in
+    let a = s .args in
+    let scene = sceneOf (a .points .now) (a .uses .now) (a .kinds .now) (a .numbers .now) in
+    let clear : stopsLight (kindAt (a .uses .now) (a .kinds .now) (h .f .given .0 .0)) ≡ false =
+    rw (c .before .before .before .kind-at .ensures) at (sym (c .before .before .stops-light .ensures) ∙ c .before .if1 .left) in (
       omega (arith, g .1, at .inv .8),
       omega (arith, g .0),
       length-set (at .distances) (at .m) _ ∙ at .inv .2,
       length-set (at .places) (at .m) _ ∙ at .inv .3,
       ap (λ (l : List Struck). sortOf l) one
           ∙ insert-all-append [] (paired (take (at .m) (at .distances)) (take (at .m) (at .places))) _
-          ∙ rw (at .inv .4, add-one) (sym (hits-first _ _ _ _ _ _ _ _ g)),
+          ∙ rw (at .inv .4, add-one) (sym (hits-first scene _ _ _ _ _ _ _ _ g)),
       subst (λ (l : List Struck). Numbers l) (sym one)
-          (numbers-append (paired (take (at .m) (at .distances)) (take (at .m) (at .places))) _ (at .inv .5) (hit-number _ _ _ _ _ (g .3), tt)),
-      rw (add-one, hits-first _ _ _ _ _ _ _ _ g)
-          (none-opaque-put (a .uses .now) (a .kinds .now) (struck (h .f .given .0 .1 .0) (h .f .given .0 .0)) (hitsOf (a .points .now) (a .ray) (at .i)) clear (at .inv .6)),
+          (numbers-append (paired (take (at .m) (at .distances)) (take (at .m) (at .places))) _ (at .inv .5) (hit-number _ _ _ _ _ _ _ _ _ (g .3), tt)),
+      rw (add-one, hits-first scene _ _ _ _ _ _ _ _ g)
+          (none-opaque-put (a .uses .now) (a .kinds .now) (struck (h .f .given .0 .1 .0) (h .f .given .0 .0)) (hitsOf scene (a .ray) (at .i)) clear (at .inv .6)),
       c .one-more .ensures .0,
       c .one-more .ensures .1,
     )
@@ -184,7 +200,7 @@ slice-aggregate-product c = sym (length-take-le _ _ (omega (arith, places-long (
 all-hits : (c : tie.After-in-order Inv-loop μ-loop)
     → let at = c .before .before .before .before .loop in
     let a = c .before .before .before .before .before .before .before .before .before .before .before .args in
-    take (at .m) (c .in-order .last .1 .0 ++ drop (at .m) (at .places)) ≡ placesOf (hitsOf (a .points .now) (a .ray) (length (a .uses .now)))
+    take (at .m) (c .in-order .last .1 .0 ++ drop (at .m) (at .places)) ≡ placesOf (hitsOf (sceneOf (a .points .now) (a .uses .now) (a .kinds .now) (a .numbers .now)) (a .ray) (length (a .uses .now)))
 all-hits c =
     let at = c .before .before .before .before .loop in
     let a = c .before .before .before .before .before .before .before .before .before .before .before .args in
@@ -199,7 +215,7 @@ product-requires : tie.Need-product-requires Inv-loop μ-loop
 product-requires c κs =
     let s = c .before .before .before .before .before .before .before .before .before .before .before .before .before .before .before .before in (
       (λ i h. omega (arith, s .pre .0 .within i h)),
-      rw (all-hits (c .before .before .before .before .before)) (places-below (s .args .points .now) (s .args .ray) (length (s .args .uses .now))),
+      rw (all-hits (c .before .before .before .before .before)) (places-below (sceneOf (s .args .points .now) (s .args .uses .now) (s .args .kinds .now) (s .args .numbers .now)) (s .args .ray) (length (s .args .uses .now))),
     )
 
 same-length-3 : tie.Need-same-length-3 Inv-loop μ-loop
@@ -222,7 +238,7 @@ returns-2 c =
     let a = o .before .before .before .before .before .before .before .before .before .before .before .args in
     let e : at .i ≡ length (a .uses .now) = omega arith in
     rw (c .product .ensures, all-hits o)
-    (sym (clear-pass (a .uses .now) (a .kinds .now) (a .numbers .now) one32 (hitsOf (a .points .now) (a .ray) (length (a .uses .now))) (rw e at (at .inv .6))))
+    (sym (clear-pass (a .uses .now) (a .kinds .now) (a .numbers .now) one32 (hitsOf (sceneOf (a .points .now) (a .uses .now) (a .kinds .now) (a .numbers .now)) (a .ray) (length (a .uses .now))) (rw e at (at .inv .6))))
 
 pub transmittance-spec : {M : Type 1} → statement M
 transmittance-spec =
@@ -237,6 +253,7 @@ transmittance-spec =
     loop-again
     enum-known-f
     kind-at-requires
+    stops-light-requires
     same-length
     same-length-2
     returns

@@ -42,7 +42,7 @@ magnitude-requires-2 c κs = search needs
 returns-8 : tie.Need-returns-8
 unfolding judgedOf
 returns-8 c =
-    rw (← c .before .before .before .before .before .before .before .before .before .before .before .before .before .before .before .magnitude .ensures, ← c .before .magnitude2 .ensures)
+    rw (← c .before .before .before .before .before .before .before .before .before .before .before .before .before .before .before .before .magnitude .ensures, ← c .before .before .magnitude2 .ensures)
     (search chosen depth 12)
 
 returns-9 : tie.Need-returns-9
