@@ -25,7 +25,7 @@ use Rattle.gather.specs.Gather.{GatherInput, incoming, gathering, ambien
 module _ (scene : Scene) (setting : Setting) where
   unfoldable pub incomingBase : Ray → Vec3 → Nearest → Incoming
   incomingBase ray sky Nothing = incoming sky 1 1
-  incomingBase ray sky (At place distance u v) =
+  incomingBase ray sky (At place distance u v front) =
       let sent = bouncedBase scene setting (surfaceOf scene ray place distance (setting .biases .hit)) in
       incoming (sent .light) 0 (sent .rays + 1)
 
@@ -42,7 +42,7 @@ module _ (scene : Scene) (setting : Setting) where
   incoming-base : (ray : Ray) (sky : Vec3) (found : Nearest) → incomingBy scene [] setting ray sky found ≡ incomingBase ray sky found
   unfolding incomingBy incomingBase
   incoming-base ray sky Nothing = refl
-  incoming-base ray sky (At place distance u v) = rw (no-lamps scene setting (surfaceOf scene ray place distance (setting .biases .hit))) refl
+  incoming-base ray sky (At place distance u v front) = rw (no-lamps scene setting (surfaceOf scene ray place distance (setting .biases .hit))) refl
 
   along-base : (centre : Vec3) (sky : List Float) (first i : ℕ) (s : Gathering)
       → alongFrom scene [] setting centre sky first i s ≡ alongBase centre sky first i s

@@ -20,7 +20,7 @@ module _ (scene : Scene) (lamps : List Float) (setting : Setting) where
   -- the extra rays of what a ray has met: none on a miss, else those of the surface
   unfoldable pub extraOf : Ray → Nearest → ℕ
   extraOf ray Nothing = 0
-  extraOf ray (At place distance u v) = extraRays lamps (setting .toward) (surfaceOf scene ray place distance (setting .biases .hit))
+  extraOf ray (At place distance u v front) = extraRays lamps (setting .toward) (surfaceOf scene ray place distance (setting .biases .hit))
 
   -- along direction k of the table
   abbrev pub extraAlong : Vec3 → ℕ → ℕ

@@ -26,7 +26,7 @@ module _ (scene : Scene) (lamps : List Float) (setting : Setting) where
   incoming-counted : (ray : Ray) (sky : Vec3) (found : Nearest) → incomingBy scene lamps setting ray sky found .rays ≡ extraOf scene lamps setting ray found + 1
   unfolding incomingBy extraOf
   incoming-counted ray sky Nothing = refl
-  incoming-counted ray sky (At place distance u v) =
+  incoming-counted ray sky (At place distance u v front) =
       rw (extra-rays scene lamps setting (surfaceOf scene ray place distance (setting .biases .hit))) refl
 
   along-counted : (centre : Vec3) (sky : List Float) (k : ℕ) (s : Gathering)

@@ -97,7 +97,7 @@ sentBack scene lamps setting ray place distance = bouncedBy scene lamps setting 
 -- what comes back along a ray: from the sky where nothing is met, else from the surface
 unfoldable pub incomingBy : Scene → List Float → Setting → Ray → Vec3 → Nearest → Incoming
 incomingBy scene lamps setting ray sky Nothing = incoming sky 1 1
-incomingBy scene lamps setting ray sky (At place distance u v) =
+incomingBy scene lamps setting ray sky (At place distance u v front) =
     incoming (sentBack scene lamps setting ray place distance .light) 0 (sentBack scene lamps setting ray place distance .rays + 1)
 
 abbrev pub incomingOf : Scene → List Float → Setting → Ray → Vec3 → Incoming

@@ -17,7 +17,8 @@ use Rattle.vectors.specs.Places.{vecAt}
 use mathlib.Core.Bool.{Bool, true, false, cond}
 use Rattle.triangle.specs.declared.Meet.{Meet}
 use Rattle.triangle.specs.declared.Meet.the-variants.{Miss, Hit}
-use Rattle.scan.specs.Nearest.{nearestOf, nearestTo, nearerOf, meetAt, beats}
+use Rattle.panels.specs.Panels.{meetAt}
+use Rattle.scan.specs.Nearest.{nearestOf, nearestTo, nearerOf, beats}
 use Rattle.scan.specs.declared.Nearest.{Nearest}
 use Rattle.scan.specs.declared.Nearest.the-variants.{Nothing, At}
 use Rattle.surface.specs.declared.Setting.{Setting}
@@ -46,7 +47,7 @@ pub incoming-costs : (scene : Scene) (lamps : List Float) (setting : Setting) (r
     → Costs (lampCount lamps) (incomingBy scene lamps setting ray sky found .rays) (incomingBy scene lamps setting ray sky found .misses)
 unfolding incomingBy
 incoming-costs scene lamps setting ray sky Nothing = record { least = omega arith; most = omega arith; missed = omega arith }
-incoming-costs scene lamps setting ray sky (At place t u v) =
+incoming-costs scene lamps setting ray sky (At place t u v front) =
     let h = extra-most scene lamps setting (surfaceOf scene ray place t (setting .biases .hit)) in
     record { least = omega arith; most = omega arith; missed = omega arith }
 
@@ -98,20 +99,20 @@ misses-most g i = gathering-costs _ _ _ _ _ _ .2
 -- the place of a hit is below n
 unfoldable pub PlaceBelow : ℕ → Nearest → Type 0
 PlaceBelow n Nothing = Unit
-PlaceBelow n (At place t u v) = place < n
+PlaceBelow n (At place t u v front) = place < n
 
 later : (n : ℕ) (found : Nearest) → PlaceBelow n found → PlaceBelow (suc n) found
 unfolding PlaceBelow
 later n Nothing h = tt
-later n (At place t u v) h = omega arith
+later n (At place t u v front) h = omega arith
 
 nearer-below : (n : ℕ) (best : Nearest) (m : Meet) → PlaceBelow n best → PlaceBelow (suc n) (nearerOf best n m)
 unfolding PlaceBelow nearerOf
 nearer-below n best Miss h = later n best h
-nearer-below n Nothing (Hit t u v) h = omega arith
-nearer-below n (At place s p q) (Hit t u v) h = go (beats t n s place)
+nearer-below n Nothing (Hit t u v front) h = omega arith
+nearer-below n (At place s p q side) (Hit t u v front) h = go (beats t n s place)
   where
-    go : (b : Bool) → PlaceBelow (suc n) (cond b (At n t u v) (At place s p q))
+    go : (b : Bool) → PlaceBelow (suc n) (cond b (At n t u v front) (At place s p q side))
     go true = omega arith
     go false = omega arith
 
@@ -121,6 +122,6 @@ nearest-below scene ray zero = tt
 nearest-below scene ray (suc n) = nearer-below n (nearestTo scene ray n) (meetAt scene ray n) (nearest-below scene ray n)
 
 -- so a hit's place is one of the scene's triangles
-pub place-below : (scene : Scene) (ray : Ray) (place : ℕ) (t u v : Float) → nearestOf scene ray ≡ At place t u v → place < length (scene .uses)
+pub place-below : (scene : Scene) (ray : Ray) (place : ℕ) (t u v : Float) (front : Bool) → nearestOf scene ray ≡ At place t u v front → place < length (scene .uses)
 unfolding nearestOf PlaceBelow
-place-below scene ray place t u v e = rw e at (nearest-below scene ray (length (scene .uses)))
+place-below scene ray place t u v front e = rw e at (nearest-below scene ray (length (scene .uses)))

@@ -265,7 +265,7 @@ fn look(
             misses: 1,
             rays: 1,
         },
-        Nearest::At(place, distance, _, _) => {
+        Nearest::At(place, distance, _, _, _) => {
             let sent = from_surface(
                 points,
                 uses,

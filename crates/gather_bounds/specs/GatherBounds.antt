@@ -65,8 +65,8 @@ incoming-small : (s : Scene) (m : Modest s) (l : List Float) → ModestLamps l �
     → (n : ℕ) → n ≤ length (s .uses) → (found : Nearest) → FoundAt s m ray n found → EachAtMost 10 79 (incomingBy s l g ray sky found .radiance)
 unfolding incomingBy
 incoming-small s m l b g h ray sky k n q Nothing f = each-up sky 1 16 10 79 (lit≤ tt) k
-incoming-small s m l b g h ray sky k n q (At place t u v) f =
-    bounced-small s m g h _ (surface-small s m ray place t u v (g .biases .hit) (omega (arith, f .0)) (f .1)) l b
+incoming-small s m l b g h ray sky k n q (At place t u v front) f =
+    bounced-small s m g h _ (surface-small s m ray place t u v front (g .biases .hit) (omega (arith, f .0)) (f .1)) l b
 
 -- ---- the sums
 

@@ -30,7 +30,9 @@ use Rattle.triangle.specs.Laws.{hit-met}
 use Rattle.triangle.specs.declared.Meet.the-variants.{Hit}
 use Rattle.rays_bounds.specs.TestBounds.{NearPoints, near-place, distance-bounded}
 use Rattle.rays_bounds.specs.Departure.{NoDeparture, far-same, wild-same}
-use Rattle.scan.specs.Nearest.{nearestOf, meetAt}
+use Rattle.panels.specs.Panels.{meetAt}
+use Rattle.panels.specs.PanelLaws.{met-answered}
+use Rattle.scan.specs.Nearest.{nearestOf}
 use Rattle.scan.specs.declared.Nearest.the-variants.{At}
 use Rattle.bounce.specs.declared.Biases.{Biases}
 use Rattle.bounce.specs.Biases.{biasesOf}
@@ -85,11 +87,11 @@ surfaceAt g i k place t = surfaceOf (g .scene) (primaryAt g i k) place t (settin
 -- the rays along direction k, and those of a surface that the first of them meets: the test is that without the departure
 pub record NoDepartures (g : GatherInput) (i k : ℕ) : Type 0 where
   pub primary : NoDeparture (g .scene) (primaryAt g i k)
-  pub shadow : (place : ℕ) (t u v : Float) → nearestOf (g .scene) (primaryAt g i k) ≡ At place t u v
+  pub shadow : (place : ℕ) (t u v : Float) (front : Bool) → nearestOf (g .scene) (primaryAt g i k) ≡ At place t u v front
       → NoDeparture (g .scene) (shadowRay (settingIn g) (surfaceAt g i k place t))
-  pub sky : (place : ℕ) (t u v : Float) → nearestOf (g .scene) (primaryAt g i k) ≡ At place t u v → (j : ℕ)
+  pub sky : (place : ℕ) (t u v : Float) (front : Bool) → nearestOf (g .scene) (primaryAt g i k) ≡ At place t u v front → (j : ℕ)
       → NoDeparture (g .scene) (skyRay (settingIn g) (surfaceAt g i k place t) j)
-  pub lamp : (place : ℕ) (t u v : Float) → nearestOf (g .scene) (primaryAt g i k) ≡ At place t u v → (j : ℕ)
+  pub lamp : (place : ℕ) (t u v : Float) (front : Bool) → nearestOf (g .scene) (primaryAt g i k) ≡ At place t u v front → (j : ℕ)
       → NoDeparture (g .scene) (lampRay (settingIn g) (surfaceAt g i k place t) (wayTo (surfaceAt g i k place t .point) (lampAt (g .lamps) j .position)))
 
 module _ (g : GatherInput) (r : Rows g) (ha : badAxes (g .axes) ≡ false) (hg : badGrid (g .corners) (g .axes) ≡ false) where
@@ -114,14 +116,14 @@ module _ (g : GatherInput) (r : Rows g) (ha : badAxes (g .axes) ≡ false) (hg :
     primary-same p h = far-same (primaryAt g i k) _ 11 12 (near p h) primary-start (lit≤ tt) (lit< tt) (lit≤ tt)
 
     -- ---- and of the surface that it meets
-    module _ (place : ℕ) (t u v : Float) (met : nearestOf (g .scene) (primaryAt g i k) ≡ At place t u v) where
-      found : (place < length (g .scene .uses)) × (meetAt (g .scene) (primaryAt g i k) place ≡ Hit t u v)
+    module _ (place : ℕ) (t u v : Float) (front : Bool) (met : nearestOf (g .scene) (primaryAt g i k) ≡ At place t u v front) where
+      found : (place < length (g .scene .uses)) × (meetAt (g .scene) (primaryAt g i k) place ≡ Hit t u v front)
       unfolding nearestOf
       found = rw met at (nearest-found (g .scene) (modest g r) (primaryAt g i k) (length (g .scene .uses)))
 
       distance-small : AtMost 288 63 t
       distance-small =
-          let m = hit-met (primaryAt g i k) (triangleAt (g .scene .points) place) t u v (found .1) in
+          let m = hit-met (primaryAt g i k) (triangleAt (g .scene .points) place) t u v front (met-answered _ _ _ _ place t u v front (found .1) .0) in
           let o = le-numbers zero32 u (m .u-from) .1 in
           rw (m .distance)
           (distance-bounded (primaryAt g i k) (triangleAt (g .scene .points) place) 11 12 (near place (found .0)) primary-start (lit≤ tt) (lit< tt) (lit< tt) (m .steep) (rw (m .first) at o))
@@ -129,7 +131,7 @@ module _ (g : GatherInput) (r : Rows g) (ha : badAxes (g .axes) ≡ false) (hg :
       point-small : EachAtMost 578 63 (surfaceAt g i k place t .point)
       unfolding surfaceOf primaryRay rayFrom pointAt
       point-small =
-          let n = surface-small (g .scene) (modest g r) (primaryAt g i k) place t u v (settingIn g .biases .hit) (found .0) (found .1) .normal in
+          let n = surface-small (g .scene) (modest g r) (primaryAt g i k) place t u v front (settingIn g .biases .hit) (found .0) (found .1) .normal in
           let reached = add-each _ _ 1 576 63 (lit< tt) (lit< tt) (each-up _ 11 12 1 63 (lit≤ tt) primary-start) (scale-each (directionAt k) t 2 0 288 63 (lit< tt) (lit< tt) (direction-small k listed) distance-small) in
           add-each _ _ 577 1 63 (lit< tt) (lit< tt) reached (each-up _ 7 12 1 63 (lit≤ tt) (scale-each _ _ 1 1 7 11 (lit< tt) (lit< tt) n (biases .hit)))
 

@@ -5,7 +5,7 @@ use mathlib.Core.List.{List, [], _∷_}
 use Prim.Native.Nat.{ℕ, zero, suc, _+_, _*_, _^_, _<_, _≤_}
 use native.Mathlib.Nat.{add-zero, mul-le-mul-right, lt-of-le-of-lt}
 use native.Mathlib.Omega.{arith}
-use lib.Dec.{lit<, lit≤, eqb}
+use lib.Dec.{lit<, lit≤}
 use lib.ListN.{length, getD}
 use lib.Ieee as Ieee
 use lib.Ieee.{Float, nan, isNan, binary32}
@@ -29,12 +29,14 @@ use Rattle.triangle.specs.Meet.{absentOf}
 use Rattle.triangle.specs.Laws.{hit-met}
 use Rattle.triangle.specs.declared.Meet.{Meet}
 use Rattle.triangle.specs.declared.Meet.the-variants.{Miss, Hit}
-use Rattle.scan.specs.Nearest.{nearestTo, nearerOf, meetAt, beats}
+use Rattle.panels.specs.Panels.{kindAt, stopsLight, meetAt}
+use Rattle.panels.specs.PanelLaws.{met-answered}
+use Rattle.scan.specs.Nearest.{nearestTo, nearerOf, beats}
 use Rattle.scan.specs.declared.Nearest.{Nearest}
 use Rattle.scan.specs.declared.Nearest.the-variants.{Nothing, At}
 use Rattle.hits.specs.Hits.{hitsOf, placesOf}
 use Rattle.hits.specs.HitLaws.{places-below}
-use Rattle.scan.specs.Transmittance.{transmittanceOf, passOf, kindAt, transmissionAt}
+use Rattle.scan.specs.Transmittance.{transmittanceOf, passOf, transmissionAt}
 use Rattle.bounce.specs.declared.Way.{Way}
 use Rattle.bounce.specs.Light.{faceNormal, blackOf, slantOf}
 use Rattle.bounce.specs.Lamps.{wayTo, unlitBy, lamplightOf}
@@ -88,7 +90,7 @@ module _ (s : Scene) (m : Modest s) where
   pass-small w [] h b = h
   pass-small w (i ∷ is) h b =
       let x = mul-at-most w (transmissionAt (s .uses) (s .numbers) i) 1 0 1 0 (lit< tt) (lit< tt) h (transmission-small i (b .0)) in
-      go (eqb (kindAt (s .uses) (s .kinds) i) 0) (Ieee.le (Ieee.mul binary32 w (transmissionAt (s .uses) (s .numbers) i)) faintLimit) _ (pass-small _ is x (b .1))
+      go (stopsLight (kindAt (s .uses) (s .kinds) i)) (Ieee.le (Ieee.mul binary32 w (transmissionAt (s .uses) (s .numbers) i)) faintLimit) _ (pass-small _ is x (b .1))
     where
       go : (p q : Bool) (r : Float) → AtMost 1 0 r → AtMost 1 0 (cond p zero32 (cond q zero32 r))
       go true q r k = zero-at-most 1 0
@@ -97,7 +99,7 @@ module _ (s : Scene) (m : Modest s) where
 
   pub transmittance-small : (ray : Ray) → AtMost 1 0 (transmittanceOf s ray)
   unfolding transmittanceOf
-  transmittance-small ray = pass-small one32 _ one-at-most (below (length (s .uses)) (placesOf (hitsOf (s .points) ray (length (s .uses)))) (places-below (s .points) ray (length (s .uses))))
+  transmittance-small ray = pass-small one32 _ one-at-most (below (length (s .uses)) (placesOf (hitsOf s ray (length (s .uses)))) (places-below s ray (length (s .uses))))
 
   -- ---- the normal of a triangle that is met
 
@@ -126,19 +128,19 @@ module _ (s : Scene) (m : Modest s) where
 
   abbrev pub FoundAt : Ray → ℕ → Nearest → Type 0
   FoundAt ray n Nothing = Unit
-  FoundAt ray n (At place t u v) = (place < n) × (meetAt s ray place ≡ Hit t u v)
+  FoundAt ray n (At place t u v front) = (place < n) × (meetAt s ray place ≡ Hit t u v front)
 
   later : (ray : Ray) (n : ℕ) (found : Nearest) → FoundAt ray n found → FoundAt ray (suc n) found
   later ray n Nothing h = tt
-  later ray n (At place t u v) h = (omega (arith, h .0), h .1)
+  later ray n (At place t u v front) h = (omega (arith, h .0), h .1)
 
   nearer-found : (ray : Ray) (n : ℕ) (best : Nearest) (a : Meet) → meetAt s ray n ≡ a → FoundAt ray n best → FoundAt ray (suc n) (nearerOf best n a)
   unfolding nearerOf
   nearer-found ray n best Miss e h = later ray n best h
-  nearer-found ray n Nothing (Hit t u v) e h = (omega arith, e)
-  nearer-found ray n (At place r p q) (Hit t u v) e h = go (beats t n r place)
+  nearer-found ray n Nothing (Hit t u v front) e h = (omega arith, e)
+  nearer-found ray n (At place r p q side) (Hit t u v front) e h = go (beats t n r place)
     where
-      go : (b : Bool) → FoundAt ray (suc n) (cond b (At n t u v) (At place r p q))
+      go : (b : Bool) → FoundAt ray (suc n) (cond b (At n t u v front) (At place r p q side))
       go true = (omega arith, e)
       go false = (omega (arith, h .0), h .1)
 
@@ -164,12 +166,12 @@ module _ (s : Scene) (m : Modest s) where
   base-small k h =
       record { x = rw add-zero at (m .colours k 0 h (lit< tt)); y = m .colours k 1 h (lit< tt); z = m .colours k 2 h (lit< tt) }
 
-  pub surface-small : (ray : Ray) (place : ℕ) (t u v bias : Float) → place < length (s .uses) → meetAt s ray place ≡ Hit t u v → ModestSurface (surfaceOf s ray place t bias)
+  pub surface-small : (ray : Ray) (place : ℕ) (t u v : Float) (front : Bool) (bias : Float) → place < length (s .uses) → meetAt s ray place ≡ Hit t u v front → ModestSurface (surfaceOf s ray place t bias)
   unfolding surfaceOf
-  surface-small ray place t u v bias h e =
+  surface-small ray place t u v front bias h e =
       let k = getD (s .uses) place 0 in
       let g = m .sound .within place h in
-      let n = hit-met ray (triangleAt (s .points) place) t u v e .present in
+      let n = hit-met ray (triangleAt (s .points) place) t u v front (met-answered _ _ _ ray place t u v front e .0) .present in
       let b = base-small k g in
       record { normal = facing-each _ (ray .direction) 1 1 (normal-small place h n); albedo = clamp-each _ (number _ (b .x)) (number _ (b .y)) (number _ (b .z)); emissive = raised-each _ 1 16 (colour-small k 3 g (lit< tt)) }
 

@@ -1,7 +1,7 @@
 -- The public calls over rays. Each tests rows in order, the first that holds is the refusal, and a refusal answers its number with every other number
 -- zero. "Where an answer is an enum, a definition gives this paper's number and values for each of the enum's cases": `valuesOfMet` and `valuesOfFound`.
 use mathlib.Core.Path.{_≡_}
-use mathlib.Core.Bool.{Bool, _||_}
+use mathlib.Core.Bool.{Bool, cond, _||_}
 use mathlib.Core.List.{List, [], _∷_}
 use Prim.Native.Nat.{ℕ}
 use lib.ListN.{length}
@@ -23,7 +23,8 @@ use Rattle.rays.specs.declared.Transmitted.{Transmitted}
 
 -- ---- what an enum's case says
 
--- a refusal's number, 1 for a hit, its place, its distance, u and v. A hit at place 0 and distance 0 is told from a miss by the second.
+-- a refusal's number, 1 for a hit, its place, its distance, u and v, and 1 where the front was met. A hit at place 0 and distance 0 is told from a miss by
+-- the second.
 pub record Values : Type 0 where
   pub number : ℕ
   pub hit : ℕ
@@ -31,25 +32,26 @@ pub record Values : Type 0 where
   pub t : Float
   pub u : Float
   pub v : Float
+  pub front : ℕ
 
 abbrev pub refusedValues : ℕ → Values
-refusedValues k = record { number = k; hit = 0; place = 0; t = zero32; u = zero32; v = zero32 }
+refusedValues k = record { number = k; hit = 0; place = 0; t = zero32; u = zero32; v = zero32; front = 0 }
 
 abbrev pub missValues : Values
 missValues = refusedValues 0
 
-abbrev pub hitValues : ℕ → Float → Float → Float → Values
-hitValues i a b c = record { number = 0; hit = 1; place = i; t = a; u = b; v = c }
+abbrev pub hitValues : ℕ → Float → Float → Float → Bool → Values
+hitValues i a b c side = record { number = 0; hit = 1; place = i; t = a; u = b; v = c; front = cond side 1 0 }
 
 unfoldable pub valuesOfMet : Met → Values
 valuesOfMet (Met.Refused k) = refusedValues k
 valuesOfMet Met.Miss = missValues
-valuesOfMet (Met.Hit t u v) = hitValues 0 t u v
+valuesOfMet (Met.Hit t u v front) = hitValues 0 t u v front
 
 unfoldable pub valuesOfFound : Found → Values
 valuesOfFound (Found.Refused k) = refusedValues k
 valuesOfFound Found.Nothing = missValues
-valuesOfFound (Found.Hit i t u v) = hitValues i t u v
+valuesOfFound (Found.Hit i t u v front) = hitValues i t u v front
 
 -- ---- the test of one triangle
 
@@ -62,11 +64,11 @@ meetRefusal ray triangle = firstOf (meetRows ray triangle)
 -- what the test answers, as an answer of the call and as values
 unfoldable pub metCase : Meet → Met
 metCase Meet.Miss = Met.Miss
-metCase (Meet.Hit t u v) = Met.Hit t u v
+metCase (Meet.Hit t u v front) = Met.Hit t u v front
 
 unfoldable pub valuesOfTest : Meet → Values
 valuesOfTest Meet.Miss = missValues
-valuesOfTest (Meet.Hit t u v) = hitValues 0 t u v
+valuesOfTest (Meet.Hit t u v front) = hitValues 0 t u v front
 
 unfoldable pub metOf : Ray → Triangle → Met
 metOf ray triangle =
@@ -96,11 +98,11 @@ nearestRefusal scene ray = firstOf (scanRows (wrongSceneLists scene) scene ray)
 
 unfoldable pub foundCase : Nearest → Found
 foundCase Nearest.Nothing = Found.Nothing
-foundCase (Nearest.At i t u v) = Found.Hit i t u v
+foundCase (Nearest.At i t u v front) = Found.Hit i t u v front
 
 unfoldable pub scanValues : Nearest → Values
 scanValues Nearest.Nothing = missValues
-scanValues (Nearest.At i t u v) = hitValues i t u v
+scanValues (Nearest.At i t u v front) = hitValues i t u v front
 
 unfoldable pub foundOf : Scene → Ray → Found
 foundOf scene ray =

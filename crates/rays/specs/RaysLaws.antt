@@ -40,7 +40,7 @@ meet-refused-by ray triangle r a =
   where
     accepted : (m : Meet) → valuesOfTest m .number ≡ 0
     accepted Meet.Miss = refl
-    accepted (Meet.Hit t u v) = refl
+    accepted (Meet.Hit t u v front) = refl
 
 scene-numbered : (wrong : Bool) (scene : Scene) (ray : Ray) → Numbered (scanRows wrong scene ray)
 scene-numbered wrong scene ray = (omega arith, (omega arith, (omega arith, (omega arith, (omega arith, tt)))))
@@ -54,7 +54,7 @@ nearest-refused-by scene ray r a =
   where
     accepted : (n : Nearest) → scanValues n .number ≡ 0
     accepted Nearest.Nothing = refl
-    accepted (Nearest.At i t u v) = refl
+    accepted (Nearest.At i t u v front) = refl
 
 pub transmittance-refused-by : (scene : Scene) (ray : Ray) (distances : List Float) (places : List ℕ) (r : Transmitted) (distances' : List Float) (places' : List ℕ)
     → TransmittanceAnswered scene ray distances places r distances' places'
@@ -110,12 +110,12 @@ module _ {A : Type 0} (f : A → Values) where
 met-case-values : (m : Meet) → valuesOfMet (metCase m) ≡ valuesOfTest m
 unfolding valuesOfMet metCase valuesOfTest
 met-case-values Meet.Miss = refl
-met-case-values (Meet.Hit t u v) = refl
+met-case-values (Meet.Hit t u v front) = refl
 
 found-case-values : (n : Nearest) → valuesOfFound (foundCase n) ≡ scanValues n
 unfolding valuesOfFound foundCase scanValues
 found-case-values Nearest.Nothing = refl
-found-case-values (Nearest.At i t u v) = refl
+found-case-values (Nearest.At i t u v front) = refl
 
 pub meet-answered : (ray : Ray) (triangle : Triangle) (r : Met) → r ≡ metOf ray triangle → MeetAnswered ray triangle r
 unfolding metOf meetValues valuesOfMet

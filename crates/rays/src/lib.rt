@@ -10,18 +10,18 @@ use triangle::Meet;
 use vectors::Ray;
 use vectors::Triangle;
 
-// What the test of one triangle answers: a refusal's number, a miss, or a hit's distance, u and v.
+// What the test of one triangle answers: a refusal's number, a miss, or a hit's distance, u and v, and whether the front was met.
 pub enum Met {
     Refused(u32),
     Miss,
-    Hit(f32, f32, f32),
+    Hit(f32, f32, f32, bool),
 }
 
-// What the search for the nearest hit answers: a refusal's number, nothing, or the hit's place, distance, u and v.
+// What the search for the nearest hit answers: a refusal's number, nothing, or the hit's place, distance, u and v, and whether the front was met.
 pub enum Found {
     Refused(u32),
     Nothing,
-    Hit(usize, f32, f32, f32),
+    Hit(usize, f32, f32, f32, bool),
 }
 
 // How much light passes along a ray, from 1 down to 0; +0 on a refusal.
@@ -31,7 +31,7 @@ pub struct Transmitted {
     pub transmittance: f32,
 }
 
-// The test of one triangle. Refusals 5 and 8.
+// The test of one triangle, from both its sides. Refusals 5 and 8.
 pub fn meet(ray: Ray, triangle: Triangle) -> Met
     ensures { λ r. ⌜ MeetAnswered ray triangle r ⌝ }
 {
@@ -42,7 +42,7 @@ pub fn meet(ray: Ray, triangle: Triangle) -> Met
     Met::Refused(refusal)
 }
 
-// The nearest hit among all triangles; among equal distances the one of the highest place. Refusals 3, 4, 5, 6 and 8.
+// The nearest hit among all triangles, a panel's back left out; among equal distances the one of the highest place. Refusals 3, 4, 5, 6 and 8.
 pub fn nearest(points: &[f32], uses: &[u32], kinds: &[u8], numbers: &[f32], ray: Ray) -> Found
     ensures { λ r. ⌜ NearestAnswered (sceneOf (now (points .entry)) (now (uses .entry)) (now (kinds .entry)) (now (numbers .entry))) ray r ⌝ }
 {
@@ -139,7 +139,7 @@ fn as_met(m: Meet) -> Met
 {
     match m {
         Meet::Miss => Met::Miss,
-        Meet::Hit(t, u, v) => Met::Hit(t, u, v),
+        Meet::Hit(t, u, v, front) => Met::Hit(t, u, v, front),
     }
 }
 
@@ -148,6 +148,6 @@ fn as_found(n: Nearest) -> Found
 {
     match n {
         Nearest::Nothing => Found::Nothing,
-        Nearest::At(i, t, u, v) => Found::Hit(i, t, u, v),
+        Nearest::At(i, t, u, v, front) => Found::Hit(i, t, u, v, front),
     }
 }

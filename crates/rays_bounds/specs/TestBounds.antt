@@ -184,9 +184,9 @@ pub last-test-passes : (ray : Ray) (triangle : Triangle) → NearPoints triangle
 last-test-passes ray triangle p br h = largest-passes _ (at-most-up _ 408 63 16777215 104 (lit≤ tt) (test-bounded ray triangle p br h .t))
 
 -- a hit's distance, u and v are finite
-pub hit-finite : (ray : Ray) (triangle : Triangle) (t u v : Float) → NearPoints triangle → badRay ray ≡ false → meetOf ray triangle ≡ Hit t u v
+pub hit-finite : (ray : Ray) (triangle : Triangle) (t u v : Float) (front : Bool) → NearPoints triangle → badRay ray ≡ false → meetOf ray triangle ≡ Hit t u v front
     → (finite t ≡ true) × (finite u ≡ true) × (finite v ≡ true)
-hit-finite ray triangle t u v p br e =
-    let m = hit-met ray triangle t u v e in
+hit-finite ray triangle t u v front p br e =
+    let m = hit-met ray triangle t u v front e in
     let b = test-bounded ray triangle p br (m .steep) in
     (rw (m .distance) (at-most-finite _ 408 63 (b .t)), rw (m .first) (at-most-finite _ 204 52 (b .u)), rw (m .second) (at-most-finite _ 204 52 (b .v)))

@@ -180,7 +180,7 @@ fn along(
     let found = scan::inner::nearest(points, uses, kinds, numbers, ray);
     match found {
         Nearest::Nothing => first,
-        Nearest::At(place, distance, _, _) => {
+        Nearest::At(place, distance, _, _, _) => {
             let surface = surface::inner::surface_at(
                 points,
                 uses,

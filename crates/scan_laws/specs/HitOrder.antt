@@ -9,11 +9,11 @@ use borrow.Author.Tests.{lt-ltb, le-ltb}
 use lib.Dec.{ltb}
 use lib.Ieee.{Float, lt, eq, isNan}
 use Rattle.floats.specs.OrderLaws.{lt-irreflexive}
+use Rattle.names.specs.Scene.{Scene}
 use Rattle.vectors.specs.declared.Ray.{Ray}
-use Rattle.triangle.specs.Meet.{meetOf}
-use Rattle.triangle.specs.Places.{triangleAt}
 use Rattle.triangle.specs.declared.Meet.{Meet}
 use Rattle.triangle.specs.declared.Meet.the-variants.{Miss, Hit}
+use Rattle.panels.specs.Panels.{meetAt}
 use Rattle.hits.specs.Hits.{Struck, struck, before, insertOf, withMeet, hitsOf}
 use Rattle.hits.specs.HitLaws.{Stands, hits-only, hits-all}
 use Rattle.hits.specs.Order.{otherwise-below}
@@ -53,18 +53,18 @@ either t d n p a b l e = by (lt d t) (eq d t) (lt t d) refl refl refl
     by false false true f g k = absurd (false≢true (sym e ∙ rw k refl))
     by false false false f g k = absurd (false≢true (sym k ∙ otherwise-below d t b a f g))
 
-pub hits-sorted : (points : List Float) (ray : Ray) (n : ℕ) → Sorted (hitsOf points ray n)
+pub hits-sorted : (scene : Scene) (ray : Ray) (n : ℕ) → Sorted (hitsOf scene ray n)
 unfolding hitsOf withMeet
-hits-sorted points ray zero = none
-hits-sorted points ray (suc n) = by (meetOf ray (triangleAt points n)) refl (hits-sorted points ray n)
+hits-sorted scene ray zero = none
+hits-sorted scene ray (suc n) = by (meetAt scene ray n) refl (hits-sorted scene ray n)
   where
-    by : (m : Meet) → meetOf ray (triangleAt points n) ≡ m → Sorted (hitsOf points ray n) → Sorted (withMeet (hitsOf points ray n) n m)
+    by : (m : Meet) → meetAt scene ray n ≡ m → Sorted (hitsOf scene ray n) → Sorted (withMeet (hitsOf scene ray n) n m)
     by Miss e s = s
-    by (Hit t u v) e s =
-        put (struck t n) (hitsOf points ray n)
+    by (Hit t u v front) e s =
+        put (struck t n) (hitsOf scene ray n)
         (λ g m f.
-        let h = hits-only points ray n m in
-        either t (g .distance) n (g .place) (hit-number ray _ t u v e) (hit-number ray _ (g .distance) (h .first) (h .second) (h .met)) (h .within) f)
+        let h = hits-only scene ray n m in
+        either t (g .distance) n (g .place) (hit-number _ _ _ ray _ t u v front e) (hit-number _ _ _ ray _ (g .distance) (h .first) (h .second) (h .front) (h .met)) (h .within) f)
         s
 
 -- ---- and so each comes before all that follow
@@ -114,9 +114,9 @@ sorted-once (g ∷ gs) (h ∷ hs) s t f b =
         (List·Memᴰ·cases-cons (f g (List·Memᴰ·head refl)))
 
 -- the hits are the one sorted list of what the test answers
-pub hits-are : (points : List Float) (ray : Ray) (n : ℕ) (hs : List Struck) → Sorted hs → ((k : Struck) → List·Memᴰ k hs → Stands points ray n k)
-    → ((k : Struck) → Stands points ray n k → List·Memᴰ k hs) → hitsOf points ray n ≡ hs
-hits-are points ray n hs s f b =
-    sorted-once (hitsOf points ray n) hs (hits-sorted points ray n) s
-    (λ k m. b k (hits-only points ray n m))
-    (λ k m. let e = f k m in hits-all points ray n (k .place) (k .distance) (e .first) (e .second) (e .within) (e .met))
+pub hits-are : (scene : Scene) (ray : Ray) (n : ℕ) (hs : List Struck) → Sorted hs → ((k : Struck) → List·Memᴰ k hs → Stands scene ray n k)
+    → ((k : Struck) → Stands scene ray n k → List·Memᴰ k hs) → hitsOf scene ray n ≡ hs
+hits-are scene ray n hs s f b =
+    sorted-once (hitsOf scene ray n) hs (hits-sorted scene ray n) s
+    (λ k m. b k (hits-only scene ray n m))
+    (λ k m. let e = f k m in hits-all scene ray n (k .place) (k .distance) (e .first) (e .second) (e .front) (e .within) (e .met))

@@ -3,3 +3,4 @@ pub mod NearestLaws
 pub mod HitOrder
 pub mod TransmittanceLaws
 pub mod Narrowed
+pub mod BaseScans

@@ -15,10 +15,13 @@ use Rattle.names.specs.Scene.{Scene}
 use Rattle.vectors.specs.declared.Ray.{Ray}
 use Rattle.vectors.specs.declared.Triangle.{Triangle}
 use Rattle.triangle.specs.Meet.{largest32, absentOf, solvedOf, judgedOf, meetOf}
+use Rattle.triangle.specs.Places.{triangleAt}
 use Rattle.triangle.specs.Laws.{hit-met}
 use Rattle.triangle.specs.declared.Meet.{Meet}
 use Rattle.triangle.specs.declared.Meet.the-variants.{Miss, Hit}
-use Rattle.scan.specs.Nearest.{beats, nearerOf, meetAt, nearestTo, nearestOf}
+use Rattle.panels.specs.Panels.{kindAt, counts, countedOf, metAt, meetAt}
+use Rattle.panels.specs.PanelLaws.{met-answered}
+use Rattle.scan.specs.Nearest.{beats, nearerOf, nearestTo, nearestOf}
 use Rattle.scan.specs.declared.Nearest.{Nearest}
 use Rattle.scan.specs.declared.Nearest.the-variants.{Nothing, At}
 use Rattle.hits.specs.Order.{otherwise-below}
@@ -35,7 +38,7 @@ pub record Held : Type 0 where
 
 unfoldable pub taken : Held → ℕ → Meet → Held
 taken b i Miss = b
-taken b i (Hit t u v) = record { limit = t; hit = At i t u v }
+taken b i (Hit t u v front) = record { limit = t; hit = At i t u v front }
 
 unfoldable pub narrowingTo : Scene → Ray → ℕ → Held
 narrowingTo scene ray zero = record { limit = ray .longest; hit = Nothing }
@@ -47,7 +50,7 @@ narrowingTo scene ray (suc i) =
 -- beyond s is a miss
 abbrev unlessBeyond : Float → Meet → Meet
 unlessBeyond s Miss = Miss
-unlessBeyond s (Hit t u v) = cond (lt s t) Miss (Hit t u v)
+unlessBeyond s (Hit t u v front) = cond (lt s t) Miss (Hit t u v front)
 
 -- the tests before, which do not see the longest distance
 first-tests : (s : Float) (a b c d e f g : Bool) (m n : Meet) → m ≡ unlessBeyond s n
@@ -63,12 +66,12 @@ first-tests s false false true true false false true m n h = refl
 first-tests s false false true true false false false m n h = h
 
 -- the last two tests, where s is no longer than d
-last-tests : (s d t u v : Float) → isNan s ≡ false → lt d s ≡ false
-    → cond (lt s t) Miss (cond (le (magnitudeOf t) largest32) (Hit t u v) Miss)
-    ≡ unlessBeyond s (cond (lt d t) Miss (cond (le (magnitudeOf t) largest32) (Hit t u v) Miss))
-last-tests s d t u v n h = by (lt d t) (lt s t) (le (magnitudeOf t) largest32) refl refl
+last-tests : (s d t u v : Float) (front : Bool) → isNan s ≡ false → lt d s ≡ false
+    → cond (lt s t) Miss (cond (le (magnitudeOf t) largest32) (Hit t u v front) Miss)
+    ≡ unlessBeyond s (cond (lt d t) Miss (cond (le (magnitudeOf t) largest32) (Hit t u v front) Miss))
+last-tests s d t u v front n h = by (lt d t) (lt s t) (le (magnitudeOf t) largest32) refl refl
   where
-    by : (a b c : Bool) → lt d t ≡ a → lt s t ≡ b → cond b Miss (cond c (Hit t u v) Miss) ≡ unlessBeyond s (cond a Miss (cond c (Hit t u v) Miss))
+    by : (a b c : Bool) → lt d t ≡ a → lt s t ≡ b → cond b Miss (cond c (Hit t u v front) Miss) ≡ unlessBeyond s (cond a Miss (cond c (Hit t u v front) Miss))
     by true true c e f = refl
     by true false c e f =
         absurd (false≢true (sym f ∙ le-lt-transitive s d t (not-lt-le s d n (lt-numbers d t e .0) h) e))
@@ -84,7 +87,25 @@ narrowed-test ray triangle s n h =
     let x = solvedOf ray triangle in
     first-tests s (absentOf triangle) (le (magnitudeOf (x .det)) flatLimit) (le zero32 (x .u)) (le (x .u) one32) (lt (x .v) zero32)
     (lt one32 (add binary32 (x .u) (x .v))) (lt (x .t) (ray .shortest)) _ _
-    (last-tests s (ray .longest) (x .t) (x .u) (x .v) n h)
+    (last-tests s (ray .longest) (x .t) (x .u) (x .v) (lt zero32 (x .det)) n h)
+
+-- whether a triangle counts does not see the longest distance
+counted-beyond : (kind : ℕ) (s : Float) (m : Meet) → countedOf kind (unlessBeyond s m) ≡ unlessBeyond s (countedOf kind m)
+unfolding countedOf
+counted-beyond kind s Miss = refl
+counted-beyond kind s (Hit t u v front) = by (lt s t) (counts kind front) refl refl
+  where
+    by : (a b : Bool) → lt s t ≡ a → counts kind front ≡ b
+        → countedOf kind (cond a Miss (Hit t u v front)) ≡ unlessBeyond s (cond b (Hit t u v front) Miss)
+    by true true e f = rw e refl
+    by true false e f = refl
+    by false true e f = rw (f, e) refl
+    by false false e f = rw f refl
+
+narrowed-met : (scene : Scene) (ray : Ray) (i : ℕ) (s : Float) → isNan s ≡ false → lt (ray .longest) s ≡ false
+    → meetAt scene (narrowed ray s) i ≡ unlessBeyond s (meetAt scene ray i)
+unfolding metAt
+narrowed-met scene ray i s n h = rw (narrowed-test ray (triangleAt (scene .points) i) s n h) (counted-beyond _ s _)
 
 -- ---- the two scans
 
@@ -111,46 +132,46 @@ module _ (scene : Scene) (ray : Ray) where
 
   abbrev Agrees : ℕ → Held → Nearest → Type 0
   Agrees n b Nothing = (b .hit ≡ Nothing) × (b .limit ≡ ray .longest)
-  Agrees n b (At i t u v) = (b .hit ≡ At i t u v) × Holding n i t b
+  Agrees n b (At i t u v front) = (b .hit ≡ At i t u v front) × Holding n i t b
 
-  holding : (n : ℕ) (t u v : Float) → meetAt scene ray n ≡ Hit t u v → Holding (suc n) n t (record { limit = t; hit = At n t u v })
-  holding n t u v e =
-      record { below = omega arith; number = hit-number ray _ t u v e; reached = hit-met ray _ t u v e .not-above; limit = refl }
+  holding : (n : ℕ) (t u v : Float) (front : Bool) → meetAt scene ray n ≡ Hit t u v front → Holding (suc n) n t (record { limit = t; hit = At n t u v front })
+  holding n t u v front e =
+      record { below = omega arith; number = hit-number _ _ _ ray _ t u v front e; reached = hit-met ray _ t u v front (met-answered _ _ _ ray n t u v front e .0) .not-above; limit = refl }
 
   step : (n : ℕ) (b : Held) (c : Nearest) (m : Meet) → meetAt scene ray n ≡ m → Agrees n b c
       → Agrees (suc n) (taken b n (meetAt scene (narrowed ray (b .limit)) n)) (nearerOf c n m)
   unfolding taken nearerOf
   step n b Nothing Miss e a = let f : meetAt scene (narrowed ray (b .limit)) n ≡ Miss = rw (a .1) e in rw f a
-  step n b Nothing (Hit t u v) e a =
-      let f : meetAt scene (narrowed ray (b .limit)) n ≡ Hit t u v = rw (a .1) e in rw f (refl, holding n t u v e)
-  step n b (At i s p q) Miss e a =
+  step n b Nothing (Hit t u v front) e a =
+      let f : meetAt scene (narrowed ray (b .limit)) n ≡ Hit t u v front = rw (a .1) e in rw f (refl, holding n t u v front e)
+  step n b (At i s p q side) Miss e a =
       let h = a .1 in
-      let f : meetAt scene (narrowed ray (b .limit)) n ≡ Miss = rw (h .limit, narrowed-test ray _ s (h .number) (h .reached), e) refl in
+      let f : meetAt scene (narrowed ray (b .limit)) n ≡ Miss = rw (h .limit, narrowed-met scene ray n s (h .number) (h .reached), e) refl in
       rw f (a .0, record { below = omega (arith, h .below); number = h .number; reached = h .reached; limit = h .limit })
-  step n b (At i s p q) (Hit t u v) e a = by (lt s t) (lt t s) (eq t s) refl refl refl
+  step n b (At i s p q side) (Hit t u v front) e a = by (lt s t) (lt t s) (eq t s) refl refl refl
     where
       h : Holding n i s b
       h = a .1
 
-      met : meetAt scene (narrowed ray (b .limit)) n ≡ cond (lt s t) Miss (Hit t u v)
-      met = rw (h .limit, narrowed-test ray _ s (h .number) (h .reached), e) refl
+      met : meetAt scene (narrowed ray (b .limit)) n ≡ cond (lt s t) Miss (Hit t u v front)
+      met = rw (h .limit, narrowed-met scene ray n s (h .number) (h .reached), e) refl
 
       kept : Holding (suc n) i s b
       kept = record { below = omega (arith, h .below); number = h .number; reached = h .reached; limit = h .limit }
 
       nearer : beats t n s i ≡ true → lt s t ≡ false
-          → Agrees (suc n) (taken b n (meetAt scene (narrowed ray (b .limit)) n)) (cond (beats t n s i) (At n t u v) (At i s p q))
-      nearer g f = rw (g, met, f) (refl, holding n t u v e)
+          → Agrees (suc n) (taken b n (meetAt scene (narrowed ray (b .limit)) n)) (cond (beats t n s i) (At n t u v front) (At i s p q side))
+      nearer g f = rw (g, met, f) (refl, holding n t u v front e)
 
       farther : beats t n s i ≡ false → lt s t ≡ true
-          → Agrees (suc n) (taken b n (meetAt scene (narrowed ray (b .limit)) n)) (cond (beats t n s i) (At n t u v) (At i s p q))
+          → Agrees (suc n) (taken b n (meetAt scene (narrowed ray (b .limit)) n)) (cond (beats t n s i) (At n t u v front) (At i s p q side))
       farther g f = rw (g, met, f) (a .0, kept)
 
       by : (x y z : Bool) → lt s t ≡ x → lt t s ≡ y → eq t s ≡ z
-          → Agrees (suc n) (taken b n (meetAt scene (narrowed ray (b .limit)) n)) (cond (beats t n s i) (At n t u v) (At i s p q))
+          → Agrees (suc n) (taken b n (meetAt scene (narrowed ray (b .limit)) n)) (cond (beats t n s i) (At n t u v front) (At i s p q side))
       by x true z f g k = nearer (beats-nearer t s n i g) (lt-asymmetric t s g)
       by x false true f g k = nearer (beats-equal t s n i (h .below) g k) (eq-not-lt s t (eq-symmetric t s k))
-      by x false false f g k = farther (beats-not t s n i g k) (otherwise-below t s (hit-number ray _ t u v e) (h .number) g k)
+      by x false false f g k = farther (beats-not t s n i g k) (otherwise-below t s (hit-number _ _ _ ray _ t u v front e) (h .number) g k)
 
   agrees : (n : ℕ) → Agrees n (narrowingTo scene ray n) (nearestTo scene ray n)
   unfolding narrowingTo nearestTo
@@ -159,7 +180,7 @@ module _ (scene : Scene) (ray : Ray) where
 
   same-hit : (n : ℕ) (b : Held) (c : Nearest) → Agrees n b c → b .hit ≡ c
   same-hit n b Nothing a = a .0
-  same-hit n b (At i t u v) a = a .0
+  same-hit n b (At i t u v front) a = a .0
 
   -- the Rust's scan answers the nearest hit
   pub narrowing-is-nearest : narrowingTo scene ray (length (scene .uses)) .hit ≡ nearestOf scene ray

@@ -21,7 +21,8 @@ use Rattle.limits.specs.Limits.{upTo, badNumbers}
 use Rattle.limits.specs.LimitsLaws.{transmission-within}
 use Rattle.hits.specs.Hits.{hitsOf, placesOf}
 use Rattle.hits.specs.HitLaws.{places-below}
-use Rattle.scan.specs.Transmittance.{kindAt, transmissionAt, passOf, transmittanceOf}
+use Rattle.panels.specs.Panels.{kindAt, stopsLight}
+use Rattle.scan.specs.Transmittance.{transmissionAt, passOf, transmittanceOf}
 
 -- a number from 0 to 1: +a / p with a at most p, or −0
 data Unitary : Float → Type 0 where
@@ -120,7 +121,7 @@ unfolding passOf
 pass-within uses kinds numbers w [] h t = h
 pass-within uses kinds numbers w (i ∷ is) h t =
     let x = mul binary32 w (transmissionAt uses numbers i) in
-    by (eqb (kindAt uses kinds i) 0) (le x faintLimit) _
+    by (stopsLight (kindAt uses kinds i)) (le x faintLimit) _
     (pass-within uses kinds numbers x is (product-within w _ h (t 0 (suc-le-suc zero-le))) (λ j l. t (suc j) (suc-le-suc l)))
   where
     by : (a b : Bool) (y : Float) → upTo one32 y ≡ true → upTo one32 (cond a zero32 (cond b zero32 y)) ≡ true
@@ -134,7 +135,7 @@ unfolding transmittanceOf
 transmittance-within scene ray s b =
     pass-within (scene .uses) (scene .kinds) (scene .numbers) one32 _ one-is-within
     (λ j l.
-    let p = places-below (scene .points) ray (length (scene .uses)) j l in
-    let i = getD (placesOf (hitsOf (scene .points) ray (length (scene .uses)))) j 0 in
+    let p = places-below scene ray (length (scene .uses)) j l in
+    let i = getD (placesOf (hitsOf scene ray (length (scene .uses)))) j 0 in
     let u = getD (scene .uses) i 0 in
     transmission-within (scene .numbers) b (u * 7 + 6) (omega (arith, s .within i p, s .numbers)) (omega arith))

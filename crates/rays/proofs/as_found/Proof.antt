@@ -16,7 +16,7 @@ returns c = cc
 
 returns-2 : tie.Need-returns-2
 unfolding foundCase
-returns-2 c = cc
+returns-2 c = rw (c .before .n .given .1)
 
 pub as-found-spec : {M : Type 1} → statement M
 as-found-spec = tie.close (tie.spec enum-told enum-known-n returns returns-2)

@@ -23,7 +23,7 @@ enum-known-found c = search needs
 surface-at-requires : tie.Need-surface-at-requires
 surface-at-requires c κs =
     let met = sym (c .before .before .before .nearest .ensures) ∙ c .before .found .given .1 in
-    (c .before .before .before .before .before .before .before .before .before .before .before .before .pre, place-below _ _ _ _ _ _ met)
+    (c .before .before .before .before .before .before .before .before .before .before .before .before .pre, place-below _ _ _ _ _ _ _ met)
 
 surface-rays-requires : tie.Need-surface-rays-requires
 surface-rays-requires c κs = search needs

@@ -23,7 +23,7 @@ from-surface-requires : tie.Need-from-surface-requires
 from-surface-requires c κs =
     let s = c .before .before .before .before .before .before .before .before .before .before .before .before .before in
     let met = sym (c .before .before .before .before .before .nearest .ensures) ∙ c .before .before .before .found .given .1 in
-    (s .pre .0, (s .pre .1 .0, (s .pre .1 .1, place-below _ _ _ _ _ _ met)))
+    (s .pre .0, (s .pre .1 .0, (s .pre .1 .1, place-below _ _ _ _ _ _ _ met)))
 
 add-t21 : tie.Need-add-t21
 add-t21 c =
