@@ -23,8 +23,9 @@ use Rattle.grid.specs.declared.Corners.{Corners}
 use Rattle.grid.specs.Grid.{edgesOf, smallestEdgeOf}
 use Rattle.limits.specs.Limits.{within, upTo, outsideV, badAxes, badCorners, badEdges, wrongShare, wrongScene, tooMany, badPoints, badTriangle, badKinds, badFrom, badUses, badMaterials, badRay, badLights}
 use Rattle.lists.specs.Some.{some}
-use Rattle.triangle.specs.Meet.{absentOf, solvedOf, judgedOf, meetOf}
+use Rattle.triangle.specs.Meet.{absentOf, solvedOf, frontOf, judgedOf, meetOf}
 use Rattle.triangle.specs.Places.{triangleAt}
+use Rattle.panels.specs.Panels.{counts, stopsLight, countedOf, metAt}
 use Rattle.hits.specs.Hits.{before, insertOf, withMeet, hitsOf}
 use Rattle.scan.specs.Transmittance.{passOf, transmittanceOf}
 use Rattle.rays.specs.Rays.{meetRefusal, valuesOfTest, meetValues, wrongScratch, transmittanceRefusal}
@@ -58,9 +59,9 @@ pointsQ = zero32 ∷ zero32 ∷ zero32 ∷ one32 ∷ zero32 ∷ zero32 ∷ zero3
 unfoldable pub downFrom : Float → Float → Float → Ray
 downFrom a b c = record { origin = vec a b c; direction = vec zero32 zero32 (lit 0xbf800000); shortest = zero32; longest = inf32 }
 
--- refusal, hit or not, place, distance, u, v
+-- refusal, hit or not, place, distance, u, v, and 1 where the front was met
 unfoldable pub meetAnswer : Ray → List ℕ
-meetAnswer ray = let a = meetValues ray triangleQ in a .number ∷ a .hit ∷ a .place ∷ bits (a .t ∷ a .u ∷ a .v ∷ [])
+meetAnswer ray = let a = meetValues ray triangleQ in a .number ∷ a .hit ∷ a .place ∷ (bits (a .t ∷ a .u ∷ a .v ∷ []) ++ (a .front ∷ []))
 
 -- so many sheets of Q, each of the second of two materials, which is translucent at 0.5; the first is opaque
 unfoldable pub stacked : ℕ → List Float
@@ -141,10 +142,10 @@ figure a g = record { answer = a; given = g }
 -- those that computation alone decides, in document 01's order
 unfoldable pub computed : List Figure
 computed =
-    figure (meetAnswer (downFrom quarter32 quarter32 one32)) (0 ∷ 1 ∷ 0 ∷ 0x3f800000 ∷ 0x3e800000 ∷ 0x3e800000 ∷ [])
-    ∷ figure (meetAnswer (downFrom half32 half32 one32)) (0 ∷ 1 ∷ 0 ∷ 0x3f800000 ∷ 0x3f000000 ∷ 0x3f000000 ∷ [])
-    ∷ figure (meetAnswer (downFrom half32 (lit 0x3f400000) one32)) (0 ∷ 0 ∷ 0 ∷ 0 ∷ 0 ∷ 0 ∷ [])
-    ∷ figure (meetAnswer (downFrom quarter32 quarter32 (lit 0xbf800000))) (0 ∷ 0 ∷ 0 ∷ 0 ∷ 0 ∷ 0 ∷ [])
+    figure (meetAnswer (downFrom quarter32 quarter32 one32)) (0 ∷ 1 ∷ 0 ∷ 0x3f800000 ∷ 0x3e800000 ∷ 0x3e800000 ∷ 1 ∷ [])
+    ∷ figure (meetAnswer (downFrom half32 half32 one32)) (0 ∷ 1 ∷ 0 ∷ 0x3f800000 ∷ 0x3f000000 ∷ 0x3f000000 ∷ 1 ∷ [])
+    ∷ figure (meetAnswer (downFrom half32 (lit 0x3f400000) one32)) (0 ∷ 0 ∷ 0 ∷ 0 ∷ 0 ∷ 0 ∷ 0 ∷ [])
+    ∷ figure (meetAnswer (downFrom quarter32 quarter32 (lit 0xbf800000))) (0 ∷ 0 ∷ 0 ∷ 0 ∷ 0 ∷ 0 ∷ 0 ∷ [])
     ∷ figure (passing 0) (0 ∷ 0x3f800000 ∷ [])
     ∷ figure (passing 13) (0 ∷ 0x39000000 ∷ [])
     ∷ figure (passing 14) (0 ∷ 0 ∷ [])
@@ -172,7 +173,7 @@ abbrev givens : List Figure → List (List ℕ)
 givens l = map (λ (f : Figure). f .given) l
 
 computed-figures : answers computed ≡ givens computed
-unfolding computed meetAnswer passing sampled masked blurAnswer looked triangleQ pointsQ downFrom stacked sheets upToCorner firstOf unlessRefused fold tab any magnitudeOf largerOf smallerOf toward rootOf addV subV scaleV dotV crossV lengthV edgesOf within upTo outsideV badAxes badCorners badEdges wrongShare wrongScene tooMany badPoints badTriangle badKinds badFrom badUses badMaterials badRay badLights some absentOf solvedOf judgedOf meetOf triangleAt before insertOf withMeet hitsOf passOf transmittanceOf meetRefusal valuesOfTest meetValues wrongScratch transmittanceRefusal lightBlurOf squareAt meanAt meanIn around along wrongBlurLists lightBlurRefusal smallestEdgeOf densityOf countOf sideFrom sideOf shareOf pointOf cellOn indexWithin cellOf sampleCell sampledIn touches occupiedIn occupiedEntry occupiedOf activeIn activeEntry activeOf markedCount packed wordsOf wrongMasks masksRefusal clamped clampedCell betweenOf cellsFrom cellsOf blendOf blendedOf badLightCells lightAtOf Ieee.ofBits Ieee.ofFields Ieee.odd Ieee.toBits Ieee.neg Ieee.le Ieee.lt Ieee.eq Ieee.isNan Ieee.add Ieee.sub Ieee.mul Ieee.div Ieee.ofInt Ieee.toUnsigned Ieee.round Ieee.sum Ieee.units Ieee.size Ieee.span Ieee.climb
+unfolding computed meetAnswer passing sampled masked blurAnswer looked triangleQ pointsQ downFrom stacked sheets upToCorner firstOf unlessRefused fold tab any magnitudeOf largerOf smallerOf toward rootOf addV subV scaleV dotV crossV lengthV edgesOf within upTo outsideV badAxes badCorners badEdges wrongShare wrongScene tooMany badPoints badTriangle badKinds badFrom badUses badMaterials badRay badLights some absentOf solvedOf frontOf judgedOf meetOf triangleAt counts stopsLight countedOf metAt before insertOf withMeet hitsOf passOf transmittanceOf meetRefusal valuesOfTest meetValues wrongScratch transmittanceRefusal lightBlurOf squareAt meanAt meanIn around along wrongBlurLists lightBlurRefusal smallestEdgeOf densityOf countOf sideFrom sideOf shareOf pointOf cellOn indexWithin cellOf sampleCell sampledIn touches occupiedIn occupiedEntry occupiedOf activeIn activeEntry activeOf markedCount packed wordsOf wrongMasks masksRefusal clamped clampedCell betweenOf cellsFrom cellsOf blendOf blendedOf badLightCells lightAtOf Ieee.ofBits Ieee.ofFields Ieee.odd Ieee.toBits Ieee.neg Ieee.le Ieee.lt Ieee.eq Ieee.isNan Ieee.add Ieee.sub Ieee.mul Ieee.div Ieee.ofInt Ieee.toUnsigned Ieee.round Ieee.sum Ieee.units Ieee.size Ieee.span Ieee.climb
 computed-figures = refl
 
 bake-figures : answers bakes ≡ givens bakes

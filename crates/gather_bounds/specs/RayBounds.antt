@@ -3,7 +3,7 @@
 -- whatever direction; but a ray to the sky starts moved along its own direction, which is not shown to be finite. Where it is not, u is NaN and the ray meets nothing.
 use mathlib.Core.Path.{_≡_}
 use mathlib.Core.Logic.{⊎-elim}
-use mathlib.Core.Bool.{false}
+use mathlib.Core.Bool.{Bool, false}
 use Prim.Native.Nat.{ℕ, _<_}
 use native.Mathlib.Omega.{arith}
 use lib.Dec.{lit<, lit≤}

@@ -18,15 +18,15 @@ use Rattle.geaidnosa.specs.declared.PartStart.{PartStart}
 
 -- ---- the version
 
--- 0.4.0: major·1,000,000 + minor·1,000 + patch
+-- 0.5.0: major·1,000,000 + minor·1,000 + patch
 abbrev pub versionNumber : ℕ
-versionNumber = 4000
+versionNumber = 5000
 
 -- ---- a hit
 
 -- the values that a struct of C holds
 abbrev pub valuesOf : RayHit → Values
-valuesOf r = record { number = r .refusal; hit = r .hit; place = r .place; t = r .t; u = r .u; v = r .v }
+valuesOf r = record { number = r .refusal; hit = r .hit; place = r .place; t = r .t; u = r .u; v = r .v; front = r .front }
 
 pub record MeetTold (ray : Ray) (triangle : Triangle) (r : RayHit) : Type 0 where
   pub values : valuesOf r ≡ meetValues ray triangle

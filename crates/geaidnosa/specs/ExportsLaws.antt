@@ -24,7 +24,7 @@ use Rattle.geaidnosa.specs.Exports.{valuesOf, MeetTold, NearestTold, cho
 
 -- the struct that holds the values, and that it holds no others
 abbrev hitOf : Values → RayHit
-hitOf w = record { refusal = w .number; hit = w .hit; place = w .place; t = w .t; u = w .u; v = w .v }
+hitOf w = record { refusal = w .number; hit = w .hit; place = w .place; t = w .t; u = w .u; v = w .v; front = w .front }
 
 pub values-once : (r s : RayHit) → valuesOf r ≡ valuesOf s → r ≡ s
 values-once r s e = ap hitOf e

@@ -4,6 +4,7 @@
 ghost use Rattle.names.specs.Scene.{sceneOf};
 ghost use lib.ListN.{length};
 ghost use mathlib.Core.Path.{_≡_};
+ghost use mathlib.Core.Bool.{cond};
 ghost use Rattle.floats.specs.Choice.{magnitudeOf, largerOf, smallerOf};
 ghost use Rattle.floats.specs.Patterns.{onBits, onBoth};
 ghost use Rattle.floats.specs.Root.{rootOf};
@@ -43,7 +44,8 @@ use volume::Figures;
 use volume::Head;
 use volume::Needed;
 
-// A refusal's number, or 0; 1 for a hit, else 0; the hit's place in the list, its distance, u and v, and zeros where there is no hit.
+// A refusal's number, or 0; 1 for a hit, else 0; the hit's place in the list, its distance, u and v, and 1 where the front was met; zeros where there is no
+// hit.
 #[repr(C)]
 pub struct RayHit {
     pub refusal: u32,
@@ -52,6 +54,7 @@ pub struct RayHit {
     pub t: f32,
     pub u: f32,
     pub v: f32,
+    pub front: u32,
 }
 
 // A refusal's number, or 0 and the place in the list where the voxel's sixteen numbers start.
@@ -63,8 +66,8 @@ pub struct PartStart {
 
 // ---- the version
 
-// 0.4.0: major·1,000,000 + minor·1,000 + patch, as GEAIDNOSA_VERSION_NUMBER in the header.
-const VERSION: u32 = 4000;
+// 0.5.0: major·1,000,000 + minor·1,000 + patch, as GEAIDNOSA_VERSION_NUMBER in the header.
+const VERSION: u32 = 5000;
 
 #[no_mangle]
 pub extern "C" fn geaidnosa_version() -> u32
@@ -445,7 +448,7 @@ fn met_told(m: Met) -> RayHit
     match m {
         Met::Refused(refusal) => no_hit(refusal),
         Met::Miss => no_hit(0),
-        Met::Hit(t, u, v) => hit_at(0, t, u, v),
+        Met::Hit(t, u, v, front) => hit_at(0, t, u, v, front),
     }
 }
 
@@ -455,7 +458,7 @@ fn found_told(f: Found) -> RayHit
     match f {
         Found::Refused(refusal) => no_hit(refusal),
         Found::Nothing => no_hit(0),
-        Found::Hit(place, t, u, v) => hit_at(place, t, u, v),
+        Found::Hit(place, t, u, v, front) => hit_at(place, t, u, v, front),
     }
 }
 
@@ -469,12 +472,14 @@ fn no_hit(refusal: u32) -> RayHit
         t: 0.0,
         u: 0.0,
         v: 0.0,
+        front: 0,
     }
 }
 
-fn hit_at(place: usize, t: f32, u: f32, v: f32) -> RayHit
-    ensures { λ r. ⌜ valuesOf r ≡ hitValues place t u v ⌝ }
+fn hit_at(place: usize, t: f32, u: f32, v: f32, front: bool) -> RayHit
+    ensures { λ r. ⌜ valuesOf r ≡ hitValues place t u v front ⌝ }
 {
+    let side = as_number(front);
     RayHit {
         refusal: 0,
         hit: 1,
@@ -482,5 +487,12 @@ fn hit_at(place: usize, t: f32, u: f32, v: f32) -> RayHit
         t,
         u,
         v,
+        front: side,
     }
+}
+
+fn as_number(front: bool) -> u32
+    ensures { λ r. ⌜ r ≡ cond front 1 0 ⌝ }
+{
+    if front { 1 } else { 0 }
 }

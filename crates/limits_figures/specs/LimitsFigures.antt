@@ -81,19 +81,20 @@ pub point-figures : map (λ (x : ℕ). badPoints (zero32 ∷ zero32 ∷ lit x �
 unfolding badPoints some within ofBits neg lt le eq
 point-figures = refl
 
--- 6: a good material; a kind of 2; a use past the list; a use where there is no material; the transmission just above 1; a colour just above 65,536
+-- 6: a good material; a panel; a kind of 3; a use past the list; a use where there is no material; the transmission just above 1; a colour just above 65,536
 abbrev material : ℕ → ℕ → List Float
 material colour transmission = lit colour ∷ zero32 ∷ zero32 ∷ zero32 ∷ zero32 ∷ zero32 ∷ lit transmission ∷ []
 
 pub materials : badMaterials (0 ∷ []) (1 ∷ []) (material 0x47800000 0x3f800000)
     ∷ badMaterials (0 ∷ []) (2 ∷ []) (material 0 0)
+    ∷ badMaterials (0 ∷ []) (3 ∷ []) (material 0 0)
     ∷ badMaterials (1 ∷ []) (0 ∷ []) (material 0 0)
     ∷ badMaterials (0 ∷ []) [] []
     ∷ badMaterials [] (0 ∷ []) (material 0 0x3f800001)
     ∷ badMaterials [] (0 ∷ []) (material 0x47800001 0)
     ∷ badMaterials [] [] []
     ∷ []
-    ≡ false ∷ true ∷ true ∷ true ∷ true ∷ true ∷ false ∷ []
+    ≡ false ∷ false ∷ true ∷ true ∷ true ∷ true ∷ true ∷ false ∷ []
 unfolding badMaterials badKinds badFrom badUses some upTo within ofBits neg lt le eq
 materials = refl
 

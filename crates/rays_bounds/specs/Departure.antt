@@ -36,7 +36,7 @@ judgedWithout s shortest longest =
     (cond (Ieee.lt (s .v) zero32) Miss
     (cond (Ieee.lt one32 (Ieee.add binary32 (s .u) (s .v))) Miss
     (cond (Ieee.lt (s .t) shortest) Miss
-    (cond (Ieee.lt longest (s .t)) Miss (Hit (s .t) (s .u) (s .v) (frontOf s))))))
+    (cond (Ieee.lt longest (s .t)) Miss (Hit (s .t) (s .u) (s .v) (frontOf (s .det)))))))
     Miss)
     Miss)
 
@@ -71,7 +71,7 @@ idle ray triangle h =
     (Ieee.lt (s .t) (ray .shortest))
     (Ieee.lt (ray .longest) (s .t))
     (Ieee.le (magnitudeOf (s .t)) largest32)
-    (Hit (s .t) (s .u) (s .v) (frontOf s))
+    (Hit (s .t) (s .u) (s .v) (frontOf (s .det)))
     h in
     rw e refl
 
@@ -108,5 +108,5 @@ abbrev below : Triangle
 below = record { p0 = vec zero32 zero32 zero32; p1 = vec two32 zero32 zero32; p2 = vec zero32 two32 zero32 }
 
 pub departure-shows : (meetOf beyond below ≡ Miss) × (meetWithout beyond below ≡ Hit inf32 (lit 0x3e000000) nan true)
-unfolding meetOf meetWithout judgedOf judgedWithout solvedOf absentOf magnitudeOf subV crossV dotV Ieee.ofBits Ieee.ofFields Ieee.odd Ieee.neg Ieee.le Ieee.lt Ieee.eq Ieee.add Ieee.sub Ieee.mul Ieee.div Ieee.round Ieee.sum Ieee.units Ieee.size Ieee.span Ieee.climb
+unfolding meetOf meetWithout judgedOf judgedWithout frontOf solvedOf absentOf magnitudeOf subV crossV dotV Ieee.ofBits Ieee.ofFields Ieee.odd Ieee.neg Ieee.le Ieee.lt Ieee.eq Ieee.add Ieee.sub Ieee.mul Ieee.div Ieee.round Ieee.sum Ieee.units Ieee.size Ieee.span Ieee.climb
 departure-shows = (refl, refl)

@@ -5,8 +5,8 @@ use rays::Met;
 use rays::Transmitted;
 use replay::Tally;
 
-// Holds an answer's numbers to six words: refusal, hit, place, distance, u, v.
-fn six(
+// Holds an answer's numbers to seven words: refusal, hit, place, distance, u, v, front.
+fn seven(
     s: &[u8],
     t: Tally,
     at: usize,
@@ -16,32 +16,51 @@ fn six(
     d: f32,
     u: f32,
     v: f32,
+    front: bool,
 ) -> Tally {
     let numbers = replay::same_number(s, replay::further(at, 3), d)
         & replay::same_number(s, replay::further(at, 4), u)
         & replay::same_number(s, replay::further(at, 5), v);
     let whole = (replay::word(s, at) == refusal)
         & (replay::word(s, replay::further(at, 1)) == hit)
-        & (replay::small(s, replay::further(at, 2)) == place);
+        & (replay::small(s, replay::further(at, 2)) == place)
+        & (replay::word(s, replay::further(at, 6)) == side(front));
     replay::held(t, whole & numbers)
 }
 
-// Holds an answer's numbers to five words: refusal, hit, distance, u, v.
-fn five(s: &[u8], t: Tally, at: usize, refusal: u32, hit: u32, d: f32, u: f32, v: f32) -> Tally {
+// Holds an answer's numbers to six words: refusal, hit, distance, u, v, front.
+fn six(
+    s: &[u8],
+    t: Tally,
+    at: usize,
+    refusal: u32,
+    hit: u32,
+    d: f32,
+    u: f32,
+    v: f32,
+    front: bool,
+) -> Tally {
     let numbers = replay::same_number(s, replay::further(at, 2), d)
         & replay::same_number(s, replay::further(at, 3), u)
         & replay::same_number(s, replay::further(at, 4), v);
-    let whole = (replay::word(s, at) == refusal) & (replay::word(s, replay::further(at, 1)) == hit);
+    let whole = (replay::word(s, at) == refusal)
+        & (replay::word(s, replay::further(at, 1)) == hit)
+        & (replay::word(s, replay::further(at, 5)) == side(front));
     replay::held(t, whole & numbers)
+}
+
+// The word that says which side was met: 1 for the front, 0 for the back and where nothing is met.
+fn side(front: bool) -> u32 {
+    if front { 1 } else { 0 }
 }
 
 fn triangle(s: &[u8], t: Tally) -> Tally {
     let ray = replay_values::ray(s, 10);
     let met = rays::meet(ray, replay_values::triangle(s, 1));
     match met {
-        Met::Refused(k) => five(s, t, 18, k, 0, 0.0, 0.0, 0.0),
-        Met::Miss => five(s, t, 18, 0, 0, 0.0, 0.0, 0.0),
-        Met::Hit(d, u, v) => five(s, t, 18, 0, 1, d, u, v),
+        Met::Refused(k) => six(s, t, 18, k, 0, 0.0, 0.0, 0.0, false),
+        Met::Miss => six(s, t, 18, 0, 0, 0.0, 0.0, 0.0, false),
+        Met::Hit(d, u, v, front) => six(s, t, 18, 0, 1, d, u, v, front),
     }
 }
 
@@ -63,9 +82,9 @@ fn nearest(
         replay_values::ray(s, replay::further(at, 1)),
     );
     match found {
-        Found::Refused(k) => six(s, t, answer, k, 0, 0, 0.0, 0.0, 0.0),
-        Found::Nothing => six(s, t, answer, 0, 0, 0, 0.0, 0.0, 0.0),
-        Found::Hit(i, d, u, v) => six(s, t, answer, 0, 1, i, d, u, v),
+        Found::Refused(k) => seven(s, t, answer, k, 0, 0, 0.0, 0.0, 0.0, false),
+        Found::Nothing => seven(s, t, answer, 0, 0, 0, 0.0, 0.0, 0.0, false),
+        Found::Hit(i, d, u, v, front) => seven(s, t, answer, 0, 1, i, d, u, v, front),
     }
 }
 
@@ -116,7 +135,7 @@ fn one(
     transmittance(s, t, at, points, uses, kinds, numbers, distances, places)
 }
 
-// Rays one after another, fifteen words each.
+// Rays one after another, sixteen words each.
 fn several(
     s: &[u8],
     t: Tally,
@@ -144,7 +163,7 @@ fn several(
             distances,
             places,
         );
-        at = replay::further(at, 15);
+        at = replay::further(at, 16);
         i += 1;
     }
     tally

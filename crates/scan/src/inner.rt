@@ -4,6 +4,7 @@ ghost use Prim.Native.Nat.{ℕ, _+_, _*_, _≤_, _<_};
 ghost use lib.ListN.{length, getD};
 ghost use Rattle.names.specs.Bits.{one32};
 ghost use Rattle.names.specs.Scene.{Sound, sceneOf};
+ghost use Rattle.triangle.specs.Missed.{Missed};
 ghost use Rattle.triangle.specs.declared.Meet.the-variants.{Hit};
 ghost use Rattle.scan.specs.Nearest.{beats, nearerOf, nearestOf};
 ghost use Rattle.scan.specs.FirstHit.{FirstFrom};
@@ -149,8 +150,8 @@ fn product(uses: &[u32], numbers: &[f32], places: &[usize]) -> f32
 // again.
 const RUN: usize = 8;
 
-// The first hit from place i up to place n, in the list's order. Runs of triangles that are surely missed are passed over, whatever their materials; the test
-// decides of a triangle that may be met, and its kind and side whether it counts.
+// The first hit from place i up to place n, in the list's order. Triangles that are surely missed are passed over, whatever their materials; the test
+// decides of one that may be met, and its kind and side whether it counts.
 pub fn first_hit(
     points: &[f32],
     uses: &[u32],
@@ -165,24 +166,42 @@ pub fn first_hit(
 {
     let mut i = from;
     while i < n {
-        let k = run_of(n - i);
-        let c = triangle::inner::clear(points, i, k, ray);
-        let j = i + c as usize;
-        if c == k {
-            i = j;
-        } else {
-            let m = panels::inner::meet_at(points, uses, kinds, j, ray);
-            match m {
-                Meet::Miss => {
-                    i = j + 1;
-                }
-                Meet::Hit(t, u, v, front) => {
-                    return Nearest::At(j, t, u, v, front);
-                }
+        let j = first_open(points, i, n, ray);
+        if j == n {
+            return Nearest::Nothing;
+        }
+        let m = panels::inner::meet_at(points, uses, kinds, j, ray);
+        match m {
+            Meet::Miss => {
+                i = j + 1;
+            }
+            Meet::Hit(t, u, v, front) => {
+                return Nearest::At(j, t, u, v, front);
             }
         }
     }
     Nearest::Nothing
+}
+
+// A place from i up to n before which all are missed: the first that the ray may meet, or n. A single triangle is left to the test. The loop over runs knows
+// nothing of what follows a hit, so that the compiler keeps all that it needs in registers.
+fn first_open(points: &[f32], from: usize, n: usize, ray: Ray) -> usize
+    requires { ⌜ (from ≤ n) × (n * 9 ≤ length (now points)) ⌝ }
+    ensures { λ r. ⌜ (from ≤ r) × (r ≤ n) × Missed (now (points .entry)) ray from r ⌝ }
+{
+    if n - from == 1 {
+        return from;
+    }
+    let mut i = from;
+    while i < n {
+        let k = run_of(n - i);
+        let c = triangle::inner::clear(points, i, k, ray);
+        i = i + c as usize;
+        if c < k {
+            return i;
+        }
+    }
+    n
 }
 
 // How many of those left are looked over at once.

@@ -14,7 +14,7 @@ use Rattle.names.specs.Numbers.{flatLimit}
 use Rattle.names.specs.Scene.{Scene}
 use Rattle.vectors.specs.declared.Ray.{Ray}
 use Rattle.vectors.specs.declared.Triangle.{Triangle}
-use Rattle.triangle.specs.Meet.{largest32, absentOf, solvedOf, judgedOf, meetOf}
+use Rattle.triangle.specs.Meet.{largest32, absentOf, solvedOf, frontOf, judgedOf, meetOf}
 use Rattle.triangle.specs.Places.{triangleAt}
 use Rattle.triangle.specs.Laws.{hit-met}
 use Rattle.triangle.specs.declared.Meet.{Meet}
@@ -87,7 +87,7 @@ narrowed-test ray triangle s n h =
     let x = solvedOf ray triangle in
     first-tests s (absentOf triangle) (le (magnitudeOf (x .det)) flatLimit) (le zero32 (x .u)) (le (x .u) one32) (lt (x .v) zero32)
     (lt one32 (add binary32 (x .u) (x .v))) (lt (x .t) (ray .shortest)) _ _
-    (last-tests s (ray .longest) (x .t) (x .u) (x .v) (lt zero32 (x .det)) n h)
+    (last-tests s (ray .longest) (x .t) (x .u) (x .v) (frontOf (x .det)) n h)
 
 -- whether a triangle counts does not see the longest distance
 counted-beyond : (kind : ℕ) (s : Float) (m : Meet) → countedOf kind (unlessBeyond s m) ≡ unlessBeyond s (countedOf kind m)

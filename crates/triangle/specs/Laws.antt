@@ -32,7 +32,7 @@ pub record HitPasses (ray : Ray) (triangle : Triangle) (t u v : Float) (front : 
   pub distance : t ≡ solvedOf ray triangle .t
   pub first : u ≡ solvedOf ray triangle .u
   pub second : v ≡ solvedOf ray triangle .v
-  pub side : front ≡ Ieee.lt zero32 (solvedOf ray triangle .det)
+  pub side : front ≡ frontOf (solvedOf ray triangle .det)
   pub not-below : Ieee.lt t (ray .shortest) ≡ false
   pub not-above : Ieee.lt (ray .longest) t ≡ false
   pub finite : Ieee.le (magnitudeOf t) largest32 ≡ true
@@ -63,11 +63,11 @@ hit-met ray triangle t u v front e =
     let h = over _ _ (g .1) in
     let i = over _ _ (h .1) in
     let j = into _ _ (i .1) in
-    let k : Hit (s .t) (s .u) (s .v) (frontOf s) ≡ Hit t u v front = j .1 in
+    let k : Hit (s .t) (s .u) (s .v) (frontOf (s .det)) ≡ Hit t u v front = j .1 in
     let et : t ≡ s .t = cc in
     let eu : u ≡ s .u = cc in
     let ev : v ≡ s .v = cc in
-    let ef : front ≡ Ieee.lt zero32 (s .det) = cc in
+    let ef : front ≡ frontOf (s .det) = cc in
     record {
       present = a .0;
       steep = b .0;

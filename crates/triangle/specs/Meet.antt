@@ -43,9 +43,9 @@ solvedOf ray triangle =
       t = Ieee.mul binary32 (dotV e2 q) inverse;
     }
 
--- whether the front was met
-abbrev pub frontOf : Solved → Bool
-frontOf s = Ieee.lt zero32 (s .det)
+-- whether the front is met, by the determinant
+unfoldable pub frontOf : Float → Bool
+frontOf d = Ieee.lt zero32 d
 
 -- what stands of the determinant, u, v and t, between two distances
 unfoldable pub judgedOf : Solved → Float → Float → Meet
@@ -57,7 +57,7 @@ judgedOf s shortest longest =
     (cond (Ieee.lt one32 (Ieee.add binary32 (s .u) (s .v))) Miss
     (cond (Ieee.lt (s .t) shortest) Miss
     (cond (Ieee.lt longest (s .t)) Miss
-    (cond (Ieee.le (magnitudeOf (s .t)) largest32) (Hit (s .t) (s .u) (s .v) (frontOf s)) Miss)))))
+    (cond (Ieee.le (magnitudeOf (s .t)) largest32) (Hit (s .t) (s .u) (s .v) (frontOf (s .det))) Miss)))))
     Miss)
     Miss)
 

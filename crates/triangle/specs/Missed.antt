@@ -76,5 +76,5 @@ outside-missed ray triangle h =
     (Ieee.lt (s .t) (ray .shortest))
     (Ieee.lt (ray .longest) (s .t))
     (Ieee.le (magnitudeOf (s .t)) largest32)
-    (Hit (s .t) (s .u) (s .v) (frontOf s))
+    (Hit (s .t) (s .u) (s .v) (frontOf (s .det)))
     h)

@@ -4,7 +4,7 @@ ghost use mathlib.Core.Bool.{cond};
 ghost use Prim.Native.Nat.{_+_, _*_, _≤_, _<_};
 ghost use lib.ListN.{length};
 ghost use Rattle.triangle.specs.Places.{triangleAt};
-ghost use Rattle.triangle.specs.Meet.{absentOf, solvedOf, judgedOf, meetOf};
+ghost use Rattle.triangle.specs.Meet.{absentOf, solvedOf, frontOf, judgedOf, meetOf};
 ghost use Rattle.triangle.specs.Halves.{halfSolvedOf, restSolvedOf, besideOf};
 ghost use Rattle.triangle.specs.Missed.{outsideOf, Missed};
 use super::HalfSolved;
@@ -124,9 +124,16 @@ fn judged(s: Solved, shortest: f32, longest: f32) -> Meet
         return Meet::Miss;
     }
     if floats::magnitude(s.t) <= LARGEST {
-        return Meet::Hit(s.t, s.u, s.v, 0.0 < s.det);
+        return Meet::Hit(s.t, s.u, s.v, front(s.det));
     }
     Meet::Miss
+}
+
+// Which side is met: the front where the determinant is above zero.
+fn front(det: f32) -> bool
+    ensures { λ r. ⌜ r ≡ frontOf det ⌝ }
+{
+    0.0 < det
 }
 
 // How many triangles from place i on, at most k, the ray surely misses. The loop has no branch and no store, so that the compiler asks four triangles

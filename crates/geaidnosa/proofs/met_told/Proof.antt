@@ -33,7 +33,7 @@ returns-2 c = c .no-hit2 .ensures ∙ cc
 
 returns-3 : tie.Need-returns-3
 unfolding valuesOfMet
-returns-3 c = c .hit-at .ensures ∙ cc
+returns-3 c = rw (c .before .before .m2 .given .1) (c .hit-at .ensures)
 
 pub met-told-spec : {M : Type 1} → statement M
 met-told-spec =

@@ -39,10 +39,13 @@ returns-7 c = rw (← c .before .before .before .before .before .before .before 
 magnitude-requires-2 : tie.Need-magnitude-requires-2
 magnitude-requires-2 c κs = search needs
 
+front-requires : tie.Need-front-requires
+front-requires c κs = search needs
+
 returns-8 : tie.Need-returns-8
 unfolding judgedOf
 returns-8 c =
-    rw (← c .before .before .before .before .before .before .before .before .before .before .before .before .before .before .before .before .magnitude .ensures, ← c .before .before .magnitude2 .ensures)
+    rw (← c .front .ensures, ← c .before .before .before .before .before .before .before .before .before .before .before .before .before .before .before .before .magnitude .ensures, ← c .before .before .magnitude2 .ensures)
     (search chosen depth 12)
 
 returns-9 : tie.Need-returns-9
@@ -64,5 +67,6 @@ judged-spec =
     returns-6
     returns-7
     magnitude-requires-2
+    front-requires
     returns-8
     returns-9)

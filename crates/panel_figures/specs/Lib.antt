@@ -1,0 +1,2 @@
+-- Panels from both sides, computed.
+pub mod PanelFigures
