@@ -72,9 +72,9 @@ unfolding wrongShare
 no-share = refl
 
 -- 4
-pub counts : tooMany 4096 256 ∷ tooMany 4097 256 ∷ tooMany 4096 257 ∷ tooMany 0 0 ∷ [] ≡ false ∷ true ∷ true ∷ false ∷ []
+pub count-figures : tooMany 4096 256 ∷ tooMany 4097 256 ∷ tooMany 4096 257 ∷ tooMany 0 0 ∷ [] ≡ false ∷ true ∷ true ∷ false ∷ []
 unfolding tooMany
-counts = refl
+count-figures = refl
 
 -- 5: the third number of a point is 4,096, the next float, and NaN
 pub point-figures : map (λ (x : ℕ). badPoints (zero32 ∷ zero32 ∷ lit x ∷ [])) (0x45800000 ∷ 0x45800001 ∷ 0x7fc00000 ∷ []) ≡ false ∷ true ∷ true ∷ []

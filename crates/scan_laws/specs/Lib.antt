@@ -4,3 +4,4 @@ pub mod HitOrder
 pub mod TransmittanceLaws
 pub mod Narrowed
 pub mod BaseScans
+pub mod PanelScans
