@@ -1,0 +1,1 @@
+//! What document 02's C-19 asks for.
