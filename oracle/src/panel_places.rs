@@ -7,6 +7,7 @@ use crate::bad::{self, meant};
 use crate::calls::{Bake, Call, Grid, Lists, Progress, Ray};
 use crate::chance::Chance;
 use crate::items::{self, Item};
+use crate::lamp_places::{cross, dot, met, sub, unit};
 use crate::progress_places;
 use crate::table;
 use crate::word_places::{add, calls, grid, hits, only};
@@ -121,6 +122,30 @@ fn about_a_sheet() -> Vec<Ray> {
     out
 }
 
+/// Large triangles met so nearly along their plane that det has the one sign and the normal's product with the direction the other, as
+/// they are computed: det decides. Of each sign some.
+fn grazing() -> Vec<([f32; 9], Ray)> {
+    let mut chance = Chance::new(0xC19_64A2);
+    let c = &mut chance;
+    let mut out = Vec::new();
+    while out.len() < 8 {
+        let p = [0, 1, 2].map(|_| [0, 1, 2].map(|_| c.between(-4000.0, 4000.0)));
+        let (e1, e2) = (sub(p[1], p[0]), sub(p[2], p[0]));
+        let (a, b, far) = (c.between(-1.0, 1.0), c.between(-1.0, 1.0), c.between(0.0, 3000.0));
+        let direction = unit([0, 1, 2].map(|i| e1[i] * a + e2[i] * b));
+        let origin = [0, 1, 2].map(|i| p[0][i] + e1[i] * 0.25 + e2[i] * 0.5 - direction[i] * far);
+        let det = dot(e1, cross(direction, e2));
+        let normal = unit(cross(e1, e2));
+        let wanted = if out.len() % 2 == 0 { det > 0.0 && dot(direction, normal) > 0.0 } else { det < 0.0 && dot(direction, normal) < 0.0 };
+        if wanted && met(p, origin, direction, 0.0, f32::INFINITY).is_some() {
+            let mut points = [0.0; 9];
+            points.iter_mut().zip(p.iter().flatten()).for_each(|(to, from)| *to = *from);
+            out.push((points, Ray { origin, direction, shortest: 0.0, longest: f32::INFINITY }));
+        }
+    }
+    out
+}
+
 /// One triangle by itself: every order of its points, from both sides.
 fn meets() -> Vec<Item> {
     let mut out = Vec::new();
@@ -147,6 +172,7 @@ fn meets() -> Vec<Item> {
         // too thin to be there, whatever its side
         one(q(turned).map(|x| x * 1.0e-6), along([0.0, 0.0, 1.0], -1.0));
     }
+    grazing().into_iter().for_each(|(points, ray)| one(points, ray));
     out
 }
 
@@ -180,6 +206,11 @@ fn made_rays() -> Vec<Item> {
         let mut lists = Lists::default();
         add(&mut lists, q(turned), PANEL, numbers(0.5));
         out.push(asked(lists, &at_the_limit()));
+    }
+    for (points, ray) in grazing() {
+        let mut lists = Lists::default();
+        add(&mut lists, points, PANEL, numbers(0.5));
+        out.push(asked(lists, &[ray]));
     }
     out.extend(back_before_front());
     out.extend(at_one_distance());
@@ -232,7 +263,7 @@ fn at_one_distance() -> Vec<Item> {
         every(&[(OPAQUE, false), (TRANSLUCENT, false), (PANEL, turned)], 1);
         every(&[(OPAQUE, false), (PANEL, turned)], 1);
         every(&[(TRANSLUCENT, true), (PANEL, turned)], 1);
-        every(&[(PANEL, false), (PANEL, turned)], 1);
+        every(&[(PANEL, false), (PANEL, turned)], 2 - turned as usize);
     }
     every(&[(OPAQUE, true), (TRANSLUCENT, false), (PANEL, false), (PANEL, true)], 3);
     out
@@ -577,6 +608,11 @@ pub fn bad(module: &str, seed: u64) -> Vec<Item> {
                     put(with_kind(&base, place, kind), 6, &format!("kind {kind} at {place}"));
                 }
                 put(with_kind(&base, place, PANEL), 0, "a panel more");
+            }
+            for kind in [3, 255] {
+                let mut unused = with_kind(&base, 1, kind);
+                lists_of(&mut unused).expect("lists").uses.fill(2);
+                put(unused, 6, "a bad kind that no triangle uses");
             }
             let mut panels = base.clone();
             lists_of(&mut panels).expect("lists").kinds.fill(PANEL);
