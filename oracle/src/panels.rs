@@ -47,13 +47,15 @@ impl Side {
 thread_local! {
     /// What the last scan met, in list order, a nearest one within the distance that it had come down to.
     static MET: RefCell<Vec<Side>> = const { RefCell::new(Vec::new()) };
-    /// Whether an opaque hit ended the last transmittance, and whether that was a panel.
+    /// Whether an opaque hit ended the last transmittance that met a panel, and whether that hit was one.
     static ENDED: Cell<Option<bool>> = const { Cell::new(None) };
 }
 
 pub fn scan_begins() {
-    MET.with(|all| all.borrow_mut().clear());
-    ENDED.set(None);
+    if cfg!(feature = "watch") {
+        MET.with(|all| all.borrow_mut().clear());
+        ENDED.set(None);
+    }
 }
 
 /// What the last scan met, if a panel is among it.
@@ -97,8 +99,8 @@ pub fn hits_found() {
 }
 
 pub fn ended_by(material: &Material) {
-    ENDED.set(Some(material.is_panel));
     with_panels(|all| {
+        ENDED.set(Some(material.is_panel));
         seen_if(Branch::PanelEnds, material.is_panel);
         let first = all.iter().filter(|side| side.kind == 0 || side.panel_front()).fold(f32::INFINITY, |least, side| least.min(side.t));
         seen_if(Branch::PanelPassedThenEnded, all.iter().any(|side| side.panel_back() && side.t < first));
