@@ -325,7 +325,9 @@ fn stack(c: &mut Chance) -> Item {
     for _ in 0..2 {
         let up = if c.one_in(2) { 1.0 } else { -1.0 };
         let z = c.from(0, 2 * count) as f32 * 0.5;
-        rays.push(Ray { origin: [c.between(0.0, 1.0), c.between(0.0, 1.0), z], direction: [c.between(-0.3, 0.3), c.between(-0.3, 0.3), up], shortest: c.pick(&[0.0, 0.0, 0.5, 1.0]), longest: c.pick(&[f32::INFINITY, 2.0, 3.5]) });
+        let origin = [c.between(0.0, 1.0), c.between(0.0, 1.0), z];
+        let direction = [c.between(-0.3, 0.3), c.between(-0.3, 0.3), up];
+        rays.push(Ray { origin, direction, shortest: c.pick(&[0.0, 0.0, 0.5, 1.0]), longest: c.pick(&[f32::INFINITY, 2.0, 3.5]) });
     }
     asked(sheets(&mixed), &rays)
 }
@@ -430,7 +432,7 @@ fn rooms() -> Vec<Bake> {
     let mut room = |wide: bool, lamps: &[[f32; 3]], put: &dyn Fn(&mut Lists)| {
         let mut lists = palette();
         put(&mut lists);
-        let grid = if wide { Grid { axes: [2, 1, 1], corners: [-1.0, -1.0, -1.0, 1.0, 1.0, 1.0] } } else { Grid { axes: [1, 1, 1], corners: [-1.0, -1.0, -1.0, 1.0, 1.0, 1.0] } };
+        let grid = Grid { axes: [1 + wide as u64, 1, 1], corners: [-1.0, -1.0, -1.0, 1.0, 1.0, 1.0] };
         let n = voxels(&grid);
         let lamps = lamps.iter().enumerate().flat_map(|(k, p)| [p[0], p[1], p[2], 3.0 + k as f32, 2.0, 4.0 - k as f32]).collect();
         out.push(Bake {
@@ -633,7 +635,8 @@ pub fn bad(module: &str, seed: u64) -> Vec<Item> {
         let rows = [1, 2, 3, 4, 5, 6, 7, 8, 19, 9, 10, 13];
         let six = 5;
         for (at, row) in rows.into_iter().enumerate() {
-            let fit: Vec<&bad::Change> = all.iter().filter(|change| change.number == Some(row) && !change.name.contains("triangles") && !change.name.starts_with("lamps:")).collect();
+            let plain = |change: &&bad::Change| !change.name.contains("triangles") && !change.name.starts_with("lamps:");
+            let fit: Vec<&bad::Change> = all.iter().filter(|change| change.number == Some(row)).filter(plain).collect();
             if row == 6 || fit.is_empty() || lamped && row != 19 {
                 continue;
             }
