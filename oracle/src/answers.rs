@@ -46,14 +46,14 @@ pub fn light_of(grid: &VoxelGrid) -> Vec<f32> {
     (0..grid.voxel_count()).map(|i| grid.get_light_intensity(i % w, i / w % h, i / (w * h))).collect()
 }
 
-/// Place in the lent list, distance, u and v of the nearest hit.
-pub fn nearest(tracer: &RayTracer, ray: &Ray) -> Option<(u32, f32, f32, f32)> {
+/// Place in the lent list, distance, u and v of the nearest hit, and whether its front was met.
+pub fn nearest(tracer: &RayTracer, ray: &Ray) -> Option<(u32, f32, f32, f32, bool)> {
     let (o, d) = (vector(&ray.origin), vector(&ray.direction));
     let hit = tracer.trace_nearest(o, d, ray.shortest, ray.longest)?;
     let triangle = tracer.triangle(hit.triangle_index);
-    let (t, u, v) = ray_triangle_intersect(o, d, triangle, ray.shortest, ray.longest).expect("the nearest triangle is met");
+    let (t, u, v, front) = ray_triangle_intersect(o, d, triangle, ray.shortest, ray.longest).expect("the nearest triangle is met");
     assert!(u.to_bits() == hit.bary_u.to_bits() && v.to_bits() == hit.bary_v.to_bits());
-    Some((triangle.uv0.x as u32, t, u, v))
+    Some((triangle.uv0.x as u32, t, u, v, front))
 }
 
 /// What the sun pass of the Rust gives: light before the blur, light after it, and the rays fired.
@@ -176,24 +176,24 @@ pub fn answer(call: &Call) -> Answer {
     let good = refusal == 0;
     match call {
         Call::Triangle { points, ray } => {
-            let mut words = vec![refusal, 0, 0, 0, 0];
+            let mut words = vec![refusal, 0, 0, 0, 0, 0];
             if good {
                 let lists = Lists { points: points.to_vec(), uses: vec![0], kinds: vec![0], numbers: vec![0.0; 7] };
                 let tracer = RayTracer::new(&bare(&lists));
                 let met = tracer.triangles().first().and_then(|triangle| {
                     ray_triangle_intersect(vector(&ray.origin), vector(&ray.direction), triangle, ray.shortest, ray.longest)
                 });
-                if let Some((t, u, v)) = met {
-                    words = vec![0, 1, word(t), word(u), word(v)];
+                if let Some((t, u, v, front)) = met {
+                    words = vec![0, 1, word(t), word(u), word(v), front as u32];
                 }
             }
             Answer { words, lists: vec![] }
         }
         Call::Nearest { lists, ray } => {
-            let mut words = vec![refusal, 0, 0, 0, 0, 0];
+            let mut words = vec![refusal, 0, 0, 0, 0, 0, 0];
             if good {
-                if let Some((place, t, u, v)) = nearest(&RayTracer::new(&bare(lists)), ray) {
-                    words = vec![0, 1, place, word(t), word(u), word(v)];
+                if let Some((place, t, u, v, front)) = nearest(&RayTracer::new(&bare(lists)), ray) {
+                    words = vec![0, 1, place, word(t), word(u), word(v), front as u32];
                 }
             }
             Answer { words, lists: vec![] }

@@ -385,7 +385,7 @@ pub fn changes(call: &Call, few: bool) -> Vec<Change> {
         for (count, number) in [(257, Some(4)), (256, None)] {
             out.push(change(format!("{count} materials"), number, move |call| more_materials(lists_of(call).expect("lists"), count)));
         }
-        for (kind, number) in [(2u8, Some(6)), (255, Some(6)), (1, None), (0, None)] {
+        for (kind, number) in [(3u8, Some(6)), (255, Some(6)), (1, None), (0, None)] {
             for last in [false, true] {
                 out.push(change(format!("kind := {kind}"), number, move |call| {
                     let l = lists_of(call).expect("lists");
@@ -633,7 +633,7 @@ fn lamp_changes(out: &mut Vec<Change>) {
     lamps("a bad one and a bad material", Some(6), |b| {
         allowed(b, 2, 0);
         b.lamps[0] = f32::NAN;
-        b.lists.kinds.first_mut().into_iter().for_each(|kind| *kind = 2);
+        b.lists.kinds.first_mut().into_iter().for_each(|kind| *kind = 3);
     });
     lamps("a bad one and too much progress", Some(19), |b| {
         allowed(b, 2, 0);

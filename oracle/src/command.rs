@@ -1,6 +1,7 @@
 //! The commands. Everything that can be wrong with their words or files is said in one line and ends with status 2.
 use crate::gi;
 use crate::items::{self, Item, MODULES};
+use crate::panel_places;
 use crate::progress_places;
 use crate::records::Record;
 use crate::scene::recorded_bits;
@@ -215,9 +216,9 @@ fn report() -> Result<bool, String> {
     Ok(good)
 }
 
-/// The recorded answers: which seeds each module's program replays. First those inside the limits, then the bad inputs; then the same of
-/// grids that C-21 lets in. Each stretch says whether all of it is inside the limits.
-fn recorded(name: &str) -> [(bool, Vec<Item>); 4] {
+/// The recorded answers: which seeds each module's program replays. First those inside the limits, without panels, then the bad inputs; then
+/// the same of grids that C-21 lets in, and of C-19's panels. Each stretch says whether all of it is inside the limits.
+fn recorded(name: &str) -> [(bool, Vec<Item>); 6] {
     let (seeds, bases): (u64, u64) = match name {
         "rays" => (60, 2),
         "masks" => (100, 3),
@@ -230,7 +231,7 @@ fn recorded(name: &str) -> [(bool, Vec<Item>); 4] {
     };
     let mut out = Vec::new();
     for seed in 0..seeds {
-        out.extend(items::good(name, seed));
+        out.extend(items::before_panels(name, seed));
     }
     out.extend(items::made(name));
     // black and faint surfaces
@@ -240,14 +241,14 @@ fn recorded(name: &str) -> [(bool, Vec<Item>); 4] {
         _ => &[],
     };
     for &seed in faint {
-        out.extend(items::good(name, seed));
+        out.extend(items::before_panels(name, seed));
     }
     out.extend(word_places::made(name));
     out.extend(progress_places::made(name));
     let mut bad: Vec<Item> = (0..bases).flat_map(|seed| items::bad(name, seed, true, 10)).collect();
     bad.extend(word_places::bad(name, 0));
     bad.extend(progress_places::bad(name, 0));
-    [(true, out), (false, bad), (true, wide_places::made(name)), (false, wide_places::bad(name, 0))]
+    [(true, out), (false, bad), (true, wide_places::made(name)), (false, wide_places::bad(name, 0)), (true, panel_places::made(name)), (false, panel_places::bad(name, 0))]
 }
 
 /// The program that replays a module's records: the bake's also has the rays that it fires.
@@ -297,7 +298,7 @@ fn record(folder: &str, compare: bool) -> Result<bool, String> {
 
 fn tally(seeds: Range<u64>) -> Result<bool, String> {
     let count = seeds.end - seeds.start;
-    let (mut triangles, mut voxels, mut halls, mut lamps, mut dark) = (0, 0, 0, 0, 0);
+    let (mut triangles, mut voxels, mut halls, mut lamps, mut dark, mut panels) = (0, 0, 0, 0, 0, 0);
     for seed in seeds {
         let w = world(seed);
         triangles += w.lists.uses.len();
@@ -305,8 +306,9 @@ fn tally(seeds: Range<u64>) -> Result<bool, String> {
         halls += (w.family == "closed hall") as usize;
         lamps += w.lamps.len() / 6;
         dark += w.lamps.is_empty() as usize;
+        panels += w.lists.kinds.contains(&2) as usize;
     }
-    say(&format!("{count} scenes, {halls} of them halls, {dark} without lamps, {triangles} triangles, {lamps} lamps, {voxels} voxels\n"))?;
+    say(&format!("{count} scenes, {halls} of them halls, {dark} without lamps, {panels} with panels, {triangles} triangles, {lamps} lamps, {voxels} voxels\n"))?;
     Ok(true)
 }
 

@@ -4,6 +4,7 @@ use crate::bad;
 use crate::calls::{Bake, Call, Grid, Lists, Progress, Ray, Scratch};
 use crate::chance::Chance;
 use crate::lamp_places;
+use crate::panel_places;
 use crate::progress_places;
 use crate::records::{self, Record};
 use crate::table;
@@ -42,7 +43,15 @@ pub const MODULES: [&str; 7] = ["rays", "masks", "blurs", "sun", "bake", "lookup
 
 /// The records of a seeded scene for a module.
 pub fn good(module: &str, seed: u64) -> Vec<Item> {
-    let world = worlds::world(seed);
+    of_world(module, seed, worlds::world(seed))
+}
+
+/// The records of a seed's scene as it was before C-19.
+pub fn before_panels(module: &str, seed: u64) -> Vec<Item> {
+    of_world(module, seed, worlds::before_panels(seed))
+}
+
+fn of_world(module: &str, seed: u64, world: World) -> Vec<Item> {
     let mut chance = Chance::new(seed ^ 0x600D);
     let c = &mut chance;
     match module {
@@ -77,21 +86,24 @@ pub fn bad(module: &str, seed: u64, few: bool, several: usize) -> Vec<Item> {
     out
 }
 
-/// What of a seed is streamed: its scene's records, then those of a grid of whole words or nearly so, of a bake's progress and of a wide grid.
+/// What of a seed is streamed: its scene's records, then those of a grid of whole words or nearly so, of a bake's progress, of a wide grid and
+/// of panels.
 pub fn seeded(module: &str, seed: u64) -> Vec<Item> {
     let mut out = good(module, seed);
     out.extend(word_places::seeded(module, seed));
     out.extend(progress_places::seeded(module, seed));
     out.extend(wide_places::seeded(module, seed));
+    out.extend(panel_places::seeded(module, seed));
     out
 }
 
-/// The bad inputs of a seed, then those of masks in words, of a bake's progress and of axes about the limit.
+/// The bad inputs of a seed, then those of masks in words, of a bake's progress, of axes about the limit and of kinds.
 pub fn all_bad(module: &str, seed: u64, few: bool, several: usize) -> Vec<Item> {
     let mut out = bad(module, seed, few, several);
     out.extend(word_places::bad(module, seed));
     out.extend(progress_places::bad(module, seed));
     out.extend(wide_places::bad(module, seed));
+    out.extend(panel_places::bad(module, seed));
     out
 }
 

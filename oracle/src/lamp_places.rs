@@ -20,7 +20,7 @@ fn add(a: Point, b: Point) -> Point {
     [a[0] + b[0], a[1] + b[1], a[2] + b[2]]
 }
 
-fn sub(a: Point, b: Point) -> Point {
+pub fn sub(a: Point, b: Point) -> Point {
     [a[0] - b[0], a[1] - b[1], a[2] - b[2]]
 }
 
@@ -28,15 +28,15 @@ fn times(a: Point, k: f32) -> Point {
     a.map(|x| x * k)
 }
 
-fn dot(a: Point, b: Point) -> f32 {
+pub fn dot(a: Point, b: Point) -> f32 {
     (a[0] * b[0] + a[1] * b[1]) + a[2] * b[2]
 }
 
-fn cross(a: Point, b: Point) -> Point {
+pub fn cross(a: Point, b: Point) -> Point {
     [a[1] * b[2] - a[2] * b[1], a[2] * b[0] - a[0] * b[2], a[0] * b[1] - a[1] * b[0]]
 }
 
-fn unit(a: Point) -> Point {
+pub fn unit(a: Point) -> Point {
     let root = dot(a, a).sqrt();
     a.map(|x| x / root)
 }
@@ -47,7 +47,7 @@ fn corner(lists: &Lists, triangle: usize, which: usize) -> Point {
 }
 
 /// Where a triangle meets a ray, document 01's module 3.
-fn met(p: [Point; 3], origin: Point, direction: Point, shortest: f32, longest: f32) -> Option<f32> {
+pub fn met(p: [Point; 3], origin: Point, direction: Point, shortest: f32, longest: f32) -> Option<f32> {
     let (e1, e2) = (sub(p[1], p[0]), sub(p[2], p[0]));
     let across = cross(e1, e2);
     if dot(across, across) <= 1.0e-12 {

@@ -30,6 +30,7 @@ pub fn added(raytracer: &RayTracer, scene: &Scene, sun_and_sky: Vec3A, point: Ve
         }
         let longest = d_squared.sqrt() - shortest;
         let visibility = raytracer.trace_transmittance(point, l, scene, shortest, longest);
+        crate::panels::traced(Branch::LampPastPanel, Branch::LampBehindPanel);
         seen_if(Branch::LampClose, longest < shortest);
         seen_if(Branch::LampSeen, visibility == 1.0);
         seen_if(Branch::LampDimmed, visibility > 0.0 && visibility < 1.0);

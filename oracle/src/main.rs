@@ -9,6 +9,8 @@ mod command;
 mod items;
 mod lamp_places;
 mod lamps;
+mod panel_places;
+mod panels;
 mod progress_places;
 mod records;
 mod scene;

@@ -211,7 +211,7 @@ fn beside(out: &mut Vec<Item>) {
     both(&bad_lamp_and_mask, 0, 19, 19, "a bad lamp, a bad mask and no allowance");
     both(&changed(&|bake| lamps_to(&mut bake.lamps, 9)), u64::MAX, 19, 19, "nine lamps");
     both(&changed(&|bake| bake.sky[1] = f32::INFINITY), cost, 7, 7, "a bad sky");
-    both(&changed(&|bake| bake.lists.kinds[0] = 2), cost, 6, 6, "a bad material");
+    both(&changed(&|bake| bake.lists.kinds[0] = 3), cost, 6, 6, "a bad material");
     both(&changed(&|bake| bake.lists.points[8] = f32::NAN), cost, 5, 5, "a bad point");
     both(&changed(&|bake| bake.active.truncate(64)), cost, 3, 3, "a word too few");
     both(&changed(&|bake| set_bit(&mut bake.active, 128)), cost, 3, 3, "a word too many");

@@ -233,7 +233,8 @@ fn plain(call: &Call) -> Record {
     w.record()
 }
 
-/// Rays over one scene: each the nearest hit (false) or the transmittance (true).
+/// Rays over one scene: each the nearest hit (false) or the transmittance (true). A ray stands as sixteen words: which of the two, its eight
+/// numbers, and the answer's seven: refusal, hit, place, distance, u, v and front, or refusal and transmittance.
 pub fn rays(lists: &Lists, hits: &Scratch, asked: &[(bool, Ray)]) -> Record {
     let mut w = Writer::default();
     w.word(RAYS);
@@ -250,7 +251,7 @@ pub fn rays(lists: &Lists, hits: &Scratch, asked: &[(bool, Ray)]) -> Record {
             Call::Nearest { lists: lists.clone(), ray: *ray }
         };
         let mut words = answers::answer(&call).words;
-        words.resize(6, 0);
+        words.resize(7, 0);
         w.held(1 + (*through && words[0] != 0) as u64, words[0]);
         w.words.extend(words);
     }

@@ -2,7 +2,8 @@
 //!
 //! One node, one mesh, one primitive for each triangle in list order. The transform hands a point back with its bits (an arithmetic
 //! identity would turn −0 into +0). No material has a texture. A triangle's place in the lent list travels in its first texture
-//! coordinate, which no code here reads otherwise, since the Rust numbers only the triangles it keeps.
+//! coordinate, which no code here reads otherwise, since the Rust numbers only the triangles it keeps; its material's kind in the second, since
+//! the Rust's nearest hit is not handed the scene.
 use crate::math::Vec3x4;
 use glam::{UVec4, Vec2, Vec3A, Vec4};
 use std::ops::Mul;
@@ -41,6 +42,8 @@ pub struct Material {
     pub emissive_factor: Vec3A,
     pub emissive_texture: Option<NoTexture>,
     pub is_translucent: bool,
+    /// For watching alone.
+    pub is_panel: bool,
     pub transmission: f32,
 }
 
@@ -112,7 +115,7 @@ impl Scene {
                         Vec4::new(p[0], p[1], p[2], 1.0)
                     })
                     .collect(),
-                texcoords: vec![Vec2::new(t as f32, 0.0); 3],
+                texcoords: vec![Vec2::new(t as f32, kinds[uses[t] as usize] as f32); 3],
                 material_index: uses[t] as usize,
             })
             .collect();
@@ -125,6 +128,7 @@ impl Scene {
                     emissive_factor: Vec3A::new(n[3], n[4], n[5]),
                     emissive_texture: None,
                     is_translucent: kinds[m] == 1,
+                    is_panel: kinds[m] == crate::panels::PANEL,
                     transmission: n[6],
                 }
             })

@@ -1,4 +1,4 @@
-//! Document 01's table of refusals with what document 02's C-12, C-16, C-18 and C-21 make of it, and the order in which each call tests them, written
+//! Document 01's table of refusals with what document 02's C-12, C-16, C-18, C-19 and C-21 make of it, and the order in which each call tests them, written
 //! from these and the open points alone: which numbers are accepted, and for each call the first number whose condition holds, 0 if none.
 use crate::calls::{Bake, Call, Grid, Lists, Progress, Ray, Scratch};
 use crate::words;
@@ -9,6 +9,8 @@ const POINT: f32 = 4096.0;
 const EDGE: f32 = 1.0 / 1024.0;
 const TRIANGLES: usize = 4096;
 const MATERIALS: usize = 256;
+/// "6 now from kind 3 up"
+const FIRST_BAD_KIND: u8 = 3;
 const COLOUR: f32 = 65536.0;
 const ORIGIN: f32 = 65536.0;
 const DIRECTION: f32 = 2.0;
@@ -186,7 +188,7 @@ fn bad_points(points: &[f32]) -> bool {
 }
 
 fn bad_materials(lists: &Lists) -> bool {
-    lists.kinds.iter().any(|k| *k > 1)
+    lists.kinds.iter().any(|k| *k >= FIRST_BAD_KIND)
         || lists.numbers.chunks(7).any(|m| beyond(&m[..6], COLOUR) || outside(m[6], 0.0, 1.0))
         || lists.uses.iter().any(|u| *u as usize >= lists.kinds.len())
 }

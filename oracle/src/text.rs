@@ -3,7 +3,7 @@
 //! One statement a line, '#' to the line's end a comment. A number is a decimal or, as #3f800000, its bits.
 //!   axes W H D
 //!   corners MINX MINY MINZ MAXX MAXY MAXZ
-//!   material KIND R G B ER EG EB TRANSMISSION
+//!   material KIND R G B ER EG EB TRANSMISSION    KIND 0 opaque, 1 translucent, 2 one of C-19's panels
 //!   triangle MATERIAL P0X .. P2Z
 //!   light DX DY DZ R G B
 //!   ambient (twelve numbers, coefficient by coefficient)
@@ -273,7 +273,7 @@ pub fn answers(asked: &Asked) -> Result<String, String> {
     for ray in &asked.rays {
         let hit = answer(&Call::Nearest { lists: w.lists.clone(), ray: *ray }).words;
         let through = answer(&Call::Transmittance { lists: w.lists.clone(), ray: *ray, hits: bake.hits.clone() }).words;
-        let _ = writeln!(out, "ray refusal {} hit {} place {} t #{:08x} u #{:08x} v #{:08x} transmittance #{:08x}", hit[0], hit[1], hit[2], hit[3], hit[4], hit[5], through[1]);
+        let _ = writeln!(out, "ray refusal {} hit {} place {} t #{:08x} u #{:08x} v #{:08x} front {} transmittance #{:08x}", hit[0], hit[1], hit[2], hit[3], hit[4], hit[5], hit[6], through[1]);
     }
     for p in &asked.lookups {
         let light = answer(&Call::LightLookup { grid: w.grid, light: s.after.clone(), position: *p }).words;

@@ -5,6 +5,7 @@ use crate::bad;
 use crate::calls::{Bake, Call, Grid, Lists, Progress};
 use crate::chance::Chance;
 use crate::items::Item;
+use crate::panel_places;
 use crate::progress_places::{about, above, choose, chosen, handed_on};
 use crate::table::{self, AXIS};
 use crate::word_places::{add, calls, grid, hits, masks_call, only, random, room, same_words, sheets, speck, sun_call};
@@ -746,6 +747,7 @@ fn scene(c: &mut Chance, seed: u64) -> World {
         world.active[voxel] = 1;
     }
     world.active[c.below(voxels(&world.grid))] = 1;
+    panel_places::put_up(seed, &mut world.lists);
     world
 }
 

@@ -3,6 +3,7 @@ use crate::answers::{answer, vector};
 use crate::calls::{word, Bake, Call, Grid, Lists, Progress, Ray, Scratch};
 use crate::chance::Chance;
 use crate::lamp_places;
+use crate::panel_places;
 
 #[derive(Clone, Debug)]
 pub struct World {
@@ -263,7 +264,15 @@ pub fn active_of(grid: &Grid, points: &[f32]) -> Vec<u8> {
     answer(&call).lists[1].iter().map(|w| *w as u8).collect()
 }
 
+/// A seed's scene, with panels in every third.
 pub fn world(seed: u64) -> World {
+    let mut world = before_panels(seed);
+    panel_places::put_up(seed, &mut world.lists);
+    world
+}
+
+/// A seed's scene as it was before C-19.
+pub fn before_panels(seed: u64) -> World {
     family(seed as usize % FAMILIES.len(), seed)
 }
 

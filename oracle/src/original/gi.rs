@@ -319,6 +319,7 @@ pub fn compute_sun_visibility(raytracer: &RayTracer, scene: &Scene, voxel_grid: 
                 f32::INFINITY,
             );
             crate::watch::seen(crate::watch::Branch::SunTraced); // oracle+
+            crate::panels::traced(crate::watch::Branch::SunPastPanel, crate::watch::Branch::SunBehindPanel); // oracle+
             *out_intensity = transmittance;
         });
 
@@ -561,6 +562,7 @@ fn estimate_surface_bounce_radiance(
         crate::watch::seen(crate::watch::Branch::TowardsLight); // oracle+
         let sun_origin = shading_origin + light_dir * dir_bias;
         let vis = raytracer.trace_transmittance(sun_origin, light_dir, scene, t_min, f32::INFINITY);
+        crate::panels::traced(crate::watch::Branch::LightPastPanel, crate::watch::Branch::LightBehindPanel); // oracle+
         scene.light.color * (n_dot_l * vis)
     } else {
         crate::watch::seen(crate::watch::Branch::AwayFromLight); // oracle+
@@ -608,6 +610,7 @@ fn sky_visibility_hemisphere4(
         let dir = (tangent * d.x + bitangent * d.y + normal * d.z).normalize();
         let ray_origin = origin + dir * dir_bias;
         vis_sum += raytracer.trace_transmittance(ray_origin, dir, scene, t_min, f32::INFINITY);
+        crate::panels::traced(crate::watch::Branch::SkyPastPanel, crate::watch::Branch::SkyBehindPanel); // oracle+
     }
     vis_sum * 0.25
 }

@@ -141,6 +141,7 @@ impl RayTracer {
         t_max: f32,
     ) -> Option<Hit> {
         crate::watch::fired(0, origin, direction, t_min, t_max); // oracle+
+        crate::panels::scan_begins(); // oracle+
         let ray = make_bvh_ray(origin, direction);
         let candidates = self.bvh.traverse(&ray, &self.bvh_shapes);
 
@@ -149,7 +150,8 @@ impl RayTracer {
 
         for shape in candidates {
             let tri = &self.triangles[shape.index];
-            let Some((t, u, v)) = ray_triangle_intersect(origin, direction, tri, t_min, best_t)
+// oracle was:|            let Some((t, u, v)) = ray_triangle_intersect(origin, direction, tri, t_min, best_t)
+            let Some((t, u, v)) = crate::panels::counted(tri, ray_triangle_intersect(origin, direction, tri, t_min, best_t)) // oracle!
             else {
                 continue;
             };
@@ -169,6 +171,7 @@ impl RayTracer {
             });
         }
 
+        crate::panels::nearest_found(best_hit.is_some(), best_t); // oracle+
         best_hit
     }
 
@@ -181,13 +184,15 @@ impl RayTracer {
         t_max: f32,
     ) -> f32 {
         crate::watch::fired(1, origin, direction, t_min, t_max); // oracle+
+        crate::panels::scan_begins(); // oracle+
         let ray = make_bvh_ray(origin, direction);
         let candidates = self.bvh.traverse(&ray, &self.bvh_shapes);
 
         let mut hits = Vec::new();
         for shape in candidates {
             let tri = &self.triangles[shape.index];
-            let Some((t, _, _)) = ray_triangle_intersect(origin, direction, tri, t_min, t_max)
+// oracle was:|            let Some((t, _, _)) = ray_triangle_intersect(origin, direction, tri, t_min, t_max)
+            let Some((t, _, _)) = crate::panels::counted(tri, ray_triangle_intersect(origin, direction, tri, t_min, t_max)) // oracle!
             else {
                 continue;
             };
@@ -197,11 +202,13 @@ impl RayTracer {
         hits.sort_by(|a, b| a.0.partial_cmp(&b.0).unwrap_or(std::cmp::Ordering::Equal));
 
         crate::watch::seen_if(crate::watch::Branch::HitsTied, hits.windows(2).any(|pair| pair[0].0 == pair[1].0)); // oracle+
+        crate::panels::hits_found(); // oracle+
         let mut transmittance = 1.0;
         for (_, material_index) in hits {
             let material = &scene.materials[material_index];
             if !material.is_translucent {
                 crate::watch::seen(crate::watch::Branch::Opaque); // oracle+
+                crate::panels::ended_by(material); // oracle+
                 return 0.0;
             }
             transmittance *= material.transmission;
@@ -211,6 +218,7 @@ impl RayTracer {
             }
         }
         crate::watch::seen_if(crate::watch::Branch::Through, transmittance < 1.0); // oracle+
+        crate::panels::let_through(); // oracle+
         transmittance
     }
 
@@ -237,7 +245,8 @@ pub fn ray_triangle_intersect( // oracle!
     tri: &Triangle,
     t_min: f32,
     t_max: f32,
-) -> Option<(f32, f32, f32)> {
+// oracle was:|) -> Option<(f32, f32, f32)> {
+) -> Option<crate::panels::Met> { // oracle!
     let edge1 = tri.p1 - tri.p0;
     let edge2 = tri.p2 - tri.p0;
     let pvec = direction.cross(edge2);
@@ -278,5 +287,6 @@ pub fn ray_triangle_intersect( // oracle!
     crate::watch::seen_if(crate::watch::Branch::MetAtMinusZero, t == 0.0 && t.is_sign_negative()); // oracle+
     crate::watch::seen_if(crate::watch::Branch::UMinusZero, u == 0.0 && u.is_sign_negative()); // oracle+
     crate::watch::seen_if(crate::watch::Branch::TNotFinite, !t.is_finite()); // oracle+
-    Some((t, u, v))
+// oracle was:|    Some((t, u, v))
+    Some((t, u, v, det > 0.0)) // oracle!
 }
