@@ -1,4 +1,4 @@
--- The hits of a ray, "by t, then by place": each is inserted before the first that it comes before.
+-- The hits of a ray, "by t, then by place": each is inserted before the first that it comes before. The back of a panel is no hit.
 use mathlib.Core.Bool.{Bool, cond, _||_, _&&_}
 use mathlib.Core.List.{List, [], _∷_, _++_, map}
 use Prim.Native.Nat.{ℕ, zero, suc}

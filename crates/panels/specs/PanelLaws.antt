@@ -18,7 +18,7 @@ use Rattle.panels.specs.Panels.{kindAt, counts, stopsLight, countedOf, m
 
 -- ---- kind and side
 
--- a triangle counts exactly where a panel would have to be met on its front
+-- a triangle counts exactly when, if it is a panel, its front is met
 pub counts-exactly : (kind : ℕ) (front : Bool) → (counts kind front ≡ true) ↔ (kind ≡ panelKind → front ≡ true)
 unfolding counts
 counts-exactly kind true = (λ e k. refl, λ f. refl)

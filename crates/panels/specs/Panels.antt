@@ -31,7 +31,7 @@ unfoldable pub countedOf : ℕ → Meet → Meet
 countedOf kind Miss = Miss
 countedOf kind (Hit t u v front) = cond (counts kind front) (Hit t u v front) Miss
 
--- what is met of the triangle at place i
+-- what a scan meets of the triangle at place i: what the test answers, where the triangle counts
 unfoldable pub metAt : List Float → List ℕ → List ℕ → Ray → ℕ → Meet
 metAt points uses kinds ray i = countedOf (kindAt uses kinds i) (meetOf ray (triangleAt points i))
 

@@ -1,4 +1,5 @@
--- The nearest hit. "Nearest: smallest t; among equal t the highest list place. Places count the lent list, absent triangles too."
+-- The nearest hit. "Nearest: smallest t; among equal t the highest list place. Places count the lent list, absent triangles too." The back
+-- of a panel is no hit.
 -- The definition goes through the list and keeps the better of what it holds and what it meets. Which is better goes by distance and place alone,
 -- and not by the order of the walk.
 use mathlib.Core.Bool.{Bool, cond, _||_, _&&_}

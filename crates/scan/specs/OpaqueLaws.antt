@@ -1,4 +1,4 @@
--- A hit that stops light lets none through, at whatever place of the order it stands. So the scan for a transmittance may end at the first that it meets, and
+-- A hit that stops light, of an opaque triangle or of a panel's front, lets none through, at whatever place of the order it stands. So the scan for a transmittance may end at the first that it meets, and
 -- where it meets none the product need not ask.
 use mathlib.Core.Path.{_≡_, refl, ap}
 use mathlib.Core.Bool.{Bool, true, false, cond}

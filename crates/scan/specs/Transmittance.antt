@@ -1,5 +1,5 @@
 -- How much light passes along a ray. "Transmittance: start 1.0; hits by t, then by place; opaque gives 0; multiply; a product at most 0.0001
--- gives 0." A panel that is met is opaque. A hit's material is the one that its triangle uses.
+-- gives 0." A panel that counts is opaque, whatever its transmission. A hit's material is the one that its triangle uses.
 use mathlib.Core.Bool.{cond}
 use mathlib.Core.List.{List, [], _∷_}
 use Prim.Native.Nat.{ℕ, _+_, _*_}

@@ -113,7 +113,7 @@ sorted-once (g ∷ gs) (h ∷ hs) s t f b =
         (List·Memᴰ·cases-cons (b h (List·Memᴰ·head refl))))
         (List·Memᴰ·cases-cons (f g (List·Memᴰ·head refl)))
 
--- the hits are the one sorted list of what the test answers
+-- the hits are the one sorted list of the triangles that are met
 pub hits-are : (scene : Scene) (ray : Ray) (n : ℕ) (hs : List Struck) → Sorted hs → ((k : Struck) → List·Memᴰ k hs → Stands scene ray n k)
     → ((k : Struck) → Stands scene ray n k → List·Memᴰ k hs) → hitsOf scene ray n ≡ hs
 hits-are scene ray n hs s f b =

@@ -1,4 +1,4 @@
--- The Rust's own scan for the nearest hit: each hit's distance becomes the longest of what follows, and a later hit takes the place of what is held
+-- The Rust's own scan for the nearest hit, the backs of panels left out, which the Rust has not: each hit's distance becomes the longest of what follows, and a later hit takes the place of what is held
 -- (raytracer.rs, trace_nearest). It answers what `nearestOf` answers, which tests every triangle over the whole ray and keeps the better.
 use mathlib.Core.Path.{_≡_, refl, sym, _∙_}
 use mathlib.Core.Bool.{Bool, true, false, cond, false≢true}

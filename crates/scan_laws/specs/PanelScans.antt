@@ -22,6 +22,7 @@ use Rattle.panels.specs.Panels.{kindAt, counts, stopsLight, countedOf, metAt, m
 use Rattle.panels.specs.PanelLaws.{missed-at, front-met, panel-back}
 use Rattle.hits.specs.Hits.{Struck, withMeet, hitsOf, placesOf}
 use Rattle.hits.specs.HitLaws.{hits-only}
+use Rattle.scan_laws.specs.BaseScans.{NoPanels, nearestBase, transmittanceBase, nearest-base, transmittance-base}
 use Rattle.scan.specs.Nearest.{nearerOf, nearestTo, nearestOf}
 use Rattle.scan.specs.Transmittance.{transmissionAt, passOf, transmittanceOf}
 
@@ -77,7 +78,7 @@ module _ (a b : Scene) (ray : Ray) (alike : Alike a b ray) where
 -- ---- opaque from the front
 
 -- a triangle keeps its kind, or is a panel that the ray does not meet from the back, made opaque
-pub MadeOpaque : Scene → List ℕ → Ray → ℕ → Type 0
+abbrev pub MadeOpaque : Scene → List ℕ → Ray → ℕ → Type 0
 MadeOpaque scene kinds ray i =
     (kindAt (scene .uses) (scene .kinds) i ≡ kindAt (scene .uses) kinds i)
     ⊎ ((kindAt (scene .uses) (scene .kinds) i ≡ panelKind) × (kindAt (scene .uses) kinds i ≡ opaqueKind)
@@ -85,7 +86,7 @@ MadeOpaque scene kinds ray i =
 
 pub opaque-from-front : (scene : Scene) (kinds : List ℕ) (ray : Ray) → ((i : ℕ) → i < length (scene .uses) → MadeOpaque scene kinds ray i)
     → SameAnswers scene (sceneOf (scene .points) (scene .uses) kinds (scene .numbers)) ray
-unfolding MadeOpaque metAt countedOf counts stopsLight
+unfolding metAt countedOf counts stopsLight
 opaque-from-front scene kinds ray f =
     alike-same scene (sceneOf (scene .points) (scene .uses) kinds (scene .numbers)) ray
     (record {
@@ -105,7 +106,7 @@ opaque-from-front scene kinds ray f =
 -- ---- absent from the back
 
 -- a triangle keeps its points, or is a panel that the ray does not meet from the front, made absent
-pub MadeAbsent : Scene → List Float → Ray → ℕ → Type 0
+abbrev pub MadeAbsent : Scene → List Float → Ray → ℕ → Type 0
 MadeAbsent scene points ray i =
     (triangleAt (scene .points) i ≡ triangleAt points i)
     ⊎ ((kindAt (scene .uses) (scene .kinds) i ≡ panelKind) × (absentOf (triangleAt points i) ≡ true)
@@ -113,7 +114,7 @@ MadeAbsent scene points ray i =
 
 pub absent-from-back : (scene : Scene) (points : List Float) (ray : Ray) → ((i : ℕ) → i < length (scene .uses) → MadeAbsent scene points ray i)
     → SameAnswers scene (sceneOf points (scene .uses) (scene .kinds) (scene .numbers)) ray
-unfolding MadeAbsent metAt
+unfolding metAt
 absent-from-back scene points ray f =
     alike-same scene (sceneOf points (scene .uses) (scene .kinds) (scene .numbers)) ray
     (record {
@@ -135,3 +136,19 @@ absent-from-back scene points ray f =
     gone i Miss e p n = missed-at (scene .points) (scene .uses) (scene .kinds) ray i e
     gone i (Hit t u v true) e p n = absurd (n t u v e)
     gone i (Hit t u v false) e p n = panel-back (scene .points) (scene .uses) (scene .kinds) ray i t u v p e
+
+-- ---- both: a scene with panels is one of document 01's, ray by ray
+
+-- the backs made absent and the panels opaque, both answers are document 01's
+pub panels-base : (scene : Scene) (points : List Float) (kinds : List ℕ) (ray : Ray)
+    → ((i : ℕ) → i < length (scene .uses) → MadeAbsent scene points ray i)
+    → ((i : ℕ) → i < length (scene .uses) → MadeOpaque (sceneOf points (scene .uses) (scene .kinds) (scene .numbers)) kinds ray i)
+    → NoPanels (sceneOf points (scene .uses) kinds (scene .numbers))
+    → let b = sceneOf points (scene .uses) kinds (scene .numbers) in
+    (nearestOf scene ray ≡ nearestBase b ray (length (scene .uses))) × (transmittanceOf scene ray ≡ transmittanceBase b ray)
+panels-base scene points kinds ray gone solid none =
+    let a = sceneOf points (scene .uses) (scene .kinds) (scene .numbers) in
+    let b = sceneOf points (scene .uses) kinds (scene .numbers) in
+    let p = absent-from-back scene points ray gone in
+    let q = opaque-from-front a kinds ray solid in
+    (p .nearest ∙ q .nearest ∙ nearest-base b ray none, p .transmittance ∙ q .transmittance ∙ transmittance-base b ray none)

@@ -1,4 +1,4 @@
--- A transmittance lies from 0 to 1. That an opaque hit leaves nothing is `opaque-dark` of scan.
+-- A transmittance lies from 0 to 1. That a hit that stops light leaves nothing is `opaque-dark` of scan.
 use mathlib.Core.Path.{_≡_, refl, sym, ap, _∙_}
 use mathlib.Core.Bool.{Bool, true, false, cond, _||_, _&&_, false≢true, and-eq-true-iff}
 use mathlib.Core.List.{List, [], _∷_}

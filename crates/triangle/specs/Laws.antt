@@ -1,4 +1,4 @@
--- What the test means: an absent triangle is met nowhere, and a hit's numbers pass every bound.
+-- What the test means: an absent triangle is met nowhere; a hit's numbers pass every bound, and its side is the front exactly when the determinant is above zero.
 use mathlib.Core.Path.{_≡_, refl}
 use mathlib.Core.Bool.{Bool, true, false, cond, false≢true}
 use lib.Ieee as Ieee
@@ -32,7 +32,7 @@ pub record HitPasses (ray : Ray) (triangle : Triangle) (t u v : Float) (front : 
   pub distance : t ≡ solvedOf ray triangle .t
   pub first : u ≡ solvedOf ray triangle .u
   pub second : v ≡ solvedOf ray triangle .v
-  pub side : front ≡ frontOf (solvedOf ray triangle .det)
+  pub side : front ≡ Ieee.lt zero32 (solvedOf ray triangle .det)
   pub not-below : Ieee.lt t (ray .shortest) ≡ false
   pub not-above : Ieee.lt (ray .longest) t ≡ false
   pub finite : Ieee.le (magnitudeOf t) largest32 ≡ true
@@ -51,7 +51,7 @@ into true m e = (refl, e)
 into false m e = absurd (false≢true cc)
 
 pub hit-met : (ray : Ray) (triangle : Triangle) (t u v : Float) (front : Bool) → meetOf ray triangle ≡ Hit t u v front → HitPasses ray triangle t u v front
-unfolding meetOf judgedOf
+unfolding meetOf judgedOf frontOf
 hit-met ray triangle t u v front e =
     let s = solvedOf ray triangle in
     let a = over _ _ e in
@@ -67,7 +67,7 @@ hit-met ray triangle t u v front e =
     let et : t ≡ s .t = cc in
     let eu : u ≡ s .u = cc in
     let ev : v ≡ s .v = cc in
-    let ef : front ≡ frontOf (s .det) = cc in
+    let ef : front ≡ Ieee.lt zero32 (s .det) = cc in
     record {
       present = a .0;
       steep = b .0;

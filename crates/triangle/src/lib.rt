@@ -1,5 +1,5 @@
 // Where a ray meets one triangle: document 01's module 3, the test. The order of operations is the Rust's (raytracer.rs,
-// ray_triangle_intersect). Three things are added: a triangle too thin to count is absent, a distance that is not finite is a miss, and a hit says which
+// ray_triangle_intersect). Three things are added: a triangle that is too thin is absent, a distance that is not finite is a miss, and a hit says which
 // side was met.
 pub mod inner;
 

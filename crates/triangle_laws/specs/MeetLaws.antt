@@ -8,12 +8,12 @@ use Rattle.vectors.specs.declared.Ray.{Ray}
 use Rattle.vectors.specs.declared.Triangle.{Triangle}
 use Rattle.triangle.specs.declared.Meet.{Meet}
 use Rattle.triangle.specs.declared.Meet.the-variants.{Miss, Hit}
-use Rattle.triangle.specs.Meet.{solvedOf, judgedOf, meetOf}
+use Rattle.triangle.specs.Meet.{solvedOf, frontOf, judgedOf, meetOf}
 use Rattle.triangle.specs.Laws.{HitPasses, hit-met}
 
 -- each of the tests, in the definition's order, of the solved numbers
 pub passing-hit : (ray : Ray) (triangle : Triangle) (t u v : Float) (front : Bool) → HitPasses ray triangle t u v front → meetOf ray triangle ≡ Hit t u v front
-unfolding meetOf judgedOf
+unfolding meetOf judgedOf frontOf
 passing-hit ray triangle t u v front h =
     rw (h .present, h .steep, ← h .distance, ← h .first, ← h .second, ← h .side, h .u-from, h .u-to, h .v-from, h .sum-to, h .not-below, h .not-above, h .finite)
 
