@@ -26,14 +26,16 @@ pub fn nearest(points: &[f32], uses: &[u32], kinds: &[u8], numbers: &[f32], ray:
     let mut best = Nearest::Nothing;
     let mut i = 0;
     while i < n {
-        let f = first_hit(points, uses, kinds, i, n, ray);
-        match f {
-            Nearest::Nothing => {
-                i = n;
-            }
-            Nearest::At(j, t, u, v, front) => {
+        let j = first_open(points, i, n, ray);
+        if j == n {
+            return best;
+        }
+        let m = panels::inner::meet_at(points, uses, kinds, j, ray);
+        i = j + 1;
+        match m {
+            Meet::Miss => {}
+            Meet::Hit(t, u, v, front) => {
                 best = nearer(best, j, t, u, v, front);
-                i = j + 1;
             }
         }
     }
@@ -166,7 +168,11 @@ pub fn first_hit(
 {
     let mut i = from;
     while i < n {
-        let j = first_open(points, i, n, ray);
+        // a single triangle is left to the test
+        let mut j = i;
+        if i + 1 < n {
+            j = first_open(points, i, n, ray);
+        }
         if j == n {
             return Nearest::Nothing;
         }
@@ -183,15 +189,12 @@ pub fn first_hit(
     Nearest::Nothing
 }
 
-// A place from i up to n before which all are missed: the first that the ray may meet, or n. A single triangle is left to the test. The loop over runs knows
-// nothing of what follows a hit, so that the compiler keeps all that it needs in registers.
+// A place from i up to n before which all are missed: the first that the ray may meet, or n. The loop over runs knows nothing of what follows a hit, so that
+// the compiler keeps all that it needs in registers.
 fn first_open(points: &[f32], from: usize, n: usize, ray: Ray) -> usize
     requires { ⌜ (from ≤ n) × (n * 9 ≤ length (now points)) ⌝ }
     ensures { λ r. ⌜ (from ≤ r) × (r ≤ n) × Missed (now (points .entry)) ray from r ⌝ }
 {
-    if n - from == 1 {
-        return from;
-    }
     let mut i = from;
     while i < n {
         let k = run_of(n - i);

@@ -1,6 +1,7 @@
 -- `scan::inner::first_hit` meets its contract. The loop's invariant: all from the first place up to i are missed, or do not count. What the search passes over
 -- goes to them, and so does a triangle that is not met; what is met is the first.
 use mathlib.Core.Path.{_≡_, sym, _∙_}
+use mathlib.Core.Logic.{⊎-elim}
 use Prim.Native.Nat.{_-_, _≤_, _<_}
 use native.Mathlib.Omega.{arith}
 use lib.ListN.{length}
@@ -20,43 +21,54 @@ abbrev μ-loop : tie.MeasureT-loop
 loop-holds : tie.Need-loop-holds Inv-loop μ-loop
 loop-holds c = (omega arith, omega arith, λ l p q. absurd (omega arith))
 
+add-if1 : tie.Need-add-if1 Inv-loop μ-loop
+add-if1 c = omega arith
+
 first-open-requires : tie.Need-first-open-requires Inv-loop μ-loop
 first-open-requires c κs = (omega arith, omega arith)
 
--- what the search passed over goes to what is missed
-open-missed : (c : tie.After-first-open Inv-loop μ-loop)
+-- the place to test: from i up to n, and all before it are missed, or do not count
+open-place : (c : tie.Joined1 Inv-loop μ-loop)
     → let at = c .before .before in
     let a = at .before .before .before .before .args in
-    AllMiss (metAt (a .points .now) (a .uses .now) (a .kinds .now) (a .ray)) (a .from) (c .first-open .result)
-open-missed c =
+    (at .loop .i ≤ c .if1 .j) × (c .if1 .j ≤ a .n) × AllMiss (metAt (a .points .now) (a .uses .now) (a .kinds .now) (a .ray)) (a .from) (c .if1 .j)
+open-place c =
     let at = c .before .before in
     let a = at .before .before .before .before .args in
-    missed-more _ (a .from) (at .loop .i) _ (at .loop .inv .2) (all-missed-at _ _ _ _ _ _ (c .first-open .ensures .2))
+    ⊎-elim
+    (λ w. (
+      omega (arith, w .1 .ensures .0, w .2),
+      omega (arith, w .1 .ensures .1, w .2),
+      missed-more _ (a .from) (at .loop .i) _ (at .loop .inv .2) (rw (w .2) (all-missed-at _ _ _ _ _ _ (w .1 .ensures .2))),
+    ))
+    (λ w. (omega (arith, w .1), omega (arith, w .1, at .loop .inv .1), rw (w .1) (at .loop .inv .2)))
+    (c .if1 .came)
 
 returns : tie.Need-returns Inv-loop μ-loop
-returns c = λ l p q. open-missed (c .before) l p (omega arith)
+returns c = λ l p q. open-place (c .before) .2 l p (omega arith)
 
 meet-at-requires : tie.Need-meet-at-requires Inv-loop μ-loop
 meet-at-requires c κs =
     let s = c .before .before .before .before .before .before .before in
-    let b : c .before .first-open .result < length (s .args .uses .now) = omega arith in
-    (omega arith, b, s .pre .1 _ b)
+    let b : c .before .if1 .j < length (s .args .uses .now) = omega (arith, open-place (c .before) .1) in
+    (omega (arith, open-place (c .before) .1), b, s .pre .1 _ b)
 
 enum-told : tie.Need-enum-told Inv-loop μ-loop
 enum-told c = search needs
 
 add-i : tie.Need-add-i Inv-loop μ-loop
-add-i c = omega arith
+add-i c = omega (arith, open-place (c .before .before .before .before .before) .1)
 
 loop-less : tie.Need-loop-less Inv-loop μ-loop
-loop-less c = omega arith
+loop-less c = let o = open-place (c .before .before .before .before .before) in omega (arith, o .0, o .1)
 
 loop-again : tie.Need-loop-again Inv-loop μ-loop
 loop-again c =
-    let m = c .before .before in (
-      omega arith,
-      omega arith,
-      missed-one _ _ _ (open-missed (m .before .before)) (sym (m .meet-at .ensures) ∙ c .enum-told .given .1),
+    let m = c .before .before .before in
+    let o = open-place (m .before .before) in (
+      omega (arith, o .0, o .1),
+      omega (arith, o .0, o .1),
+      missed-one _ _ _ (o .2) (sym (m .meet-at .ensures) ∙ c .before .enum-told .given .1),
     )
 
 enum-known-m : tie.Need-enum-known-m Inv-loop μ-loop
@@ -66,7 +78,8 @@ returns-2 : tie.Need-returns-2 Inv-loop μ-loop
 returns-2 c =
     let h = c .before in
     let m = h .before .before in
-    (omega arith, omega arith, open-missed (m .before .before), sym (m .meet-at .ensures) ∙ h .m .given .1)
+    let o = open-place (m .before .before) in
+    (omega (arith, o .0), omega (arith, o .1), o .2, sym (m .meet-at .ensures) ∙ h .m .given .1)
 
 returns-3 : tie.Need-returns-3 Inv-loop μ-loop
 returns-3 c = λ l p q. c .before .loop .inv .2 l p (omega arith)
@@ -78,6 +91,7 @@ first-hit-spec =
     Inv-loop
     μ-loop
     loop-holds
+    add-if1
     first-open-requires
     returns
     meet-at-requires

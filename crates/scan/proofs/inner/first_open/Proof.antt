@@ -14,12 +14,6 @@ Inv-loop points from n ray i₀ i = (from ≤ i) × (i ≤ n) × Missed points r
 abbrev μ-loop : tie.MeasureT-loop
 μ-loop points from n ray i₀ i = n - i
 
-sub-if1 : tie.Need-sub-if1 Inv-loop μ-loop
-sub-if1 c = omega arith
-
-returns : tie.Need-returns Inv-loop μ-loop
-returns c = (omega arith, omega arith, λ l p q. absurd (omega arith))
-
 loop-holds : tie.Need-loop-holds Inv-loop μ-loop
 loop-holds c = (omega arith, omega arith, λ l p q. absurd (omega arith))
 
@@ -41,15 +35,15 @@ add-i c = omega arith
 -- what is clear of the run goes to what is missed
 run-missed : (c : tie.After-clear Inv-loop μ-loop)
     → let at = c .before .before .before in
-    let a = at .before .before .before .args in
+    let a = at .before .before .args in
     Missed (a .points .now) (a .ray) (a .from) (at .loop .i + c .clear .result)
 run-missed c =
     let at = c .before .before .before in
-    let a = at .before .before .before .args in
+    let a = at .before .before .args in
     missed-more _ (a .from) (at .loop .i) _ (at .loop .inv .2) (c .clear .ensures .1)
 
-returns-2 : tie.Need-returns-2 Inv-loop μ-loop
-returns-2 c = (omega arith, omega arith, run-missed (c .before))
+returns : tie.Need-returns Inv-loop μ-loop
+returns c = (omega arith, omega arith, run-missed (c .before))
 
 loop-less : tie.Need-loop-less Inv-loop μ-loop
 loop-less c = omega (arith, c .before .before .run-of .ensures .1 (omega arith))
@@ -57,8 +51,8 @@ loop-less c = omega (arith, c .before .before .run-of .ensures .1 (omega arith))
 loop-again : tie.Need-loop-again Inv-loop μ-loop
 loop-again c = (omega arith, omega arith, run-missed (c .before))
 
-returns-3 : tie.Need-returns-3 Inv-loop μ-loop
-returns-3 c = (omega arith, omega arith, λ l p q. c .before .loop .inv .2 l p (omega arith))
+returns-2 : tie.Need-returns-2 Inv-loop μ-loop
+returns-2 c = (omega arith, omega arith, λ l p q. c .before .loop .inv .2 l p (omega arith))
 
 pub first-open-spec : {M : Type 1} → statement M
 first-open-spec =
@@ -66,15 +60,13 @@ first-open-spec =
     (tie.spec
     Inv-loop
     μ-loop
-    sub-if1
-    returns
     loop-holds
     sub-run-of
     run-of-requires
     clear-requires
     cast-i
     add-i
-    returns-2
+    returns
     loop-less
     loop-again
-    returns-3)
+    returns-2)

@@ -1,12 +1,15 @@
--- `scan::inner::nearest` meets its contract. The loop's invariant: what is held is the nearest among the first i. The triangles before the first hit
--- are missed and change nothing, and the hit is one step of the definition.
+-- `scan::inner::nearest` meets its contract. The loop's invariant: what is held is the nearest among the first i. What the search passes over, and what is not
+-- met, changes nothing, and what is met is one step of the definition.
 use mathlib.Core.Path.{_≡_, refl, sym, _∙_}
-use Prim.Native.Nat.{_≤_, _-_}
+use Prim.Native.Nat.{_≤_, _<_, _-_}
 use native.Mathlib.Omega.{arith}
 use native.Mathlib.Numerals.{add-one}
 use lib.ListN.{length}
 use Rattle.names.specs.Scene.{sceneOf}
-use Rattle.scan.specs.FirstHit.{FirstFrom, nearest-over, nearest-first}
+use Rattle.triangle.specs.Missed.{AllMiss, missed-one}
+use Rattle.panels.specs.Panels.{metAt}
+use Rattle.panels.specs.PanelLaws.{all-missed-at}
+use Rattle.scan.specs.FirstHit.{nearest-over, nearest-first}
 use Rattle.scan.specs.Nearest.{nearestTo, nearestOf}
 use borrow.Author.Needs.{needs}
 use Rattle.scan.proofs.inner.nearest.Statement.{statement}
@@ -23,10 +26,33 @@ loop-holds : tie.Need-loop-holds Inv-loop μ-loop
 unfolding nearestTo
 loop-holds c = (search needs, refl)
 
-first-hit-requires : tie.Need-first-hit-requires Inv-loop μ-loop
-first-hit-requires c κs =
-    let s = c .before .before .before .before .before .before in
-    ((omega arith, omega arith, omega arith), λ i h. s .pre .within i h)
+first-open-requires : tie.Need-first-open-requires Inv-loop μ-loop
+first-open-requires c κs = (omega arith, omega arith)
+
+-- what the search passed over is not met
+passed-over : (c : tie.After-first-open Inv-loop μ-loop)
+    → let at = c .before .before in
+    let a = at .before .before .before .before .before .args in
+    AllMiss (metAt (a .points .now) (a .uses .now) (a .kinds .now) (a .ray)) (at .loop .i) (c .first-open .result)
+passed-over c = all-missed-at _ _ _ _ _ _ (c .first-open .ensures .2)
+
+returns : tie.Need-returns Inv-loop μ-loop
+unfolding nearestOf
+returns c =
+    let f = c .before in
+    let at = f .before .before .loop in
+    let a = f .before .before .before .before .before .before .before .args in
+    let e : f .first-open .result ≡ length (a .uses .now) = omega arith in
+    at .inv .1 ∙ sym (nearest-over _ _ _ _ (at .inv .0) (rw e at (passed-over f)))
+
+meet-at-requires : tie.Need-meet-at-requires Inv-loop μ-loop
+meet-at-requires c κs =
+    let s = c .before .before .before .before .before .before .before .before in
+    let b : c .before .first-open .result < length (s .args .uses .now) = omega arith in
+    (omega arith, b, s .pre .within _ b)
+
+add-i : tie.Need-add-i Inv-loop μ-loop
+add-i c = omega arith
 
 enum-told : tie.Need-enum-told Inv-loop μ-loop
 enum-told c = search needs
@@ -36,38 +62,39 @@ loop-less c = omega arith
 
 loop-again : tie.Need-loop-again Inv-loop μ-loop
 loop-again c =
-    let f = c .before .before in
-    let at = f .before .before .loop in
-    (omega arith, at .inv .1 ∙ sym (nearest-over _ _ _ _ (at .inv .0) (rw (c .enum-told .given .1) at (f .first-hit .ensures))))
+    let m = c .before .before in
+    let f = m .before .before in
+    let at = f .before .before .loop in (
+      omega arith,
+      at .inv .1
+          ∙ sym (nearest-over _ _ _ _ (omega arith) (missed-one _ _ _ (passed-over f) (sym (m .meet-at .ensures) ∙ c .enum-told .given .1))),
+    )
 
-enum-known-f : tie.Need-enum-known-f Inv-loop μ-loop
-enum-known-f c = search needs
+enum-known-m : tie.Need-enum-known-m Inv-loop μ-loop
+enum-known-m c = search needs
 
 nearer-requires : tie.Need-nearer-requires Inv-loop μ-loop
 nearer-requires c κs = search needs
 
-add-i : tie.Need-add-i Inv-loop μ-loop
-add-i c =
-    let h = c .before .before in
-    let g = rw (h .f .given .1) at (h .before .before .first-hit .ensures) in
-    omega (arith, g .1)
-
 loop-less-2 : tie.Need-loop-less-2 Inv-loop μ-loop
-loop-less-2 c =
-    let h = c .before .before in
-    let g = rw (h .f .given .1) at (h .before .before .first-hit .ensures) in
-    omega (arith, g .0, g .1)
+loop-less-2 c = omega arith
 
 loop-again-2 : tie.Need-loop-again-2 Inv-loop μ-loop
 loop-again-2 c =
     let h = c .before .before in
-    let at = h .before .before .before .before .loop in
-    let g = rw (h .f .given .1) at (h .before .before .first-hit .ensures) in
-    (omega (arith, g .1), rw (add-one, c .nearer .ensures, at .inv .1) (sym (nearest-first _ _ _ _ _ _ _ _ _ g)))
+    let m = h .before .before in
+    let f = m .before .before in
+    let at = f .before .before .loop in
+    let a = f .before .before .before .before .before .before .before .args in
+    let scene = sceneOf (a .points .now) (a .uses .now) (a .kinds .now) (a .numbers .now) in (
+      omega arith,
+      rw (add-one, c .nearer .ensures, at .inv .1)
+          (sym (nearest-first scene _ _ (length (a .uses .now)) _ _ _ _ _ (omega arith, omega arith, passed-over f, sym (m .meet-at .ensures) ∙ h .m .given .1))),
+    )
 
-returns : tie.Need-returns Inv-loop μ-loop
+returns-2 : tie.Need-returns-2 Inv-loop μ-loop
 unfolding nearestOf
-returns c =
+returns-2 c =
     let e : c .before .loop .i ≡ length (c .before .before .before .before .before .before .args .uses .now) = omega arith in
     rw (c .before .loop .inv .1, e)
 
@@ -78,13 +105,15 @@ nearest-spec =
     Inv-loop
     μ-loop
     loop-holds
-    first-hit-requires
+    first-open-requires
+    returns
+    meet-at-requires
+    add-i
     enum-told
     loop-less
     loop-again
-    enum-known-f
+    enum-known-m
     nearer-requires
-    add-i
     loop-less-2
     loop-again-2
-    returns)
+    returns-2)
