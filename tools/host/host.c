@@ -263,9 +263,9 @@ static void check_sides(void) {
               passes_sheets(2, panel_then_glass, up, 0.5f));
     const float back[9] = {0, 0, 0.5f, 0, 1, 0.5f, 1, 0, 0.5f};
     memcpy(&sheets[18], back, sizeof back);
-    check("nearest: two panels back to back, the upper one's front down: from above the lower one, from below the upper one",
+    check("nearest: two panels face to face: from above the lower one, from below the upper one",
           is_hit(nearest_sheet(3, panel, down), 1, 1, 0.25f, 0.25f, 1) && is_hit(nearest_sheet(3, panel, up), 2, 1.5f, 0.25f, 0.25f, 1));
-    check("transmittance: two panels back to back, 0 from both sides", passes_sheets(3, panel, down, 0) && passes_sheets(3, panel, up, 0));
+    check("transmittance: two panels face to face, 0 from both sides", passes_sheets(3, panel, down, 0) && passes_sheets(3, panel, up, 0));
     check("nearest and transmittance: a kind 3 in the list, refuses 6, all zeros",
           no_hit(nearest_sheet(1, other, down), 6) &&
               geaidnosa_transmittance(sheets, 9, sheet_uses, 1, other, 3, sheet_numbers, 21, down, distances, T, places, T).refusal == 6);
