@@ -718,14 +718,16 @@ fn panels_from_both_sides() {
     };
     says(at, &["check", "hall.toml"], 0, &["curtained is good: 4 triangles", "note: 2 of 4 triangles are panels", "counter-clockwise", "curtain 2 to +z"]);
     let panel = baked("panel.vgrd");
-    // Before it there is nothing of the red lamp behind, and the curtain's own blue. Behind it there is the light of both lamps, and nothing of the curtain.
-    assert!(panel[0][0] == 0.0 && panel[0][1] > 0.0 && panel[0][2] > 0.0, "{panel:?}");
-    assert!(panel[1][0] > 0.0 && panel[1][1] > 0.0 && panel[1][2] == 0.0, "{panel:?}");
+    // Before it there is next to nothing of the red lamp behind (a lamp's ray starts a little off the floor, as beside a wall), and the curtain's own blue. Behind it
+    // there is the light of both lamps, and nothing of the curtain.
+    let none = |dark: f32, bright: f32| bright > 0.0 && dark < 0.01 * bright;
+    assert!(none(panel[0][0], panel[0][1]) && panel[0][2] > 0.0, "{panel:?}");
+    assert!(panel[1][0] > 0.0 && panel[1][1] > 0.1 * panel[1][0] && panel[1][2] == 0.0, "{panel:?}");
     // straight from the lamps: from behind the green one is seen as if nothing stood between, from before the red one is not
     let straight = look("panel.vgrd", &["--direct", "hall.toml"]);
     let (up, along) = (2.0f32 - 0.6, 4.0f32);
     let lamp = 8.0 * up / (up * up + along * along).powf(1.5);
-    assert_eq!(straight[0][0], 0.0);
+    assert_eq!(straight[0][0], panel[0][0]);
     assert!((straight[1][1] - panel[1][1] - lamp).abs() < 0.01 * lamp, "{straight:?} {panel:?} {lamp}");
     // a picture: from before the curtain's blue, from behind the dark beyond it; and a face behind it has the green lamp's light
     let shown = |volume: &str| {
@@ -738,7 +740,7 @@ fn panels_from_both_sides() {
         (before, behind, middle(&at.join("f.png")))
     };
     let (before, behind, face) = shown("panel.vgrd");
-    assert!(before[0] == 0 && before[2] > 200 && behind == [0; 3] && face[1] > 50, "{before:?} {behind:?} {face:?}");
+    assert!(before[0] < 10 && before[2] > 200 && behind == [0; 3] && face[1] > 50, "{before:?} {behind:?} {face:?}");
     // a slice draws its line, and before its front a second one
     says(at, &["slice", "panel.vgrd", "--x", "2", "--of", "sun", "--hall", "hall.toml", "--png", "s.png"], 0, &[]);
     let slice = image::open(at.join("s.png")).unwrap().to_rgb8();
@@ -767,9 +769,9 @@ fn panels_from_both_sides() {
     assert!(!said.contains("panels") && !said.contains("never read"), "{said}");
     let opaque = baked("opaque.vgrd");
     assert_eq!(opaque[0], panel[0]);
-    assert!(opaque[1][0] > 0.0 && opaque[1][1] == 0.0 && opaque[1][2] > 0.0, "{opaque:?}");
-    let (before_opaque, behind, face) = shown("opaque.vgrd");
-    assert!(before_opaque == before && behind[2] > 200 && face[1] == 0, "{behind:?} {face:?}");
+    assert!(none(opaque[1][1], opaque[1][0]) && opaque[1][2] > 0.0, "{opaque:?}");
+    let (before, behind, face) = shown("opaque.vgrd");
+    assert!(before[2] > 200 && behind[2] > 200 && face[1] < 10, "{before:?} {behind:?} {face:?}");
     // both masks are the same: they ask for no material
     let [first, second] = ["panel.vgrd", "opaque.vgrd"].map(|name| Volume::read(&at.join(name)).unwrap());
     assert_eq!((first.occupied, first.active), (second.occupied, second.active));
@@ -779,7 +781,7 @@ fn panels_from_both_sides() {
     says(at, &["check", "hall.toml"], 0, &["curtain 2 to −z"]);
     let turned = baked("turned.vgrd");
     assert_eq!(turned[1], opaque[1]);
-    assert!(turned[0][0] > 0.0 && turned[0][1] > 0.0 && turned[0][2] == 0.0, "{turned:?}");
+    assert!(turned[0][0] > 0.1 * turned[0][1] && turned[0][1] > 0.0 && turned[0][2] == 0.0, "{turned:?}");
     let (before, behind, _) = shown("turned.vgrd");
     assert!(before == [0; 3] && behind[2] > 200, "{before:?} {behind:?}");
     // and a net has no side
@@ -827,7 +829,7 @@ fn panels_in_words() {
         assert_eq!(said.contains("back to back"), warned, "{z} {second}: {said}");
     }
     std::fs::write(&obj, format!("{drawn}f 8 7 6 5\nf 8 7 6 5\nf 5 6 7 8\n")).unwrap();
-    says(at, &["check", "hall.toml"], 0, &["face 3: a panel back to back with face 2", "(2 more such faces)"]);
+    says(at, &["check", "hall.toml"], 0, &["face 4: a panel back to back with face 2", "(1 more such faces)"]);
     // a face with a notch, cut so that a triangle lies the other way round; a smooth outline is not
     let notched = drawn.replacen("usemtl floor", "v 3 2.8 4\nv 2.6 0.4 4\nv 3 0.7 4\nv 3.4 0.4 4\nusemtl floor", 1) + "f 9 10 11 12\n";
     std::fs::write(&obj, &notched).unwrap();
@@ -879,7 +881,7 @@ fn panels_in_words() {
     says(at, &["bake", "hall.toml"], 3, &["hall.vgrd.part is not gone on with", "hall.toml has changed", "--fresh"]);
     std::fs::write(&path, &text).unwrap();
     let (volume, rays) = unbroken(&hall);
-    assert_eq!(rays_said(&says(at, &["bake", "hall.toml", "--resume"], 0, &["going on from hall.vgrd.part"]).lines().last().unwrap()), rays);
+    assert_eq!(rays_said(&says(at, &["bake", "hall.toml", "--resume"], 0, &["going on from hall.vgrd.part"])), rays);
     assert_eq!(std::fs::read(at.join("hall.vgrd")).unwrap(), volume.bytes().unwrap());
 }
 
