@@ -33,9 +33,10 @@ impl Picture {
         files::write_whole(path, [&png.into_inner()])
     }
 
-    fn line(&mut self, (x0, y0): (f32, f32), (x1, y1): (f32, f32), colour: [f32; 3]) {
+    /// A line from one point to another; a dashed one has as many pixels drawn as left out, four by four.
+    fn line(&mut self, (x0, y0): (f32, f32), (x1, y1): (f32, f32), colour: [f32; 3], dashed: bool) {
         let steps = ((x1 - x0).abs().max((y1 - y0).abs()).ceil() as usize).clamp(1, 8192);
-        for i in 0..=steps {
+        for i in (0..=steps).filter(|i| !dashed || i % 8 < 4) {
             let part = i as f32 / steps as f32;
             let (x, y) = (x0 + (x1 - x0) * part, y0 + (y1 - y0) * part);
             if x >= 0.0 && y >= 0.0 && (x as usize) < self.width && (y as usize) < self.height {
@@ -122,12 +123,12 @@ pub fn difference(first: &Volume, second: &Volume) -> (Picture, f32) {
     (picture, most)
 }
 
-/// How far before a panel's line the second one runs that shows its front, in pixels.
+/// How far before a panel's line the dashed one runs that shows its front, in pixels.
 const BEFORE: f32 = 4.0;
 
 /// One slice across an axis (0, 1 or 2), a voxel in pixels of its own shape. Across z and x the height goes up; across y it is a plan, z downwards. Where a hall
 /// is given, its surfaces are drawn where the slice's middle cuts them, white at the exposure that is given or at the picture's own; before a panel's front runs a
-/// second line, half as bright.
+/// dashed line.
 pub fn slice(volume: &Volume, axis: usize, place: usize, of: Of, hall: Option<&Hall>, exposure: Option<f32>) -> Picture {
     let counts = [volume.axes.width, volume.axes.height, volume.axes.depth];
     let edges: [f32; 3] = crate::hall::edges(volume.axes, volume.corners).into();
@@ -167,14 +168,14 @@ pub fn slice(volume: &Volume, axis: usize, place: usize, of: Of, hall: Option<&H
                 })
                 .collect();
             if let [a, b] = cuts[..] {
-                picture.line(at(a), at(b), white);
+                picture.line(at(a), at(b), white, false);
                 if hall.kinds[hall.uses[place] as usize] == PANEL {
                     let front: [f32; 3] = vec::cross(vec::sub(triangle[1], triangle[0]), vec::sub(triangle[2], triangle[0])).into();
                     // as the slice shows it: to the right, and downwards
                     let (x, y) = (front[right], if upward { -front[vertical] } else { front[vertical] });
                     let far = BEFORE / x.hypot(y).max(f32::MIN_POSITIVE);
                     let before = |(px, py): (f32, f32)| (px + x * far, py + y * far);
-                    picture.line(before(at(a)), before(at(b)), white.map(|part| part / 2.0));
+                    picture.line(before(at(a)), before(at(b)), white, true);
                 }
             }
         }

@@ -741,12 +741,14 @@ fn panels_from_both_sides() {
     };
     let (before, behind, face) = shown("panel.vgrd");
     assert!(before[0] < 10 && before[2] > 200 && behind == [0; 3] && face[1] > 50, "{before:?} {behind:?} {face:?}");
-    // a slice draws its line, and before its front a second one
+    // a slice draws its line, and before its front a dashed one
     says(at, &["slice", "panel.vgrd", "--x", "2", "--of", "sun", "--hall", "hall.toml", "--png", "s.png"], 0, &[]);
     let slice = image::open(at.join("s.png")).unwrap().to_rgb8();
-    let line = slice.width() / 2;
-    let is_line = |x: u32| slice.get_pixel(x, slice.height() / 2).0 != slice.get_pixel(5, slice.height() / 2).0;
-    assert!((line - 1..=line + 1).any(is_line) && (line + 3..=line + 5).any(is_line) && !(line - 6..line - 2).any(is_line));
+    let (line, across) = (slice.width() / 2, slice.height() / 2..slice.height() / 2 + 80);
+    // how many of eighty pixels downwards are drawn in the columns
+    let drawn = |columns: std::ops::RangeInclusive<u32>| across.clone().filter(|y| columns.clone().any(|x| slice.get_pixel(x, *y).0 != slice.get_pixel(5, *y).0)).count();
+    let (whole, dashed, none_behind) = (drawn(line - 1..=line + 1), drawn(line + 3..=line + 5), drawn(line - 6..=line - 3));
+    assert!(whole == 80 && (30..=50).contains(&dashed) && none_behind == 0, "{whole} {dashed} {none_behind}");
     // the sun: on the side of the front, it falls through onto what stands behind; on the other side, not onto what stands before
     for (towards, lit) in [("[0.0, 0.4, 1.0]", [true, true]), ("[0.0, 0.4, -1.0]", [false, true])] {
         std::fs::write(at.join("sunny.toml"), std::fs::read_to_string(&path).unwrap() + &format!("[sun]\ntowards = {towards}\ncolour = [1.0, 2.0, 4.0]\n")).unwrap();
