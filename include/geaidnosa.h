@@ -1,4 +1,4 @@
-/* Geaidnosa 0.4.0: the public calls of the light bake, for C and C++ on x86-64. Link libgeaidnosa.a.
+/* Geaidnosa 0.5.0: the public calls of the light bake, for C and C++ on x86-64. Link libgeaidnosa.a.
  *
  * A bake, call by call. geaidnosa_masks marks the voxels at and near surfaces; geaidnosa_sun finds how much of the sun each of them sees;
  * geaidnosa_directions gives the directions along which the caller fills the sky; geaidnosa_bake, called until its progress is at the voxel count, fills the
@@ -19,12 +19,26 @@
  *     c1 with y and c2 with z. A face turned to −x, −y or −z then reads darker than it would in the mirrored hall.
  *   - Ambient is four coefficients of the same kind, the whole sky's irradiance. Inactive voxels hold it; a surface that is met gets it by the part of the
  *     sky that the surface sees; and a voxel that comes out darker than 0.005 of it is brought nearer to that.
- *   - A ray from a voxel ends at a translucent triangle as at an opaque one; rays to the sun, the sky and the lamps pass through it.
+ *   - A ray from a voxel ends at a translucent triangle as at an opaque one; rays to the sun, the sky and the lamps pass through it. At a panel's front
+ *     all of them end; from behind all of them pass it as if it were not there.
  *
  * Directions. A direction is a unit vector outward from the voxel: a primary ray goes along it, and where that meets nothing the sky's light comes
  * from there. There are nine sets of 64, and voxel (x,y,z) looks along set ((x%3) + 3·(y%3) + (z%3))%9, as geaidnosa_set_of_voxel answers. Direction i of
  * set s is triple 64·s + i of what geaidnosa_directions writes, and triple 64·s + i of the sky is the colour that is seen along it: red, green and blue,
  * no matter which voxel looks. A hall of 3×3×3 voxels looks along all nine sets, so fill all 576 triples.
+ *
+ * Sides. A triangle's front is the side from which its corners p0, p1, p2 run counter-clockwise, and its back is the other one; two corners swapped swap
+ * the sides. A ray meets the front where it runs against the cross product (p1−p0)×(p2−p0): exactly where det, which is (p1−p0)·(direction×(p2−p0)), is above
+ * zero. A hit says which side was met; where det is next to zero there is no hit at all.
+ *
+ * Kinds. A triangle's material is of one of three, and no other number is taken:
+ *   0  opaque: ends every ray, from both sides.
+ *   1  translucent: lets its transmission of the light pass, from both sides, on the way to the sun, the sky and the lamps; ends a voxel's ray.
+ *   2  panel: opaque from the front and absent from the back, for geaidnosa_nearest and geaidnosa_transmittance and so for sun, sky, lamps and bake. Its
+ *      transmission is tested like any other and never read. A ray looks against the light: so a panel stops the light that comes from behind it, and what
+ *      falls on its front goes on through it to what stands behind, while the front still sends back its base colour's part of it and its emissive. To turn a
+ *      panel round swap two corners of each of its triangles; a second one back to back with it makes an opaque surface. Masks ask for no material: a panel
+ *      occupies voxels whichever way it is turned.
  *
  * Ownership. Every list is the caller's, lent for the one call as a pointer and a count of its elements (of a mask: words); no call keeps a pointer, allocates or frees.
  * A pointer is never null and is aligned for its type, also where the count is 0. No list that a call writes may overlap another list of that call.
@@ -41,7 +55,7 @@
  *    3  a lent list of the wrong length
  *    4  more than 4,096 triangles or 256 materials
  *    5  a triangle's point not finite or beyond 4,096 in magnitude
- *    6  a kind other than 0 and 1, a material's colour not finite or beyond 65,536 in magnitude, a transmission outside 0..1, an index past the materials
+ *    6  a kind above 2, a material's colour not finite or beyond 65,536 in magnitude, a transmission outside 0..1, an index past the materials
  *    7  a light direction with a component beyond 4,096 or of squared length 1e-12 or less; a light, ambient or sky number not finite or beyond 65,536
  *    8  a ray's origin beyond 65,536, direction beyond 2, shortest distance outside 0..65,536, or longest distance NaN
  *    9  progress with next above the voxel count, or with rays below 64 or above 384 + 64·lamps for each active voxel below next
@@ -54,7 +68,7 @@
  *
  * Lengths. N is the voxel count, width·height·depth; voxel (x,y,z) has the index x + width·(y + height·z). T is the triangle count.
  *   points      9·T: p0 x y z, p1 x y z, p2 x y z of each triangle       uses     T: the material of each triangle (this list gives T)
- *   kinds       one a material, 0 opaque or 1 translucent                 numbers  7 a material: base RGB, emissive RGB, transmission
+ *   kinds       one a material: 0 opaque, 1 translucent, 2 panel          numbers  7 a material: base RGB, emissive RGB, transmission
  *   occupied, active, share   (N+63)/64 words: voxel i is bit i%64 of word i/64, the lowest bit first; bits past the last voxel are 0. Voxel i is marked where
  *               (mask[i / 64] >> (i % 64)) & 1 is 1. Every call that takes both takes occupied first. In a volume file a mask has a byte a voxel.
  *   light (sun, blur, lookups, file), lights (bake), and a light's scratch   N
@@ -78,10 +92,10 @@ extern "C" {
 /* ---- the version: below 1.0 a new second number may change a call */
 
 #define GEAIDNOSA_VERSION_MAJOR 0
-#define GEAIDNOSA_VERSION_MINOR 4
+#define GEAIDNOSA_VERSION_MINOR 5
 #define GEAIDNOSA_VERSION_PATCH 0
-#define GEAIDNOSA_VERSION "0.4.0"
-#define GEAIDNOSA_VERSION_NUMBER 4000 /* major·1,000,000 + minor·1,000 + patch */
+#define GEAIDNOSA_VERSION "0.5.0"
+#define GEAIDNOSA_VERSION_NUMBER 5000 /* major·1,000,000 + minor·1,000 + patch */
 
 /* ---- the limit */
 
@@ -118,6 +132,7 @@ typedef struct GeaidnosaRay {
     float longest;
 } GeaidnosaRay;
 
+/* Its front is the side from which p0, p1, p2 run counter-clockwise. */
 typedef struct GeaidnosaTriangle {
     GeaidnosaVec3 p0;
     GeaidnosaVec3 p1;
@@ -146,7 +161,8 @@ typedef struct GeaidnosaAmbient {
 
 /* ---- what calls answer */
 
-/* hit is 1 for a hit, else 0; then place, t, u and v are 0 too. A hit may stand at place 0 and distance 0: ask hit. */
+/* hit is 1 for a hit, else 0; then place, t, u, v and front are 0 too. A hit may stand at place 0 and distance 0: ask hit. front is 1 where the triangle's
+ * front was met, 0 where its back was. */
 typedef struct GeaidnosaRayHit {
     uint32_t refusal;
     uint32_t hit;
@@ -154,6 +170,7 @@ typedef struct GeaidnosaRayHit {
     float t;
     float u;
     float v;
+    uint32_t front;
 } GeaidnosaRayHit;
 
 typedef struct GeaidnosaTransmitted {
@@ -235,10 +252,10 @@ size_t geaidnosa_set_of_voxel(size_t x, size_t y, size_t z);
 
 /* ---- rays */
 
-/* Where a ray meets one triangle; place is 0. Refuses 5, 8. */
+/* Where a ray meets one triangle, and on which side; it has no material here, so both are met. place is 0. Refuses 5, 8. */
 GeaidnosaRayHit geaidnosa_meet(GeaidnosaRay ray, GeaidnosaTriangle triangle);
 
-/* The nearest hit among all triangles, and among equal distances the one of the highest place. Refuses 3, 4, 5, 6, 8. */
+/* The nearest hit among all triangles, and among equal distances the one of the highest place; a panel met from behind is no hit. Refuses 3, 4, 5, 6, 8. */
 GeaidnosaRayHit geaidnosa_nearest(
     const float *points, size_t points_length,
     const uint32_t *uses, size_t uses_length,
@@ -246,7 +263,8 @@ GeaidnosaRayHit geaidnosa_nearest(
     const float *numbers, size_t numbers_length,
     GeaidnosaRay ray);
 
-/* How much light passes along a ray, from 1 down to 0; writes hit scratch alone. Refuses 3, 4, 5, 6, 8. */
+/* How much light passes along a ray, from 1 down to 0: nothing past an opaque triangle or a panel's front, everything past a panel's back. Writes hit scratch
+ * alone. Refuses 3, 4, 5, 6, 8. */
 GeaidnosaTransmitted geaidnosa_transmittance(
     const float *points, size_t points_length,
     const uint32_t *uses, size_t uses_length,
@@ -258,8 +276,8 @@ GeaidnosaTransmitted geaidnosa_transmittance(
 
 /* ---- masks, blurs and the sun */
 
-/* Fills both masks whatever stood there: occupied where a triangle's sample lies in the voxel, active within two voxels of that on every axis. Here
- * the points give T: a count that is no multiple of nine is refused 3. Refuses 1, 2, 3, 4, 5. */
+/* Fills both masks whatever stood there: occupied where a triangle's sample lies in the voxel, whatever its material and side, active within two voxels of
+ * that on every axis. Here the points give T: a count that is no multiple of nine is refused 3. Refuses 1, 2, 3, 4, 5. */
 GeaidnosaMarked geaidnosa_masks(
     GeaidnosaAxes axes,
     GeaidnosaCorners corners,

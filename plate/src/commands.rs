@@ -54,7 +54,8 @@ pub fn check(paths: &[PathBuf], json: bool) -> Result<u8> {
             code = REFUSED;
         }
         if json {
-            let line = serde_json::json!({ "hall": path.display().to_string(), "faults": found.faults, "warnings": found.warnings });
+            let panels = hall.as_ref().map(Hall::panels);
+            let line = serde_json::json!({ "hall": path.display().to_string(), "faults": found.faults, "warnings": found.warnings, "panels": panels });
             println!("{line}");
             continue;
         }
@@ -67,6 +68,12 @@ pub fn check(paths: &[PathBuf], json: bool) -> Result<u8> {
                 println!("{}: {} is good: {} triangles, {} materials, {} lamps, {} faces, {} × {} × {} voxels of {:.3} × {:.3} × {:.3} m", path.display(),
                     hall.name, thousands(hall.triangles() as u64), hall.kinds.len(), hall.lamp_count(), hall.faces.len(),
                     hall.axes.width, hall.axes.height, hall.axes.depth, edge.x, edge.y, edge.z);
+                if hall.panels() > 0 {
+                    let turned = |counts: &[(&str, usize)]| counts.iter().map(|(axis, count)| format!("{} to {axis}", thousands(*count as u64))).collect::<Vec<_>>().join(", ");
+                    let fronts: Vec<String> = hall.fronts().iter().map(|(name, counts)| format!("{name} {}", turned(counts))).collect();
+                    println!("note: {} of {} triangles are panels, opaque from the front and not there from behind. A front is the side from which the corners run counter-clockwise. \
+                        Fronts are turned: {}", thousands(hall.panels() as u64), thousands(hall.triangles() as u64), fronts.join("; "));
+                }
                 let marked = baking::marked_of(&hall)?;
                 let idle = hall.axes.count() as u64 - marked.active;
                 if idle > 0 {
@@ -705,7 +712,8 @@ pub fn explain(number: u32) -> Result<u8> {
         Refusal::Length => "A list handed to the library has not the length that the grid or the triangles ask for. The program sees to this; a program of your own must.",
         Refusal::TooMany => "Leave out what casts no light worth baking: chairs, screws, what is outside. A drawing has at most 4,096 triangles and 256 materials.",
         Refusal::Point => "A point of the drawing is too far off or not finite. Is unit right? `plate check` names the face and its line.",
-        Refusal::Material => "A material's colour or transmission is out of range, in the material file or in hall.toml. `plate check` names it.",
+        Refusal::Material => "A material's colour or transmission is out of range, in the material file or in hall.toml, or its kind there is none of \"opaque\" (0), \"translucent\" (1) and \
+            \"panel\" (2), which is opaque from the front and not there from behind. `plate check` names it.",
         Refusal::Light => "In hall.toml, sun and sky: sun.towards has a length, and every number is finite and at most 65,536.",
         Refusal::Ray => "Only programs that trace rays of their own meet this one.",
         Refusal::Progress => "A bake was asked to go on from past its end, or with rays that the voxels passed cannot have fired. Hand on what the last call answered, both numbers of it, with \

@@ -113,6 +113,8 @@ pub struct Hall {
     pub uses: Vec<u32>,
     pub kinds: Vec<u8>,
     pub numbers: Vec<f32>,
+    /// The materials' names, one for each kind.
+    pub materials: Vec<String>,
     pub sun: Light,
     pub sky: Vec<f32>,
     pub ambient: Ambient,
@@ -177,6 +179,28 @@ impl Hall {
         self.uses.len()
     }
 
+    /// How many triangles are panels.
+    pub fn panels(&self) -> usize {
+        self.uses.iter().filter(|m| self.kinds[**m as usize] == PANEL).count()
+    }
+
+    /// Which way the fronts of its panels are turned: each material that is a panel's by its name, and how many triangles are turned to which axis most.
+    pub fn fronts(&self) -> Vec<(&str, Vec<(&'static str, usize)>)> {
+        let turned_to = |place: usize| {
+            let [a, b, c] = corners_of(&self.points, place);
+            let n: [f32; 3] = vec::cross(vec::sub(b, a), vec::sub(c, a)).into();
+            let most = (0..3).fold(0, |most, k| if n[k].abs() > n[most].abs() { k } else { most });
+            2 * most + usize::from(n[most] < 0.0)
+        };
+        let of_material = |material: usize| {
+            let mut counts = ["+x", "−x", "+y", "−y", "+z", "−z"].map(|axis| (axis, 0));
+            (0..self.triangles()).filter(|place| self.uses[*place] as usize == material).for_each(|place| counts[turned_to(place)].1 += 1);
+            counts.into_iter().filter(|(_, count)| *count > 0).collect::<Vec<_>>()
+        };
+        let panels = (0..self.kinds.len()).filter(|m| self.kinds[*m] == PANEL);
+        panels.map(|m| (self.materials[m].as_str(), of_material(m))).filter(|(_, counts)| !counts.is_empty()).collect()
+    }
+
     pub fn lamp_count(&self) -> usize {
         self.lamps.len() / 6
     }
@@ -210,6 +234,12 @@ impl Hall {
         [self.axes.width, self.axes.height, self.axes.depth].iter().for_each(|a| all.update((*a as u64).to_le_bytes()));
         all.finalize().iter().map(|b| format!("{b:02x}")).collect()
     }
+}
+
+/// The corners of the triangle at a place.
+pub fn corners_of(points: &[f32], place: usize) -> [Vec3; 3] {
+    let p = &points[9 * place..9 * place + 9];
+    [Vec3::new(p[0], p[1], p[2]), Vec3::new(p[3], p[4], p[5]), Vec3::new(p[6], p[7], p[8])]
 }
 
 pub fn edges(axes: Axes, corners: Corners) -> Vec3 {
@@ -313,9 +343,9 @@ pub fn read(path: &Path, found: &mut Found) -> Option<Hall> {
     if reading.found.faults.len() > before {
         return None;
     }
-    let (points, uses, kinds, numbers) = lists?;
+    let Lists { points, uses, kinds, numbers, materials } = lists?;
     let name = hall.name.unwrap_or_else(|| path.file_stem().map_or("hall".into(), |s| s.to_string_lossy().into_owned()));
-    let hall_read = Hall { name, file: path.into(), axes, corners, points, uses, kinds, numbers, sun, sky, ambient, lamps, faces, inputs };
+    let hall_read = Hall { name, file: path.into(), axes, corners, points, uses, kinds, numbers, materials, sun, sky, ambient, lamps, faces, inputs };
     // The library is the judge: with no ray allowed, 10 is what it answers exactly when it takes everything before.
     if let Err(refusal) = judged_by_library(&hall_read) {
         reading.found.fault(&reading.file, None, format!("the library refuses the hall: {}", refusal.words()), Some(refusal));
@@ -522,7 +552,13 @@ fn faces_of(reading: &mut Reading, faces: &[FaceFile]) -> Vec<Face> {
     list
 }
 
-type Lists = (Vec<f32>, Vec<u32>, Vec<u8>, Vec<f32>);
+struct Lists {
+    points: Vec<f32>,
+    uses: Vec<u32>,
+    kinds: Vec<u8>,
+    numbers: Vec<f32>,
+    materials: Vec<String>,
+}
 
 fn drawing_of(reading: &mut Reading, hall: &HallFile, folder: &Path, inputs: &mut Vec<Input>) -> Option<Lists> {
     let unit = match &hall.unit {
@@ -633,8 +669,63 @@ fn drawing_of(reading: &mut Reading, hall: &HallFile, folder: &Path, inputs: &mu
     if flat > 0 {
         reading.found.warn(&file, None, format!("{flat} of {count} triangles have no area and are left out by every call"));
     }
-    let (uses, kinds, numbers) = materials_of(reading, hall, &drawing, &file, &bytes, drawing_folder);
-    Some((points, uses, kinds, numbers))
+    let (uses, kinds, numbers, materials) = materials_of(reading, hall, &drawing, &file, &bytes, drawing_folder);
+    let lists = Lists { points, uses, kinds, numbers, materials };
+    panel_warnings(reading.found, &file, &drawing, &placed, &lists);
+    Some(lists)
+}
+
+/// How near to each other two panels whose fronts look apart are one sheet, in metres.
+const BACK_TO_BACK: f32 = 0.1;
+
+/// Panels that do not do what a panel is for: a face that has its front on both sides, and two that stand back to back and so stop light from both sides.
+fn panel_warnings(found: &mut Found, file: &str, drawing: &obj::Drawing, placed: &[[f32; 3]], lists: &Lists) {
+    let panels: Vec<usize> = (0..lists.uses.len()).filter(|place| lists.kinds[lists.uses[*place] as usize] == PANEL).collect();
+    if panels.is_empty() {
+        return;
+    }
+    let face_of = |place: usize| drawing.triangles[place].face;
+    let mut warn = |faces: &BTreeSet<usize>, words: &dyn Fn(usize) -> String, more: &str| {
+        let Some(first) = faces.first() else { return };
+        let line = first.checked_sub(1).and_then(|place| drawing.lines.get(place)).copied();
+        let rest = if faces.len() > 1 { format!(" ({} more {more})", thousands(faces.len() as u64 - 1)) } else { String::new() };
+        found.warn(file, line, words(*first) + &rest);
+    };
+    // a face's own direction, by all of its corners (Newell), beside that of each triangle it was cut into
+    let mut outlines: BTreeMap<usize, Vec<Vec3>> = BTreeMap::new();
+    for (face, place) in &drawing.corners {
+        outlines.entry(*face).or_default().extend(usize::try_from(*place).ok().and_then(|place| placed.get(place)).map(|p| Vec3::from(*p)));
+    }
+    let direction = |outline: &[Vec3]| {
+        let from = |k: usize| vec::sub(outline[k % outline.len()], outline[0]);
+        (0..outline.len()).fold(Vec3::default(), |sum, k| vec::add(sum, vec::cross(from(k), from(k + 1))))
+    };
+    let cross = |place: usize| direction(&corners_of(&lists.points, place));
+    let both_sides = |place: &usize| outlines.get(&face_of(*place)).map_or(false, |outline| vec::dot(direction(outline), cross(*place)) < 0.0);
+    let split: BTreeSet<usize> = panels.iter().filter(|place| both_sides(place)).map(|place| face_of(*place)).collect();
+    warn(&split, &|face| format!("face {face}: a panel of this outline is cut into triangles with their fronts on both sides; draw it as triangles, or as faces without a notch"), "faces");
+    // the panels by themselves, each looked at from behind: what is met there is another one's front
+    let points: Vec<f32> = panels.iter().flat_map(|place| lists.points[9 * place..9 * place + 9].iter().copied()).collect();
+    let scene = Scene { points: &points, uses: &vec![0; panels.len()], kinds: &[PANEL], numbers: &[0.0; 7] };
+    let mut doubled = BTreeMap::new();
+    for place in &panels {
+        let (n, [a, b, c]) = (cross(*place), corners_of(&lists.points, *place));
+        if !(vec::dot(n, n) > 1e-12) {
+            continue;
+        }
+        let (n, middle) = (vec::unit(n), vec::scale(vec::add(a, vec::add(b, c)), 1.0 / 3.0));
+        let ray = Ray { origin: vec::sub(middle, vec::scale(n, BACK_TO_BACK)), direction: n, shortest: 0.0, longest: 2.0 * BACK_TO_BACK };
+        if let Ok(Some(hit)) = nearest(scene, ray) {
+            let other = panels[hit.place];
+            if vec::dot(vec::unit(cross(other)), n) < -0.9 {
+                let (first, second) = (face_of(*place).min(face_of(other)), face_of(*place).max(face_of(other)));
+                doubled.entry(second).or_insert(first);
+            }
+        }
+    }
+    let seconds = doubled.keys().copied().collect();
+    warn(&seconds, &|face| format!("face {face}: a panel back to back with face {}, within {} cm: together they stop light from both sides, as one opaque surface does; leave one of them out",
+        doubled[&face], 100.0 * BACK_TO_BACK), "such faces");
 }
 
 fn unit_of(value: &toml::Value) -> Option<f64> {
@@ -653,7 +744,9 @@ fn unit_of(value: &toml::Value) -> Option<f64> {
     }
 }
 
-fn materials_of(reading: &mut Reading, hall: &HallFile, drawing: &obj::Drawing, file: &str, bytes: &[u8], folder: &Path) -> (Vec<u32>, Vec<u8>, Vec<f32>) {
+type Materials = (Vec<u32>, Vec<u8>, Vec<f32>, Vec<String>);
+
+fn materials_of(reading: &mut Reading, hall: &HallFile, drawing: &obj::Drawing, file: &str, bytes: &[u8], folder: &Path) -> Materials {
     let mut kinds = Vec::new();
     let mut numbers = Vec::new();
     let names: Vec<&str> = drawing.materials.iter().map(|m| m.name.as_str()).collect();
@@ -675,11 +768,11 @@ fn materials_of(reading: &mut Reading, hall: &HallFile, drawing: &obj::Drawing, 
         let base = colour(over.and_then(|o| o.get_ref().base.as_ref()), material.base, "base");
         let emissive = colour(over.and_then(|o| o.get_ref().emissive.as_ref()), material.emissive, "emissive");
         let mut transmission = (1.0 - material.dissolve) as f32;
-        let mut translucent = transmission > 0.0;
+        let mut kind = if transmission > 0.0 { TRANSLUCENT } else { OPAQUE };
         let over_transmission = over.and_then(|o| o.get_ref().transmission.as_ref());
         if let Some(at) = over_transmission {
             transmission = *at.get_ref() as f32;
-            translucent = true;
+            kind = TRANSLUCENT;
             if !(0.0..=1.0).contains(&transmission) {
                 reading.fault(at, format!("materials.{}: transmission {transmission} is outside 0..1", material.name), Some(Refusal::Material));
             }
@@ -689,12 +782,17 @@ fn materials_of(reading: &mut Reading, hall: &HallFile, drawing: &obj::Drawing, 
         }
         if let Some(at) = over.and_then(|o| o.get_ref().kind.as_ref()) {
             match at.get_ref().as_str() {
-                "opaque" => translucent = false,
-                "translucent" => translucent = true,
-                other => reading.fault(at, format!("materials.{}: kind \"{other}\", where \"opaque\" and \"translucent\" are", material.name), Some(Refusal::Material)),
+                "opaque" => kind = OPAQUE,
+                "translucent" => kind = TRANSLUCENT,
+                "panel" => kind = PANEL,
+                other => reading.fault(at, format!("materials.{}: kind \"{other}\", where \"opaque\", \"translucent\" and \"panel\" are", material.name), Some(Refusal::Material)),
             }
         }
-        kinds.push(u8::from(translucent));
+        if let (PANEL, Some(at)) = (kind, over_transmission) {
+            let words = format!("materials.{}: transmission is never read of a panel, which lets nothing pass from its front and everything from behind", material.name);
+            reading.warn(at, words);
+        }
+        kinds.push(kind);
         numbers.extend(base.into_iter().chain(emissive).chain([transmission]));
     }
     for (name, at) in &hall.materials {
@@ -709,15 +807,17 @@ fn materials_of(reading: &mut Reading, hall: &HallFile, drawing: &obj::Drawing, 
         let line = first.checked_sub(1).and_then(|place| drawing.lines.get(place)).copied();
         let words = format!("face {first}: no material that a material file has; this and {} more triangles are taken as grey", nameless - 1);
         reading.found.warn(file, line, words);
-        kinds.push(0);
+        kinds.push(OPAQUE);
         numbers.extend([0.5, 0.5, 0.5, 0.0, 0.0, 0.0, 0.0]);
     }
+    let mut materials: Vec<String> = names.iter().map(|name| name.to_string()).collect();
+    materials.resize(kinds.len(), "grey".into());
     if kinds.len() > 256 {
         let line = line_naming(bytes, &["mtllib"], "");
         reading.found.fault(file, line, format!("{} materials, and at most 256 are taken", kinds.len()), Some(Refusal::TooMany));
     }
     let uses = drawing.triangles.iter().map(|t| t.material.filter(|m| *m < names.len()).map_or(grey, |m| m as u32)).collect();
-    (uses, kinds, numbers)
+    (uses, kinds, numbers, materials)
 }
 
 /// The loader takes what is no number as 0: here such lines are faults.
@@ -767,6 +867,12 @@ fn line_in(message: &str) -> (Option<u64>, String) {
     (line, message.trim().trim_end_matches('.').to_string())
 }
 
+/// Whether a surface stands on a way of this length, seen from either end of it: a panel is there from one of them alone.
+fn stands_within(hall: &Hall, from: Vec3, way: Vec3, length: f32) -> bool {
+    let met = |origin: Vec3, direction: Vec3| matches!(nearest(hall.scene(), Ray { origin, direction, shortest: 0.0, longest: length }), Ok(Some(_)));
+    met(from, way) || met(vec::add(from, vec::scale(way, length)), vec::scale(way, -1.0))
+}
+
 fn lamp_warnings(reading: &mut Reading, hall: &Hall, place: usize, lamp: &LampFile) {
     let at = Vec3::new(hall.lamps[6 * place], hall.lamps[6 * place + 1], hall.lamps[6 * place + 2]);
     let Corners { min, max } = hall.corners;
@@ -776,10 +882,7 @@ fn lamp_warnings(reading: &mut Reading, hall: &Hall, place: usize, lamp: &LampFi
     }
     let mut along = vec![0.0; SKY_LENGTH];
     directions(&mut along).expect("the length is the library's");
-    let near = along.chunks_exact(3).take(64).any(|d| {
-        let ray = Ray { origin: at, direction: Vec3::new(d[0], d[1], d[2]), shortest: 0.0, longest: 0.01 };
-        matches!(nearest(hall.scene(), ray), Ok(Some(_)))
-    });
+    let near = along.chunks_exact(3).take(64).any(|d| stands_within(hall, at, Vec3::new(d[0], d[1], d[2]), 0.01));
     if near {
         reading.warn(&lamp.at, format!("lamp {}: a surface stands within a centimetre of it; is it inside a wall?", place + 1));
     }
@@ -794,8 +897,7 @@ fn face_warnings(reading: &mut Reading, hall: &Hall, face: &FaceFile) {
         }
     }
     let middle = vec::add(read.corner, vec::scale(vec::add(read.across, read.up), 0.5));
-    let ray = Ray { origin: vec::add(middle, vec::scale(read.normal, 0.001)), direction: read.normal, shortest: 0.0, longest: 0.05 };
-    if matches!(nearest(hall.scene(), ray), Ok(Some(_))) {
+    if stands_within(hall, vec::add(middle, vec::scale(read.normal, 0.001)), read.normal, 0.05) {
         reading.warn(&face.name, format!("face {}: a surface stands within 5 cm before its middle; is it inside its mat?", read.name));
     }
 }

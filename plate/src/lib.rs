@@ -42,7 +42,7 @@ enum Command {
         /// The folder, which is made where it is missing
         dir: PathBuf,
     },
-    /// Say everything that is wrong with a hall, in words and with its place
+    /// Say everything that is wrong with a hall, in words and with its place, and which way the fronts of its panels are turned
     Check {
         #[arg(required = true)]
         halls: Vec<PathBuf>,

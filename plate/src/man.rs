@@ -36,6 +36,17 @@ fn arguments(page: &mut Roff, command: &Command) {
     }
 }
 
+/// What each kind of material does, as hall.toml names them.
+const KINDS: [(&str, &str); 3] = [
+    ("opaque", "Ends every ray, from both sides."),
+    ("translucent", "Lets its transmission of the light pass, from both sides, on the way to the sun, the sky and the lamps."),
+    (
+        "panel",
+        "Opaque from the front, the side from which the corners of its faces run counter-clockwise, and not there from behind. It stops the light that comes from \
+         behind it; what falls on its front goes on through it to what stands behind. Its transmission is never read.",
+    ),
+];
+
 /// plate(1) as roff.
 pub fn page(mut command: Command) -> String {
     command.build();
@@ -50,6 +61,11 @@ pub fn page(mut command: Command) -> String {
         page.text([roman(paragraph.replace('\n', " "))]).control("PP", []);
     }
     page.text([roman("What a volume means, and what is not in it, stands in docs/USE.md. Every command has "), bold("--help"), roman(".")]);
+    page.control("SH", ["MATERIALS"]);
+    page.text([roman("In hall.toml a material's "), bold("kind"), roman(" is one of three:")]);
+    for (kind, words) in KINDS {
+        page.control("TP", []).text([bold(kind)]).text([roman(words)]);
+    }
     page.control("SH", ["COMMANDS"]);
     for inner in command.get_subcommands_mut().filter(|c| c.get_name() != "help" && !c.is_hide_set()) {
         let usage = inner.render_usage().to_string();

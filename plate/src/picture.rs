@@ -33,9 +33,10 @@ impl Picture {
         files::write_whole(path, [&png.into_inner()])
     }
 
-    fn line(&mut self, (x0, y0): (f32, f32), (x1, y1): (f32, f32), colour: [f32; 3]) {
+    /// A line from one point to another; a dashed one has as many pixels drawn as left out, four by four.
+    fn line(&mut self, (x0, y0): (f32, f32), (x1, y1): (f32, f32), colour: [f32; 3], dashed: bool) {
         let steps = ((x1 - x0).abs().max((y1 - y0).abs()).ceil() as usize).clamp(1, 8192);
-        for i in 0..=steps {
+        for i in (0..=steps).filter(|i| !dashed || i % 8 < 4) {
             let part = i as f32 / steps as f32;
             let (x, y) = (x0 + (x1 - x0) * part, y0 + (y1 - y0) * part);
             if x >= 0.0 && y >= 0.0 && (x as usize) < self.width && (y as usize) < self.height {
@@ -122,8 +123,12 @@ pub fn difference(first: &Volume, second: &Volume) -> (Picture, f32) {
     (picture, most)
 }
 
+/// How far before a panel's line the dashed one runs that shows its front, in pixels.
+const BEFORE: f32 = 4.0;
+
 /// One slice across an axis (0, 1 or 2), a voxel in pixels of its own shape. Across z and x the height goes up; across y it is a plan, z downwards. Where a hall
-/// is given, its surfaces are drawn where the slice's middle cuts them, white at the exposure that is given or at the picture's own.
+/// is given, its surfaces are drawn where the slice's middle cuts them, white at the exposure that is given or at the picture's own; before a panel's front runs a
+/// dashed line.
 pub fn slice(volume: &Volume, axis: usize, place: usize, of: Of, hall: Option<&Hall>, exposure: Option<f32>) -> Picture {
     let counts = [volume.axes.width, volume.axes.height, volume.axes.depth];
     let edges: [f32; 3] = crate::hall::edges(volume.axes, volume.corners).into();
@@ -152,8 +157,9 @@ pub fn slice(volume: &Volume, axis: usize, place: usize, of: Of, hall: Option<&H
             let y = (p[vertical] - min[vertical]) / edges[vertical] * cell_height as f32;
             (x, if upward { height as f32 - y } else { y })
         };
-        for triangle in hall.points.chunks_exact(9) {
-            let corners: Vec<[f32; 3]> = triangle.chunks_exact(3).map(|p| [p[0], p[1], p[2]]).collect();
+        for place in 0..hall.triangles() {
+            let triangle = crate::hall::corners_of(&hall.points, place);
+            let corners: [[f32; 3]; 3] = triangle.map(Into::into);
             let cuts: Vec<[f32; 3]> = (0..3)
                 .filter_map(|k| {
                     let (a, b) = (corners[k], corners[(k + 1) % 3]);
@@ -162,7 +168,15 @@ pub fn slice(volume: &Volume, axis: usize, place: usize, of: Of, hall: Option<&H
                 })
                 .collect();
             if let [a, b] = cuts[..] {
-                picture.line(at(a), at(b), white);
+                picture.line(at(a), at(b), white, false);
+                if hall.kinds[hall.uses[place] as usize] == PANEL {
+                    let front: [f32; 3] = vec::cross(vec::sub(triangle[1], triangle[0]), vec::sub(triangle[2], triangle[0])).into();
+                    // as the slice shows it: to the right, and downwards
+                    let (x, y) = (front[right], if upward { -front[vertical] } else { front[vertical] });
+                    let far = BEFORE / x.hypot(y).max(f32::MIN_POSITIVE);
+                    let before = |(px, py): (f32, f32)| (px + x * far, py + y * far);
+                    picture.line(before(at(a)), before(at(b)), white, true);
+                }
             }
         }
     }
@@ -176,7 +190,8 @@ pub struct Camera {
     pub wide: f32,
 }
 
-/// What the camera sees of the hall: emissive, and base·irradiance/π from the volume with lamps and sun; through translucent surfaces by what they let pass.
+/// What the camera sees of the hall: emissive, and base·irradiance/π from the volume with lamps and sun; through translucent surfaces by what they let pass, and
+/// through panels wholly where it looks at their backs, which the library says are not there.
 pub fn view(volume: &Volume, hall: &Hall, camera: &Camera, width: usize, height: usize) -> Result<Picture> {
     use rayon::prelude::*;
     let ahead = vec::unit(vec::sub(camera.to, camera.from));
@@ -209,19 +224,17 @@ fn seen(volume: &Volume, hall: &Hall, scratch: &mut crate::baking::Scratch, from
             (0..3).for_each(|c| sum[c] += part * colour[c]);
             break;
         };
-        let p = &hall.points[9 * hit.place..9 * hit.place + 9];
-        let (a, b, c) = (Vec3::new(p[0], p[1], p[2]), Vec3::new(p[3], p[4], p[5]), Vec3::new(p[6], p[7], p[8]));
-        let mut normal = vec::unit(vec::cross(vec::sub(b, a), vec::sub(c, a)));
-        if vec::dot(normal, way) > 0.0 {
-            normal = vec::scale(normal, -1.0);
-        }
+        let [a, b, c] = crate::hall::corners_of(&hall.points, hit.place);
+        let front = vec::unit(vec::cross(vec::sub(b, a), vec::sub(c, a)));
+        // of the side that is seen
+        let normal = if hit.front { front } else { vec::scale(front, -1.0) };
         let point = vec::add(from, vec::scale(way, hit.t));
         let material = hall.uses[hit.place] as usize;
         let numbers = &hall.numbers[7 * material..7 * material + 7];
         let falls = crate::light::falling(volume, Some(hall), scratch, point, normal)?;
         let base = hall.faces.iter().find_map(|face| on_face(face, point)).unwrap_or([numbers[0], numbers[1], numbers[2]]);
         let sends = crate::light::sent(base, falls);
-        let passes = if hall.kinds[material] == 1 { numbers[6] } else { 0.0 };
+        let passes = if hall.kinds[material] == TRANSLUCENT { numbers[6] } else { 0.0 };
         (0..3).for_each(|c| sum[c] += part * (1.0 - passes) * (numbers[3 + c] + sends[c]));
         part *= passes;
         shortest = hit.t + 1e-3;

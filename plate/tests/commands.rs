@@ -677,6 +677,238 @@ fn lists_as_text() {
     says(dir.path(), &["lists", "no.toml"], 3, &["no.toml"]);
 }
 
+/// A floor with a curtain across its middle, at z = 3, that sends out blue and lets some light pass by its d; a red lamp behind it, at z = 1, and a green one before.
+/// The curtain's front is turned to +z.
+fn curtained() -> (tempfile::TempDir, PathBuf) {
+    let dir = tempfile::tempdir().unwrap();
+    let write = |name: &str, text: &str| std::fs::write(dir.path().join(name), text).unwrap();
+    write("hall.mtl", "newmtl floor\nKd 0.6 0.6 0.6\nnewmtl curtain\nKd 0.2 0.2 0.2\nKe 0 0 1\nd 0.4\n");
+    write("hall.obj", "mtllib hall.mtl\nv 0 0 0\nv 0 0 6\nv 6 0 6\nv 6 0 0\nv 0 0 3\nv 6 0 3\nv 6 3 3\nv 0 3 3\nusemtl floor\nf 1 2 3 4\nusemtl curtain\nf 5 6 7 8\n");
+    write("hall.toml", "name = \"curtained\"\nobj = \"hall.obj\"\n[grid]\nvoxels = [6, 3, 12]\nmin = [-0.1, -0.1, -0.1]\nmax = [6.1, 3.1, 6.1]\n\
+        [materials.curtain]\nkind = \"panel\"\n\
+        [[lamps]]\nat = [3.0, 2.0, 1.0]\ncolour = [8.0, 0.0, 0.0]\n[[lamps]]\nat = [3.0, 2.0, 5.0]\ncolour = [0.0, 8.0, 0.0]\n\
+        [[faces]]\nname = \"behind\"\ncorner = [2.5, 1.0, 1.2]\nacross = [1.0, 0.0, 0.0]\nup = [0.0, 1.0, 0.0]\n");
+    let path = dir.path().join("hall.toml");
+    (dir, path)
+}
+
+/// E of each row that `look` says, red, green and blue.
+fn falls(said: &str) -> Vec<[f32; 3]> {
+    let row = |line: &str| line.split(',').skip(8).take(3).map(|x| x.parse().unwrap()).collect::<Vec<f32>>();
+    said.lines().skip(1).map(|line| row(line).try_into().unwrap()).collect()
+}
+
+/// The pixel in a picture's middle.
+fn middle(path: &Path) -> [u8; 3] {
+    let shown = image::open(path).unwrap().to_rgb8();
+    shown.get_pixel(shown.width() / 2, shown.height() / 2).0
+}
+
+#[test]
+fn panels_from_both_sides() {
+    let (dir, path) = curtained();
+    let at = dir.path();
+    // before the curtain and behind it, both turned up and far enough from it that the mean does not reach across
+    std::fs::write(at.join("p.csv"), "x,y,z,nx,ny,nz\n3,0.6,5,0,1,0\n3,0.6,1,0,1,0\n").unwrap();
+    let look = |volume: &str, more: &[&str]| falls(&says(at, &[&["look", volume, "p.csv"], more].concat(), 0, &[]));
+    let baked = |volume: &str| {
+        says(at, &["bake", "hall.toml", "-o", volume, "--threads", "2"], 0, &["curtained"]);
+        says(at, &["verify", volume, "hall.toml"], 0, &["good"]);
+        look(volume, &[])
+    };
+    says(at, &["check", "hall.toml"], 0, &["curtained is good: 4 triangles", "note: 2 of 4 triangles are panels", "counter-clockwise", "curtain 2 to +z"]);
+    let panel = baked("panel.vgrd");
+    // Before it there is next to nothing of the red lamp behind (a lamp's ray starts a little off the floor, as beside a wall), and the curtain's own blue. Behind it
+    // there is the light of both lamps, and nothing of the curtain.
+    let none = |dark: f32, bright: f32| bright > 0.0 && dark < 0.01 * bright;
+    assert!(none(panel[0][0], panel[0][1]) && panel[0][2] > 0.0, "{panel:?}");
+    assert!(panel[1][0] > 0.0 && panel[1][1] > 0.1 * panel[1][0] && panel[1][2] == 0.0, "{panel:?}");
+    // straight from the lamps: from behind the green one is seen as if nothing stood between, from before the red one is not
+    let straight = look("panel.vgrd", &["--direct", "hall.toml"]);
+    let (up, along) = (2.0f32 - 0.6, 4.0f32);
+    let lamp = 8.0 * up / (up * up + along * along).powf(1.5);
+    assert_eq!(straight[0][0], panel[0][0]);
+    assert!((straight[1][1] - panel[1][1] - lamp).abs() < 0.01 * lamp, "{straight:?} {panel:?} {lamp}");
+    // a picture: from before the curtain's blue, from behind the dark beyond it; and a face behind it has the green lamp's light
+    let shown = |volume: &str| {
+        let view = |from: &str, to: &str| says(at, &["view", volume, "hall.toml", "--from", from, "--to", to, "--size", "16", "--exposure", "1", "--png", "v.png"], 0, &["16 × 9"]);
+        view("3,1.5,5.5", "3,1.5,0");
+        let before = middle(&at.join("v.png"));
+        view("3,1.5,0.5", "3,1.5,6");
+        let behind = middle(&at.join("v.png"));
+        says(at, &["face", volume, "hall.toml", "behind", "--direct", "--size", "9", "--exposure", "1", "--png", "f.png"], 0, &["9 × 9"]);
+        (before, behind, middle(&at.join("f.png")))
+    };
+    let (before, behind, face) = shown("panel.vgrd");
+    assert!(before[0] < 10 && before[2] > 200 && behind == [0; 3] && face[1] > 50, "{before:?} {behind:?} {face:?}");
+    // a slice draws its line, and before its front a dashed one
+    says(at, &["slice", "panel.vgrd", "--x", "2", "--of", "sun", "--hall", "hall.toml", "--png", "s.png"], 0, &[]);
+    let slice = image::open(at.join("s.png")).unwrap().to_rgb8();
+    let (line, across) = (slice.width() / 2, slice.height() / 2..slice.height() / 2 + 80);
+    // how many of eighty pixels downwards are drawn in the columns
+    let drawn = |columns: std::ops::RangeInclusive<u32>| across.clone().filter(|y| columns.clone().any(|x| slice.get_pixel(x, *y).0 != slice.get_pixel(5, *y).0)).count();
+    let (whole, dashed, none_behind) = (drawn(line - 1..=line + 1), drawn(line + 3..=line + 5), drawn(line - 6..=line - 3));
+    assert!(whole == 80 && (30..=50).contains(&dashed) && none_behind == 0, "{whole} {dashed} {none_behind}");
+    // the sun: on the side of the front, it falls through onto what stands behind; on the other side, not onto what stands before
+    for (towards, lit) in [("[0.0, 0.4, 1.0]", [true, true]), ("[0.0, 0.4, -1.0]", [false, true])] {
+        std::fs::write(at.join("sunny.toml"), std::fs::read_to_string(&path).unwrap() + &format!("[sun]\ntowards = {towards}\ncolour = [1.0, 2.0, 4.0]\n")).unwrap();
+        let sunny = look("panel.vgrd", &["--direct", "sunny.toml"]);
+        let sun = 4.0 * 0.4 / 1.16f32.sqrt();
+        (0..2).for_each(|k| assert!((sunny[k][2] - straight[k][2] - if lit[k] { sun } else { 0.0 }).abs() < 1e-4, "{towards}: {sunny:?} {straight:?}"));
+    }
+    // what its d says does not matter, nor a transmission
+    let bytes = std::fs::read(at.join("panel.vgrd")).unwrap();
+    edit(&at.join("hall.mtl"), "d 0.4", "d 1");
+    baked("again.vgrd");
+    assert_eq!(std::fs::read(at.join("again.vgrd")).unwrap(), bytes);
+    edit(&path, "kind = \"panel\"", "kind = \"panel\"\ntransmission = 1.0");
+    says(at, &["check", "hall.toml"], 0, &["hall.toml:9: materials.curtain: transmission is never read of a panel"]);
+    baked("again.vgrd");
+    assert_eq!(std::fs::read(at.join("again.vgrd")).unwrap(), bytes);
+    // an opaque curtain: before it the same numbers, behind it its blue and no green
+    edit(&path, "kind = \"panel\"", "kind = \"opaque\"");
+    let said = says(at, &["check", "hall.toml"], 0, &["4 triangles"]);
+    assert!(!said.contains("panels") && !said.contains("never read"), "{said}");
+    let opaque = baked("opaque.vgrd");
+    assert_eq!(opaque[0], panel[0]);
+    assert!(none(opaque[1][1], opaque[1][0]) && opaque[1][2] > 0.0, "{opaque:?}");
+    let (before, behind, face) = shown("opaque.vgrd");
+    assert!(before[2] > 200 && behind[2] > 200 && face[1] < 10, "{before:?} {behind:?} {face:?}");
+    // both masks are the same: they ask for no material
+    let [first, second] = ["panel.vgrd", "opaque.vgrd"].map(|name| Volume::read(&at.join(name)).unwrap());
+    assert_eq!((first.occupied, first.active), (second.occupied, second.active));
+    // the panel turned round, by the order of its corners: both sides have changed places
+    edit(&path, "kind = \"opaque\"", "kind = \"panel\"");
+    edit(&at.join("hall.obj"), "f 5 6 7 8", "f 8 7 6 5");
+    says(at, &["check", "hall.toml"], 0, &["curtain 2 to −z"]);
+    let turned = baked("turned.vgrd");
+    assert_eq!(turned[1], opaque[1]);
+    assert!(turned[0][0] > 0.1 * turned[0][1] && turned[0][1] > 0.0 && turned[0][2] == 0.0, "{turned:?}");
+    let (before, behind, _) = shown("turned.vgrd");
+    assert!(before == [0; 3] && behind[2] > 200, "{before:?} {behind:?}");
+    // and a net has no side
+    edit(&path, "kind = \"panel\"", "kind = \"translucent\"");
+    let net = look("opaque.vgrd", &["--direct", "hall.toml"]);
+    assert!(net[0][0] > 0.0 && net[1][1] > 0.0, "{net:?}");
+}
+
+#[test]
+fn panels_in_words() {
+    let (dir, path) = curtained();
+    let (at, obj) = (dir.path(), dir.path().join("hall.obj"));
+    let drawn = std::fs::read_to_string(&obj).unwrap();
+    // a kind that there is not, with its place
+    for wrong in ["pannel", "Panel", "2", ""] {
+        edit(&path, "kind = \"panel\"", &format!("kind = \"{wrong}\""));
+        let place = format!("hall.toml:8: materials.curtain: kind \"{wrong}\", where \"opaque\", \"translucent\" and \"panel\" are (refusal 6)");
+        says(at, &["check", "hall.toml"], 3, &[&place, "1 faults"]);
+        says(at, &["bake", "hall.toml"], 3, &[&place]);
+        edit(&path, &format!("kind = \"{wrong}\""), "kind = \"panel\"");
+    }
+    edit(&path, "kind = \"panel\"", "kind = 2");
+    says(at, &["check", "hall.toml"], 3, &["hall.toml:", "kind"]);
+    edit(&path, "kind = 2", "kind = \"panel\"\ntransmission = 1.5");
+    says(at, &["check", "hall.toml"], 3, &["hall.toml:9: materials.curtain: transmission 1.5 is outside 0..1 (refusal 6)"]);
+    edit(&path, "transmission = 1.5\n", "");
+    // how many there are, and what they are
+    says(at, &["check", "hall.toml", "--json"], 0, &["\"panels\":2", "\"warnings\":[]"]);
+    says(at, &["lists", "hall.toml"], 0, &["\nmaterial 0 #", "\nmaterial 2 #", "\ntriangle 1 #"]);
+    says(at, &["explain", "6"], 0, &["a kind above 2", "\"panel\" (2)", "not there from behind"]);
+    says(at, &["man"], 0, &[".SH MATERIALS", "translucent", "panel", "counter\\-clockwise"]);
+    says(at, &["new", "begun"], 0, &[]);
+    assert!(std::fs::read_to_string(at.join("begun/hall.toml")).unwrap().contains("kind = \"panel\""));
+    // drawn twice back to back, whichever diagonal the loader cuts along, and as a thin box; farther apart it is meant so
+    let line = drawn.lines().count() + 1;
+    let twice = format!("hall.obj:{line}: face 3: a panel back to back with face 2, within 10 cm: together they stop light from both sides");
+    for second in ["8 7 6 5", "7 6 5 8", "5 8 7", "6 5 7"] {
+        std::fs::write(&obj, format!("{drawn}f {second}\n")).unwrap();
+        says(at, &["check", "hall.toml"], 0, &[&twice]);
+    }
+    let beside = |z: f32| drawn.replacen("usemtl floor", &format!("v 0 0 {z}\nv 6 0 {z}\nv 6 3 {z}\nv 0 3 {z}\nusemtl floor"), 1);
+    for (z, second, warned) in [(2.95, "12 11 10 9", true), (3.05, "12 11 10 9", true), (2.95, "9 10 11 12", false), (2.8, "12 11 10 9", false), (3.2, "12 11 10 9", false)] {
+        std::fs::write(&obj, format!("{}f {second}\n", beside(z))).unwrap();
+        let said = says(at, &["check", "hall.toml"], 0, &["4 of 6 triangles are panels"]);
+        assert_eq!(said.contains("back to back"), warned, "{z} {second}: {said}");
+    }
+    std::fs::write(&obj, format!("{drawn}f 8 7 6 5\nf 8 7 6 5\nf 5 6 7 8\n")).unwrap();
+    says(at, &["check", "hall.toml"], 0, &["face 4: a panel back to back with face 2", "(1 more such faces)"]);
+    // a face with a notch, cut so that a triangle lies the other way round; a smooth outline is not
+    let notched = drawn.replacen("usemtl floor", "v 3 2.8 4\nv 2.6 0.4 4\nv 3 0.7 4\nv 3.4 0.4 4\nusemtl floor", 1) + "f 9 10 11 12\n";
+    std::fs::write(&obj, &notched).unwrap();
+    says(at, &["check", "hall.toml"], 0, &[&format!("hall.obj:{}: face 3: a panel of this outline is cut into triangles with their fronts on both sides", notched.lines().count())]);
+    edit(&path, "kind = \"panel\"", "kind = \"opaque\"");
+    assert!(!says(at, &["check", "hall.toml"], 0, &[]).contains("on both sides"));
+    edit(&path, "kind = \"opaque\"", "kind = \"panel\"");
+    let ring: Vec<(f32, f32)> = (0..24).map(|k| (k as f32 * std::f32::consts::TAU / 24.0).sin_cos()).collect();
+    for corners in [5, 6, 8, 12, 24] {
+        let points: String = ring.iter().step_by(24 / corners).take(corners).map(|(y, x)| format!("v {} {} 4\n", 3.0 + x, 1.5 + y)).collect();
+        let places: Vec<String> = (9..9 + corners).map(|place| place.to_string()).collect();
+        let text = drawn.replacen("usemtl floor", &format!("{points}usemtl floor"), 1) + &format!("f {}\n", places.join(" "));
+        std::fs::write(&obj, text).unwrap();
+        let said = says(at, &["check", "hall.toml"], 0, &[" to +z\n"]);
+        assert!(!said.contains("on both sides") && !said.contains("to −z"), "{corners}: {said}");
+    }
+    std::fs::write(&obj, &drawn).unwrap();
+    // a drawing with z up is turned and not mirrored: the same side is the front
+    let upright = read(&path);
+    let turned: String = drawn.lines().map(|l| match l.strip_prefix("v ").map(|p| p.split(' ').map(|x| x.parse::<f64>().unwrap()).collect::<Vec<_>>()) {
+        Some(p) => format!("v {} {} {}\n", p[0], -p[2], p[1]),
+        None => format!("{l}\n"),
+    }).collect();
+    std::fs::write(&obj, turned).unwrap();
+    edit(&path, "obj = \"hall.obj\"", "obj = \"hall.obj\"\nup = \"z\"");
+    assert_eq!(read(&path).points, upright.points);
+    assert_eq!(read(&path).fronts(), [("curtain", vec![("+z", 2)])]);
+    edit(&path, "\nup = \"z\"", "");
+    std::fs::write(&obj, &drawn).unwrap();
+    // a face and a lamp just behind a panel: seen from the panel's front alone, and warned of
+    let text = std::fs::read_to_string(&path).unwrap();
+    edit(&path, "corner = [2.5, 1.0, 1.2]", "corner = [2.5, 1.0, 2.98]");
+    edit(&path, "at = [3.0, 2.0, 1.0]", "at = [3.0, 2.0, 2.995]");
+    says(at, &["check", "hall.toml"], 0, &["lamp 1: a surface stands within a centimetre", "face behind: a surface stands within 5 cm before its middle"]);
+    std::fs::write(&path, &text).unwrap();
+    // a part file is bound to the kinds: by the files, and by the numbers made of them
+    let hall = read(&path);
+    let sums: std::collections::BTreeSet<String> = [OPAQUE, TRANSLUCENT, PANEL].into_iter().map(|kind| {
+        edit(&path, "kind = \"panel\"", &format!("kind = \"{}\"", ["opaque", "translucent", "panel"][kind as usize]));
+        let read = read(&path);
+        assert_eq!((&read.kinds[..], &read.points, &read.numbers), (&[OPAQUE, kind][..], &hall.points, &hall.numbers));
+        std::fs::write(&path, &text).unwrap();
+        read.numbers_sha256()
+    }).collect();
+    assert_eq!(sums.len(), 3);
+    let baking::Outcome::Stopped { part, .. } = baked(&hall, None, 1, 1, 1) else { panic!("one call bakes all of it") };
+    part.write(&at.join("hall.vgrd.part"), &hall).unwrap();
+    edit(&path, "kind = \"panel\"", "kind = \"opaque\"");
+    says(at, &["bake", "hall.toml"], 3, &["hall.vgrd.part is not gone on with", "hall.toml has changed", "--fresh"]);
+    std::fs::write(&path, &text).unwrap();
+    let (volume, rays) = unbroken(&hall);
+    assert_eq!(rays_said(&says(at, &["bake", "hall.toml", "--resume"], 0, &["going on from hall.vgrd.part"])), rays);
+    assert_eq!(std::fs::read(at.join("hall.vgrd")).unwrap(), volume.bytes().unwrap());
+}
+
+#[test]
+fn panels_by_shares_are_the_unbroken_bakes_bits() {
+    let dir = tempfile::tempdir().unwrap();
+    for (name, text) in [("hall.toml", include_str!("panels/hall.toml")), ("hall.obj", include_str!("panels/hall.obj")), ("hall.mtl", include_str!("panels/hall.mtl"))] {
+        std::fs::write(dir.path().join(name), text).unwrap();
+    }
+    let path = dir.path().join("hall.toml");
+    let hall = read(&path);
+    assert_eq!(hall.fronts().iter().map(|(name, _)| *name).collect::<Vec<_>>(), ["net", "shade", "hood", "screen", "pennant"]);
+    says(dir.path(), &["check", "hall.toml"], 0, &["net 2 to +z; shade 2 to +z, 2 to −z; hood 2 to −y; screen 2 to −x; pennant"]);
+    let (volume, rays) = unbroken(&hall);
+    for shares in ["1", "3"] {
+        let said = says(dir.path(), &["bake", "hall.toml", "--shares", shares, "--threads", "2", "--allowance", "5000", "-o", "hall.vgrd"], 0, &[]);
+        assert_eq!(rays_said(&said), rays);
+        assert!(std::fs::read(dir.path().join("hall.vgrd")).unwrap() == volume.bytes().unwrap(), "{shares} shares");
+    }
+    says(dir.path(), &["verify", "hall.vgrd", "hall.toml"], 0, &["good"]);
+    // turned into walls it is another light
+    edit(&path, "[materials.net]\nkind = \"panel\"", "[materials.net]\nkind = \"opaque\"");
+    says(dir.path(), &["verify", "hall.vgrd", "hall.toml", "--sample", "100000"], 1, &["come out differently"]);
+}
+
 #[test]
 fn skies() {
     let (dir, path) = small();

@@ -49,10 +49,14 @@ fn seeded(name: &str) -> Random {
     Random(seed | 1)
 }
 
-fn laid_out(dir: &Path) {
-    for (name, text) in [("hall.toml", include_str!("../new/hall.toml")), ("hall.obj", include_str!("../new/hall.obj")), ("hall.mtl", include_str!("../new/hall.mtl"))] {
-        std::fs::write(dir.join(name), text).unwrap();
-    }
+type Files = [(&'static str, &'static str); 3];
+
+/// The hall that `plate new` writes, and one with panels.
+const BEGUN: Files = [("hall.toml", include_str!("../new/hall.toml")), ("hall.obj", include_str!("../new/hall.obj")), ("hall.mtl", include_str!("../new/hall.mtl"))];
+const PANELS: Files = [("hall.toml", include_str!("panels/hall.toml")), ("hall.obj", include_str!("panels/hall.obj")), ("hall.mtl", include_str!("panels/hall.mtl"))];
+
+fn laid_out(dir: &Path, files: Files) {
+    files.iter().for_each(|(name, text)| std::fs::write(dir.join(name), text).unwrap());
 }
 
 /// A hall comes back exactly when there is no fault, and then the library takes it.
@@ -64,17 +68,20 @@ fn judged(dir: &Path) -> bool {
     hall.is_some()
 }
 
+/// Half of the files are of the one hall, half of the other.
 fn fuzzed(name: &str) {
-    let dir = tempfile::tempdir().unwrap();
-    laid_out(dir.path());
-    let good = std::fs::read(dir.path().join(name)).unwrap();
     let mut random = seeded(name);
     let (mut read, mut bytes) = (0, 0);
-    for _ in 0..rounds() {
-        let bad = turned(&good, &mut random);
-        bytes += bad.len();
-        std::fs::write(dir.path().join(name), bad).unwrap();
-        read += usize::from(judged(dir.path()));
+    for (files, count) in [(BEGUN, rounds() - rounds() / 2), (PANELS, rounds() / 2)] {
+        let dir = tempfile::tempdir().unwrap();
+        laid_out(dir.path(), files);
+        let good = std::fs::read(dir.path().join(name)).unwrap();
+        for _ in 0..count {
+            let bad = turned(&good, &mut random);
+            bytes += bad.len();
+            std::fs::write(dir.path().join(name), bad).unwrap();
+            read += usize::from(judged(dir.path()));
+        }
     }
     println!("{name}: {} turned files, {bytes} bytes, {read} read", rounds());
 }
@@ -97,7 +104,7 @@ fn hall_files() {
 #[test]
 fn part_files() {
     let dir = tempfile::tempdir().unwrap();
-    laid_out(dir.path());
+    laid_out(dir.path(), BEGUN);
     let hall = hall::read(&dir.path().join("hall.toml"), &mut Found::default()).unwrap();
     let n = hall.axes.count();
     let active = baking::active_of(&hall).unwrap();

@@ -9,6 +9,7 @@ pub struct RayHit {
     pub t: f32,
     pub u: f32,
     pub v: f32,
+    pub front: u32,
 }
 
 #[repr(C)]

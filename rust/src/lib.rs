@@ -7,12 +7,16 @@
 //! N is the voxel count, width·height·depth; voxel (x,y,z) has the index x + width·(y + height·z). T is the triangle count. A mask is a list of (N+63)/64
 //! words, [`Axes::words`]: voxel i is bit i%64 of word i/64, the lowest bit first, and bits past the last voxel are 0. [`is_marked`],
 //! [`marked_voxels`] and [`marked_count`] read one, [`mark`] changes it.
+//!
+//! A triangle's front is the side from which its corners p0, p1, p2 run counter-clockwise: a ray meets it there where it runs against the cross product
+//! (p1−p0)×(p2−p0), exactly where det, (p1−p0)·(direction×(p2−p0)), is above zero. [`Hit::front`] says which side was met, and a [`PANEL`] is met from the
+//! front alone.
 use std::fmt;
 
 mod face;
 
 /// The version of the C face that this crate was written to.
-pub const VERSION_NUMBER: u32 = 4_000;
+pub const VERSION_NUMBER: u32 = 5_000;
 /// The number itself, so that the words of [`Refusal::Axis`] are made of it too.
 macro_rules! axis_limit {
     () => {
@@ -30,6 +34,14 @@ pub const LEAST_ALLOWANCE: u64 = 384;
 pub const LEAST_ALLOWANCE_A_LAMP: u64 = 64;
 /// The least rays that a bake fires for an active voxel; the most is the least allowance.
 pub const LEAST_RAYS: u64 = 64;
+/// The kind of a material that ends every ray, from both sides.
+pub const OPAQUE: u8 = 0;
+/// The kind of a material that lets its transmission of the light pass, from both sides, on the way to the sun, the sky and the lamps; a voxel's ray ends at it.
+pub const TRANSLUCENT: u8 = 1;
+/// The kind of a material that is opaque from the front and absent from the back, for [`nearest`] and [`transmittance`] and so for sun, sky, lamps and bake.
+/// Its transmission is tested like any other and never read. A ray looks against the light: so a panel stops the light that comes from behind it, and what
+/// falls on its front goes on through it. [`masks`] asks for no material: a panel occupies voxels whichever way it is turned.
+pub const PANEL: u8 = 2;
 
 #[repr(C)]
 #[derive(Clone, Copy, Debug, Default, PartialEq)]
@@ -101,6 +113,7 @@ pub struct Ray {
     pub longest: f32,
 }
 
+/// Its front is the side from which p0, p1, p2 run counter-clockwise.
 #[repr(C)]
 #[derive(Clone, Copy, Debug, PartialEq)]
 pub struct Triangle {
@@ -134,7 +147,7 @@ pub struct Scene<'a> {
     pub points: &'a [f32],
     /// T: the material of each triangle.
     pub uses: &'a [u32],
-    /// One a material, 0 opaque or 1 translucent.
+    /// One a material: [`OPAQUE`], [`TRANSLUCENT`] or [`PANEL`].
     pub kinds: &'a [u8],
     /// 7 a material: base RGB, emissive RGB, transmission.
     pub numbers: &'a [f32],
@@ -205,7 +218,7 @@ impl Refusal {
             Refusal::Length => "a lent list of the wrong length",
             Refusal::TooMany => "more than 4,096 triangles or 256 materials",
             Refusal::Point => "a triangle's point not finite or beyond 4,096 in magnitude",
-            Refusal::Material => "a kind other than 0 and 1, a material's colour not finite or beyond 65,536 in magnitude, a transmission outside 0..1, an index past the materials",
+            Refusal::Material => "a kind above 2, a material's colour not finite or beyond 65,536 in magnitude, a transmission outside 0..1, an index past the materials",
             Refusal::Light => "a light direction with a component beyond 4,096 or of squared length 1e-12 or less; a light, ambient or sky number not finite or beyond 65,536",
             Refusal::Ray => "a ray's origin beyond 65,536, direction beyond 2, shortest distance outside 0..65,536, or longest distance NaN",
             Refusal::Progress => "progress with next above the voxel count, or with rays below 64 or above 384 + 64·lamps for each active voxel below next",
@@ -261,6 +274,8 @@ pub struct Hit {
     pub t: f32,
     pub u: f32,
     pub v: f32,
+    /// Whether the triangle's front was met, and not its back.
+    pub front: bool,
 }
 
 /// How many voxels are occupied, and how many active.
@@ -337,6 +352,7 @@ fn hit_of(answer: face::RayHit) -> Result<Option<Hit>, Refusal> {
         t: answer.t,
         u: answer.u,
         v: answer.v,
+        front: answer.front == 1,
     }))
 }
 
@@ -357,12 +373,12 @@ pub fn set_of_voxel(x: usize, y: usize, z: usize) -> usize {
     unsafe { face::geaidnosa_set_of_voxel(x, y, z) }
 }
 
-/// Where a ray meets one triangle, or none for a miss. Refuses 5, 8.
+/// Where a ray meets one triangle, or none for a miss; it has no material here, so both sides are met. Refuses 5, 8.
 pub fn meet(ray: Ray, triangle: Triangle) -> Result<Option<Hit>, Refusal> {
     hit_of(unsafe { face::geaidnosa_meet(ray, triangle) })
 }
 
-/// The nearest hit among all triangles, and among equal distances the one of the highest place. Refuses 3, 4, 5, 6, 8.
+/// The nearest hit among all triangles, and among equal distances the one of the highest place; a panel met from behind is no hit. Refuses 3, 4, 5, 6, 8.
 pub fn nearest(scene: Scene, ray: Ray) -> Result<Option<Hit>, Refusal> {
     let Scene { points, uses, kinds, numbers } = scene;
     hit_of(unsafe {
@@ -372,7 +388,8 @@ pub fn nearest(scene: Scene, ray: Ray) -> Result<Option<Hit>, Refusal> {
     })
 }
 
-/// How much light passes along a ray, from 1 down to 0; writes hit scratch alone. Refuses 3, 4, 5, 6, 8.
+/// How much light passes along a ray, from 1 down to 0: nothing past an opaque triangle or a panel's front, everything past a panel's back. Writes hit scratch
+/// alone. Refuses 3, 4, 5, 6, 8.
 pub fn transmittance(scene: Scene, ray: Ray, hits: HitScratch) -> Result<f32, Refusal> {
     let Scene { points, uses, kinds, numbers } = scene;
     let answer = unsafe {
@@ -385,8 +402,8 @@ pub fn transmittance(scene: Scene, ray: Ray, hits: HitScratch) -> Result<f32, Re
     Ok(answer.transmittance)
 }
 
-/// Fills both masks, [`Axes::words`] each, whatever stood there: occupied where a triangle's sample lies in the voxel, active within two voxels of that on
-/// every axis. Refuses 1, 2, 3 (points in no multiple of nine too), 4, 5.
+/// Fills both masks, [`Axes::words`] each, whatever stood there: occupied where a triangle's sample lies in the voxel, whatever its material and side, active
+/// within two voxels of that on every axis. Refuses 1, 2, 3 (points in no multiple of nine too), 4, 5.
 pub fn masks(axes: Axes, corners: Corners, points: &[f32], occupied: &mut [u64], active: &mut [u64]) -> Result<Marked, Refusal> {
     let answer = unsafe {
         face::geaidnosa_masks(

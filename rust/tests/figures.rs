@@ -11,6 +11,10 @@ fn down(x: f32, y: f32, z: f32) -> Ray {
     Ray { origin: Vec3::new(x, y, z), direction: Vec3::new(0.0, 0.0, -1.0), shortest: 0.0, longest: f32::INFINITY }
 }
 
+fn up(x: f32, y: f32, z: f32) -> Ray {
+    Ray { direction: Vec3::new(0.0, 0.0, 1.0), ..down(x, y, z) }
+}
+
 const Q: Triangle = Triangle { p0: Vec3::new(0.0, 0.0, 0.0), p1: Vec3::new(1.0, 0.0, 0.0), p2: Vec3::new(0.0, 1.0, 0.0) };
 const Q_POINTS: [f32; 9] = [0.0, 0.0, 0.0, 1.0, 0.0, 0.0, 0.0, 1.0, 0.0];
 const SHEET: [f32; 7] = [0.5, 0.5, 0.5, 0.0, 0.0, 0.0, 0.5];
@@ -32,7 +36,7 @@ fn the_archive_is_of_this_version() {
 
 #[test]
 fn rays() {
-    assert_eq!(meet(down(0.25, 0.25, 1.0), Q), Ok(Some(Hit { place: 0, t: 1.0, u: 0.25, v: 0.25 })));
+    assert_eq!(meet(down(0.25, 0.25, 1.0), Q), Ok(Some(Hit { place: 0, t: 1.0, u: 0.25, v: 0.25, front: true })));
     assert!(meet(down(0.5, 0.5, 1.0), Q).unwrap().is_some());
     assert_eq!(meet(down(0.5, 0.75, 1.0), Q), Ok(None));
     assert_eq!(meet(down(f32::NAN, 0.75, 1.0), Q), Err(Refusal::Ray));
@@ -53,6 +57,123 @@ fn rays() {
     assert_eq!(transmittance(scene, down(0.25, 0.25, 1.0), hits), Err(Refusal::Length));
     let many = Scene { points: &vec![0.0; 9 * 4097], uses: &vec![0; 4097], kinds: &[1], numbers: &SHEET };
     assert_eq!(nearest(many, down(0.25, 0.25, 1.0)), Err(Refusal::TooMany));
+}
+
+/// How much passes along a ray, with scratch of its own.
+fn passes(scene: Scene, ray: Ray) -> Result<f32, Refusal> {
+    let (mut distances, mut places) = (vec![0.0; scene.uses.len()], vec![0; scene.uses.len()]);
+    transmittance(scene, ray, HitScratch { distances: &mut distances, places: &mut places })
+}
+
+#[test]
+fn sides() {
+    // the same sheet from both sides: Q's corners run counter-clockwise as seen from above
+    let hit = |front| Hit { place: 0, t: 1.0, u: 0.25, v: 0.25, front };
+    assert_eq!(meet(down(0.25, 0.25, 1.0), Q), Ok(Some(hit(true))));
+    assert_eq!(meet(up(0.25, 0.25, -1.0), Q), Ok(Some(hit(false))));
+    // two corners swapped swap the sides; three moved on in a ring do not
+    let (swapped, moved) = (Triangle { p1: Q.p2, p2: Q.p1, ..Q }, Triangle { p0: Q.p1, p1: Q.p2, p2: Q.p0 });
+    for (triangle, from_above) in [(swapped, false), (moved, true)] {
+        assert_eq!(meet(down(0.25, 0.25, 1.0), triangle).unwrap().map(|h| h.front), Some(from_above));
+        assert_eq!(meet(up(0.25, 0.25, -1.0), triangle).unwrap().map(|h| h.front), Some(!from_above));
+    }
+    // along the sheet there is no hit, and so no side
+    let along = Ray { origin: Vec3::new(-1.0, 0.25, 0.0), direction: Vec3::new(1.0, 0.0, 0.0), shortest: 0.0, longest: f32::INFINITY };
+    assert_eq!(meet(along, Q), Ok(None));
+    // of each kind: what is met from above and from below, and what passes; a panel's transmission is never read
+    for transmission in [0.0, 0.25, 1.0] {
+        let numbers = [0.5, 0.5, 0.5, 0.0, 0.0, 0.0, transmission];
+        for (kind, above, below, passes_down, passes_up) in [
+            (OPAQUE, Some(hit(true)), Some(hit(false)), 0.0, 0.0),
+            (TRANSLUCENT, Some(hit(true)), Some(hit(false)), transmission, transmission),
+            (PANEL, Some(hit(true)), None, 0.0, 1.0),
+        ] {
+            let scene = Scene { points: &Q_POINTS, uses: &[0], kinds: &[kind], numbers: &numbers };
+            assert_eq!((nearest(scene, down(0.25, 0.25, 1.0)), nearest(scene, up(0.25, 0.25, -1.0))), (Ok(above), Ok(below)), "kind {kind}");
+            assert_eq!((passes(scene, down(0.25, 0.25, 1.0)), passes(scene, up(0.25, 0.25, -1.0))), (Ok(passes_down), Ok(passes_up)), "kind {kind}");
+        }
+    }
+    // at one distance a panel, a sheet and a wall, in each order: from above the highest place, from below the highest that is no panel
+    let numbers = SHEET.repeat(3);
+    let points = Q_POINTS.repeat(3);
+    for kinds in [[PANEL, TRANSLUCENT, OPAQUE], [OPAQUE, PANEL, TRANSLUCENT], [TRANSLUCENT, OPAQUE, PANEL], [PANEL, PANEL, TRANSLUCENT], [TRANSLUCENT, PANEL, PANEL]] {
+        let scene = Scene { points: &points, uses: &[0, 1, 2], kinds: &kinds, numbers: &numbers };
+        assert_eq!(nearest(scene, down(0.25, 0.25, 1.0)), Ok(Some(Hit { place: 2, ..hit(true) })), "{kinds:?}");
+        let place = (0..3).rev().find(|place| kinds[*place] != PANEL).unwrap();
+        assert_eq!(nearest(scene, up(0.25, 0.25, -1.0)), Ok(Some(Hit { place, ..hit(false) })), "{kinds:?}");
+        let walls = kinds.contains(&OPAQUE);
+        assert_eq!((passes(scene, down(0.25, 0.25, 1.0)), passes(scene, up(0.25, 0.25, -1.0))), (Ok(0.0), Ok(if walls { 0.0 } else { 0.5 })), "{kinds:?}");
+    }
+    // a panel before a wall: seen from its front it hides the wall, from behind nothing hides it; back to back with a second one it is opaque
+    let lifted: Vec<f32> = Q_POINTS.chunks(3).flat_map(|p| [p[0], p[1], p[2] + 0.5]).collect();
+    let turned: Vec<f32> = [&Q_POINTS[..3], &Q_POINTS[6..], &Q_POINTS[3..6]].concat();
+    let points = [&lifted[..], &Q_POINTS].concat();
+    let scene = Scene { points: &points, uses: &[1, 0], kinds: &[OPAQUE, PANEL], numbers: &numbers[..14] };
+    assert_eq!(nearest(scene, down(0.25, 0.25, 1.0)).unwrap().map(|h| (h.place, h.t)), Some((0, 0.5)));
+    assert_eq!(nearest(scene, up(0.25, 0.25, 0.25)), Ok(None));
+    assert_eq!(nearest(scene, up(0.25, 0.25, -1.0)).unwrap().map(|h| (h.place, h.t)), Some((1, 1.0)));
+    let points = [&turned[..], &Q_POINTS].concat();
+    let scene = Scene { points: &points, uses: &[0, 0], kinds: &[PANEL], numbers: &SHEET };
+    assert_eq!((passes(scene, down(0.25, 0.25, 1.0)), passes(scene, up(0.25, 0.25, -1.0))), (Ok(0.0), Ok(0.0)));
+    assert_eq!(nearest(scene, down(0.25, 0.25, 1.0)).unwrap().map(|h| (h.place, h.front)), Some((1, true)));
+    assert_eq!(nearest(scene, up(0.25, 0.25, -1.0)).unwrap().map(|h| (h.place, h.front)), Some((0, true)));
+    // row 6: every kind above 2, and a panel's transmission like any other
+    for kind in 3..=255 {
+        let scene = Scene { points: &Q_POINTS, uses: &[0], kinds: &[kind], numbers: &SHEET };
+        assert_eq!((nearest(scene, down(0.25, 0.25, 1.0)), passes(scene, down(0.25, 0.25, 1.0))), (Err(Refusal::Material), Err(Refusal::Material)), "kind {kind}");
+    }
+    for transmission in [-0.25, 1.5, f32::NAN] {
+        let scene = Scene { points: &Q_POINTS, uses: &[0], kinds: &[PANEL], numbers: &[0.5, 0.5, 0.5, 0.0, 0.0, 0.0, transmission] };
+        assert_eq!((nearest(scene, up(0.25, 0.25, -1.0)), passes(scene, up(0.25, 0.25, -1.0))), (Err(Refusal::Material), Err(Refusal::Material)));
+    }
+}
+
+/// One voxel over a floor, under a sky, a sun and a lamp, with a large sheet of this kind between, its front up or down; none where no kind is given.
+fn under_a_sheet(kind: Option<u8>, front_up: bool) -> (f32, [f32; 16], u64) {
+    let mut points = vec![-20.0, -20.0, -1.0, 20.0, -20.0, -1.0, 0.0, 20.0, -1.0];
+    let mut corners = [[-60.0, -60.0, 10.0], [60.0, -60.0, 10.0], [0.0, 60.0, 10.0]];
+    if !front_up {
+        corners.swap(1, 2);
+    }
+    points.extend(kind.iter().flat_map(|_| corners.concat()));
+    let (uses, kinds) = (&[0, 1][..points.len() / 9], [OPAQUE, kind.unwrap_or(OPAQUE)]);
+    let numbers = [0.8, 0.7, 0.6, 0.0, 0.0, 0.0, 0.0, 0.3, 0.2, 0.1, 0.5, 0.0, 0.25, 0.5];
+    let scene = Scene { points: &points, uses, kinds: &kinds, numbers: &numbers };
+    let (mut distances, mut places, mut lights, mut volume) = ([0.0; 2], [0; 2], [0.0], [0.0; 16]);
+    let light = Light { direction: Vec3::new(0.0, 0.0, 1.0), colour: Vec3::new(3.0, 2.0, 1.0) };
+    let hits = HitScratch { distances: &mut distances, places: &mut places };
+    assert_eq!(sun(ONE, unit_box(1.0), scene, light.direction, &[1], &mut lights, &mut [0.0], hits), Ok(1));
+    let (ambient, sky) = (Ambient::default(), [0.5; SKY_LENGTH]);
+    let input = BakeInput { axes: ONE, corners: unit_box(1.0), scene, light, ambient, sky: &sky, lamps: &[0.5, 0.5, 12.0, 90.0, 80.0, 70.0], active: &[1], lights: &lights };
+    let hits = HitScratch { distances: &mut distances, places: &mut places };
+    let baked = bake(input, &mut volume, &mut [0.0; 16], hits, Progress::ZERO, u64::MAX).unwrap();
+    (lights[0], volume, baked.rays)
+}
+
+#[test]
+fn panels_in_sun_and_bake() {
+    // from behind a panel is not there: light, numbers and rays are those of the hall without it, bit for bit
+    let bits = |(light, volume, rays): (f32, [f32; 16], u64)| (light.to_bits(), volume.map(f32::to_bits), rays);
+    let open = under_a_sheet(None, true);
+    assert_eq!(open.0, 1.0);
+    assert_eq!(bits(under_a_sheet(Some(PANEL), true)), bits(open));
+    // from the front it is opaque
+    let closed = under_a_sheet(Some(OPAQUE), false);
+    assert_eq!(closed.0, 0.0);
+    assert_eq!(bits(under_a_sheet(Some(PANEL), false)), bits(closed));
+    assert_ne!(bits(open), bits(closed));
+    // a sheet that lets half pass has no side
+    let half = [true, false].map(|front_up| under_a_sheet(Some(TRANSLUCENT), front_up).0);
+    assert_eq!(half, [0.25; 2]);
+    // and a panel occupies voxels whichever way it is turned: the call has no material to ask for
+    let axes = Axes { width: 6, height: 1, depth: 1 };
+    let points: Vec<f32> = Q_POINTS.iter().map(|x| x * 0.5).collect();
+    let swapped = [&points[..3], &points[6..], &points[3..6]].concat();
+    let both = [&points, &swapped].map(|points| {
+        let (mut occupied, mut active) = ([0], [0]);
+        (masks(axes, unit_box(6.0), points, &mut occupied, &mut active).unwrap(), occupied, active)
+    });
+    assert!(both[0].0.occupied > 0 && both[0] == both[1]);
 }
 
 #[test]

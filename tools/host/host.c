@@ -156,12 +156,12 @@ static GeaidnosaTransmitted passes(GeaidnosaRay ray) {
     return geaidnosa_transmittance(points, 9 * T, uses, T, kinds, M, numbers, 7 * M, ray, distances, T, places, T);
 }
 
-static int is_hit(GeaidnosaRayHit h, size_t place, float t, float u, float v) {
-    return h.refusal == 0 && h.hit == 1 && h.place == place && h.t == t && h.u == u && h.v == v;
+static int is_hit(GeaidnosaRayHit h, size_t place, float t, float u, float v, uint32_t front) {
+    return h.refusal == 0 && h.hit == 1 && h.place == place && h.t == t && h.u == u && h.v == v && h.front == front;
 }
 
 static int no_hit(GeaidnosaRayHit h, uint32_t refusal) {
-    return h.refusal == refusal && h.hit == 0 && h.place == 0 && h.t == 0 && h.u == 0 && h.v == 0;
+    return h.refusal == refusal && h.hit == 0 && h.place == 0 && h.t == 0 && h.u == 0 && h.v == 0 && h.front == 0;
 }
 
 static uint32_t sun_refusal(void) { return sun(light.direction, active).refusal; }
@@ -210,8 +210,8 @@ static void check_rays(void) {
     const float two[18] = {0, 0, 0, 1, 0, 0, 0, 1, 0, 0, 0, 0, 1, 0, 0, 0, 1, 0};
     const uint32_t both[2] = {0, 1};
     GeaidnosaRay down = {{0.25f, 0.25f, 1}, {0, 0, -1}, 0, INFINITY};
-    check("meet: triangle Q at distance 1, u and v .25", is_hit(geaidnosa_meet(down, q), 0, 1, 0.25f, 0.25f));
-    check("nearest: of two equal distances the highest place", is_hit(geaidnosa_nearest(two, 18, both, 2, kinds, M, numbers, 7 * M, down), 1, 1, 0.25f, 0.25f));
+    check("meet: triangle Q at distance 1, u and v .25", is_hit(geaidnosa_meet(down, q), 0, 1, 0.25f, 0.25f, 1));
+    check("nearest: of two equal distances the highest place", is_hit(geaidnosa_nearest(two, 18, both, 2, kinds, M, numbers, 7 * M, down), 1, 1, 0.25f, 0.25f, 1));
     down.origin.x = 0.5f;
     down.origin.y = 0.75f;
     check("meet: (.5,.75,1) is a miss, all zeros", no_hit(geaidnosa_meet(down, q), 0));
@@ -229,6 +229,91 @@ static void check_rays(void) {
     check("transmittance: nothing within 1 downwards, 1.0", passes(up).transmittance == 1);
     check("transmittance: hit scratch shorter than the triangles, refuses 3",
           geaidnosa_transmittance(points, 9 * T, uses, T, kinds, M, numbers, 7 * M, up, distances, T - 1, places, T).refusal == 3);
+}
+
+/* Q twice, its corners counter-clockwise as seen from above, then a triangle that a check places; each of its own material */
+static float sheets[27] = {0, 0, 0, 1, 0, 0, 0, 1, 0, 0, 0, 0, 1, 0, 0, 0, 1, 0};
+static const uint32_t sheet_uses[3] = {0, 1, 2};
+static float sheet_numbers[21] = {0.5f, 0.5f, 0.5f, 0, 0, 0, 0.5f, 0.5f, 0.5f, 0.5f, 0, 0, 0, 0.5f, 0.5f, 0.5f, 0.5f, 0, 0, 0, 0.5f};
+
+/* the first `count` of them, of these kinds */
+static GeaidnosaRayHit nearest_sheet(size_t count, const uint8_t *of_kinds, GeaidnosaRay ray) {
+    return geaidnosa_nearest(sheets, 9 * count, sheet_uses, count, of_kinds, 3, sheet_numbers, 21, ray);
+}
+
+static int passes_sheets(size_t count, const uint8_t *of_kinds, GeaidnosaRay ray, float expected) {
+    GeaidnosaTransmitted t = geaidnosa_transmittance(sheets, 9 * count, sheet_uses, count, of_kinds, 3, sheet_numbers, 21, ray, distances, T, places, T);
+    return t.refusal == 0 && t.transmittance == expected;
+}
+
+static void check_sides(void) {
+    const GeaidnosaTriangle q = {{0, 0, 0}, {1, 0, 0}, {0, 1, 0}}, swapped = {{0, 0, 0}, {0, 1, 0}, {1, 0, 0}};
+    const GeaidnosaRay down = {{0.25f, 0.25f, 1}, {0, 0, -1}, 0, INFINITY}, up = {{0.25f, 0.25f, -1}, {0, 0, 1}, 0, INFINITY};
+    const uint8_t panel[3] = {2, 2, 2}, wall_then_panel[3] = {0, 2, 2}, glass_then_panel[3] = {1, 2, 2}, panel_then_glass[3] = {2, 1, 0}, other[3] = {0, 0, 3};
+    check("meet: the front from above and the back from below, at the same distance, u and v",
+          is_hit(geaidnosa_meet(down, q), 0, 1, 0.25f, 0.25f, 1) && is_hit(geaidnosa_meet(up, q), 0, 1, 0.25f, 0.25f, 0));
+    check("meet: two corners swapped, the sides are", geaidnosa_meet(down, swapped).front == 0 && geaidnosa_meet(up, swapped).front == 1);
+    check("nearest: a panel from the front, and from behind a miss, all zeros",
+          is_hit(nearest_sheet(1, panel, down), 0, 1, 0.25f, 0.25f, 1) && no_hit(nearest_sheet(1, panel, up), 0));
+    check("nearest: a wall and a panel at one distance: from the front the highest place, from behind the wall",
+          is_hit(nearest_sheet(2, wall_then_panel, down), 1, 1, 0.25f, 0.25f, 1) && is_hit(nearest_sheet(2, wall_then_panel, up), 0, 1, 0.25f, 0.25f, 0));
+    check("transmittance: a panel, 0 from the front and 1.0 from behind", passes_sheets(1, panel, down, 0) && passes_sheets(1, panel, up, 1));
+    check("transmittance: glass and a panel, 0 from the front and .5 from behind, in either order",
+          passes_sheets(2, glass_then_panel, down, 0) && passes_sheets(2, glass_then_panel, up, 0.5f) && passes_sheets(2, panel_then_glass, down, 0) &&
+              passes_sheets(2, panel_then_glass, up, 0.5f));
+    const float back[9] = {0, 0, 0.5f, 0, 1, 0.5f, 1, 0, 0.5f};
+    memcpy(&sheets[18], back, sizeof back);
+    check("nearest: two panels face to face: from above the lower one, from below the upper one",
+          is_hit(nearest_sheet(3, panel, down), 1, 1, 0.25f, 0.25f, 1) && is_hit(nearest_sheet(3, panel, up), 2, 1.5f, 0.25f, 0.25f, 1));
+    check("transmittance: two panels face to face, 0 from both sides", passes_sheets(3, panel, down, 0) && passes_sheets(3, panel, up, 0));
+    check("nearest and transmittance: a kind 3 in the list, refuses 6, all zeros",
+          no_hit(nearest_sheet(1, other, down), 6) &&
+              geaidnosa_transmittance(sheets, 9, sheet_uses, 1, other, 3, sheet_numbers, 21, down, distances, T, places, T).refusal == 6);
+    int good = 1;
+    const float transmissions[5] = {0, 1, -0.5f, 1.5f, NAN};
+    for (int i = 0; i < 5; i++) {
+        sheet_numbers[6] = transmissions[i];
+        good = good && (i < 2 ? passes_sheets(1, panel, down, 0) && passes_sheets(1, panel, up, 1) : no_hit(nearest_sheet(1, panel, up), 6));
+    }
+    check("a panel's transmission: never read, and outside 0..1 refuses 6", good);
+    sheet_numbers[6] = 0.5f;
+}
+
+/* What one voxel over a floor gets of sun, sky and a lamp: its sun, sixteen numbers and rays. The first `count` of floor and a large sheet between are there. */
+typedef struct Under {
+    float sun, numbers[16];
+    uint64_t rays;
+} Under;
+
+static int under_sheet(Under *u, size_t count, uint8_t kind, int front_up) {
+    const GeaidnosaAxes one = {1, 1, 1};
+    const GeaidnosaCorners box = {{0, 0, 0}, {1, 1, 1}};
+    const GeaidnosaLight above = {{0, 0, 1}, {3, 2, 1}};
+    const float left[3] = {-60, -60, 10}, right[3] = {60, -60, 10}, far[3] = {0, 60, 10}, lamp[6] = {0.5f, 0.5f, 12, 90, 80, 70};
+    const uint8_t two_kinds[2] = {0, kind};
+    const uint64_t mask = 1;
+    float p[18] = {-20, -20, -1, 20, -20, -1, 0, 20, -1}, kept, before[16];
+    memset(u, 0, sizeof *u);
+    memcpy(p + 9, left, sizeof left);
+    memcpy(p + 12, front_up ? right : far, sizeof left);
+    memcpy(p + 15, front_up ? far : right, sizeof left);
+    GeaidnosaSunned s = geaidnosa_sun(one, box, p, 9 * count, sheet_uses, count, two_kinds, 2, sheet_numbers, 14, above.direction, &mask, 1, &u->sun, 1, &kept, 1, distances, T, places, T);
+    GeaidnosaBakeAnswer b = geaidnosa_bake(one, box, p, 9 * count, sheet_uses, count, two_kinds, 2, sheet_numbers, 14, above, ambient, sky, SKY, lamp, 6, &mask, 1, &u->sun, 1, u->numbers, 16,
+                                           before, 16, distances, T, places, T, begin, UINT64_MAX);
+    u->rays = b.rays;
+    return s.refusal == 0 && b.refusal == 0 && is_progress(b.progress, 1, b.rays);
+}
+
+static int same_under(const Under *a, const Under *b) {
+    return !memcmp(&a->sun, &b->sun, sizeof a->sun) && !memcmp(a->numbers, b->numbers, sizeof a->numbers) && a->rays == b->rays;
+}
+
+static void check_panels(void) {
+    Under open, closed, from_behind, from_front, wrong;
+    int good = under_sheet(&open, 1, 0, 1) && under_sheet(&closed, 2, 0, 0) && under_sheet(&from_behind, 2, 2, 1) && under_sheet(&from_front, 2, 2, 0);
+    check("sun and bake: under a panel's back the same bits and rays as without it", good && open.sun == 1 && same_under(&from_behind, &open));
+    check("sun and bake: under a panel's front the same as under a wall", good && closed.sun == 0 && same_under(&from_front, &closed) && memcmp(open.numbers, closed.numbers, sizeof open.numbers));
+    check("sun and bake: a kind 3, refuses 6", !under_sheet(&wrong, 2, 3, 0) && wrong.sun == 0 && wrong.rays == 0);
 }
 
 static void check_masks(void) {
@@ -401,8 +486,10 @@ static uint64_t check_bake(void) {
     check("coefficient_blur: the same volume from the same scratch", geaidnosa_coefficient_blur(axes, v, 16 * N, s, 16 * N) == 0 && !memcmp(v, volume, sizeof v));
     v[5] = INFINITY;
     check("coefficient_blur: an infinity, refuses 13", geaidnosa_coefficient_blur(axes, v, 16 * N, s, 16 * N) == 13);
+    kinds[3] = 3;
+    check("bake: a kind 3, refuses 6", bake(volume, scratch, from(N, rays), 384).refusal == 6);
     kinds[3] = 2;
-    check("bake: a kind 2, refuses 6", bake(volume, scratch, from(N, rays), 384).refusal == 6);
+    check("bake: a kind 2 is taken", bake(volume, scratch, from(N, rays), 384).refusal == 0);
     kinds[3] = 0;
     float x = points[9];
     points[9] = NAN;
@@ -587,6 +674,8 @@ int main(void) {
     check_floats();
     check_directions();
     check_rays();
+    check_sides();
+    check_panels();
     check_counts();
     check_masks();
     uint64_t o = 0, a = 0;
