@@ -31,9 +31,10 @@ counts-exactly kind false = (λ e k. absurd (false≢true (sym (rw (eq-eqb kind 
 -- kinds 0 and 2 stop light, and no other
 pub stops-exactly : (kind : ℕ) → (stopsLight kind ≡ false) ↔ ((kind ≡ opaqueKind → ⊥) × (kind ≡ panelKind → ⊥))
 unfolding stopsLight
-stops-exactly kind =
-    (λ e. (λ k. false≢true (sym e ∙ rw (eq-eqb kind opaqueKind k) refl), λ k. by (eqb kind opaqueKind) (rw (eq-eqb kind panelKind k) at e)),
-    λ f. rw (ne-eqb kind opaqueKind (f .0), ne-eqb kind panelKind (f .1)) refl)
+stops-exactly kind = (
+  λ e. (λ k. false≢true (sym e ∙ rw (eq-eqb kind opaqueKind k) refl), λ k. by (eqb kind opaqueKind) (rw (eq-eqb kind panelKind k) at e)),
+  λ f. rw (ne-eqb kind opaqueKind (f .0), ne-eqb kind panelKind (f .1)) refl,
+)
   where
     by : (b : Bool) → b || true ≡ false → ⊥
     by true e = false≢true (sym e)
@@ -97,9 +98,10 @@ module _ (points : List Float) (uses kinds : List ℕ) (ray : Ray) (i : ℕ) whe
   -- exactly so: met are the test's hits, but for the backs of panels
   pub met-exactly : (t u v : Float) (front : Bool)
       → (metAt points uses kinds ray i ≡ Hit t u v front) ↔ ((meetOf ray (triangleAt points i) ≡ Hit t u v front) × (kindAt uses kinds i ≡ panelKind → front ≡ true))
-  met-exactly t u v front =
-      (λ e. let a = met-answered t u v front e in (a .0, counts-exactly (kindAt uses kinds i) front .0 (a .1)),
-      λ f. counted-met t u v front (f .0) (counts-exactly (kindAt uses kinds i) front .1 (f .1)))
+  met-exactly t u v front = (
+    λ e. let a = met-answered t u v front e in (a .0, counts-exactly (kindAt uses kinds i) front .0 (a .1)),
+    λ f. counted-met t u v front (f .0) (counts-exactly (kindAt uses kinds i) front .1 (f .1)),
+  )
 
 -- what a search passes over is not met
 pub all-missed-at : (points : List Float) (uses kinds : List ℕ) (ray : Ray) (i j : ℕ) → Missed points ray i j → AllMiss (metAt points uses kinds ray) i j
