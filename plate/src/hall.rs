@@ -675,7 +675,7 @@ fn drawing_of(reading: &mut Reading, hall: &HallFile, folder: &Path, inputs: &mu
     Some(lists)
 }
 
-/// How near to each other two panels whose fronts look apart are one sheet, in metres.
+/// How near to each other two panels turned opposite ways are one sheet, in metres.
 const BACK_TO_BACK: f32 = 0.1;
 
 /// Panels that do not do what a panel is for: a face that has its front on both sides, and two that stand back to back and so stop light from both sides.
