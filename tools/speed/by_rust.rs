@@ -1,6 +1,7 @@
 //! The measured calls by the Rust that the port comes from. Its ray tracer stands ready, as the port's lists do.
 use crate::hall::{Hall, Panes, AMBIENT, AXES, CORNERS, KINDS, NUMBERS, PANE_KINDS, PANE_NUMBERS, SCENE_LIGHT, VOXELS};
 use crate::math::Vec3x4;
+use crate::panels::counted;
 use crate::raytracer::{ray_triangle_intersect, Hit, RayTracer};
 use crate::scene::{recorded_directions, Scene};
 use crate::voxelgrid::VoxelGrid;
@@ -87,7 +88,7 @@ pub fn answer(call: &str, turns: Option<usize>, hall: &Hall, lists: &Lists) -> V
             measure(turns, s, |s| s.met.clear(), |s| {
                 for (origin, direction) in &rays[..MET] {
                     for triangle in tracer.triangles() {
-                        s.met.push(ray_triangle_intersect(*origin, *direction, triangle, SHORTEST, f32::INFINITY));
+                        s.met.push(counted(triangle, ray_triangle_intersect(*origin, *direction, triangle, SHORTEST, f32::INFINITY)));
                     }
                 }
             });
@@ -102,7 +103,7 @@ pub fn answer(call: &str, turns: Option<usize>, hall: &Hall, lists: &Lists) -> V
             let whole = |(hit, ray): (&Option<Hit>, &(Vec3A, Vec3A))| {
                 met(hit.map(|h| {
                     let triangle = tracer.triangle(h.triangle_index);
-                    let (t, _, _) = ray_triangle_intersect(ray.0, ray.1, triangle, SHORTEST, f32::INFINITY).expect("the nearest triangle is met");
+                    let (t, _, _, _) = ray_triangle_intersect(ray.0, ray.1, triangle, SHORTEST, f32::INFINITY).expect("the nearest triangle is met");
                     (h.triangle_index, t, h.bary_u, h.bary_v)
                 }))
             };

@@ -10,6 +10,8 @@ mod port;
 
 #[path = "../../oracle/src/lamps.rs"]
 mod lamps;
+#[path = "no_panels.rs"]
+mod panels;
 #[path = "../../oracle/src/scene.rs"]
 mod scene;
 // The oracle's features are off here: nothing is watched.
