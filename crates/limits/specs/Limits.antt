@@ -11,7 +11,7 @@ use lib.Ieee.{Float, isNan}
 use Rattle.names.specs.Bits.{zero32, one32}
 use Rattle.names.specs.Numbers.{axisLimit, triangleLimit, materialLimit, lastKind, lampLimit, voxelCost, pointLimit, edgeLimit, colourLimit, lightDirectionLimit, originLimit, directionLimit, shortestLimit, positionLimit, lightLimit, coefficientLimit, thinLimit}
 use Rattle.names.specs.Refusals.{Row, row}
-use Rattle.names.specs.Scene.{Scene}
+use Rattle.names.specs.Scene.{Scene, otherKind}
 use Rattle.lists.specs.Any.{any}
 use Rattle.vectors.specs.declared.Vec3.{Vec3}
 use Rattle.vectors.specs.declared.Ray.{Ray}
@@ -83,6 +83,10 @@ wrongShare k len n = not (eqb (len / k) n && eqb (len % k) 0)
 abbrev pub tooShort : ℕ → ℕ → Bool
 tooShort len n = ltb len n
 
+-- hit scratch is two lists, and one of them is shorter than t triangles; the engine of solid walls "needs no hit scratch", and nothing is asked of it
+abbrev pub shortHits : Bool → ℕ → ℕ → ℕ → Bool
+shortHits solid distancesLength placesLength t = cond solid false (tooShort distancesLength t || tooShort placesLength t)
+
 -- nine numbers a triangle, seven a material; the uses give the number of triangles, the kinds that of materials
 unfoldable pub wrongScene : List Float → List ℕ → List ℕ → List Float → Bool
 wrongScene points uses kinds numbers = wrongShare 9 (length points) (length uses) || wrongShare 7 (length numbers) (length kinds)
@@ -131,13 +135,17 @@ badUses uses m = some (leb m) uses
 unfoldable pub badMaterials : List ℕ → List ℕ → List Float → Bool
 badMaterials uses kinds numbers = badKinds kinds || badNumbers numbers || badUses uses (length kinds)
 
--- ---- 4, 5 and 6 together: the rows of a scene's lists once their lengths fit, before the rows that follow
+-- of the engine of solid walls also "6 if another kind stands in the list"
+abbrev pub badMaterialsFor : Bool → List ℕ → List ℕ → List Float → Bool
+badMaterialsFor solid uses kinds numbers = cond solid (badMaterials uses kinds numbers || otherKind kinds) (badMaterials uses kinds numbers)
 
-abbrev pub sceneRows : Scene → List Row → List Row
-sceneRows scene rest =
+-- ---- 4, 5 and 6 together: the rows of a scene's lists once their lengths fit, before the rows that follow; `solid` says whether for the engine of solid walls
+
+abbrev pub sceneRows : Bool → Scene → List Row → List Row
+sceneRows solid scene rest =
     row 4 (tooMany (length (scene .uses)) (length (scene .kinds)))
     ∷ row 5 (badPoints (scene .points))
-    ∷ row 6 (badMaterials (scene .uses) (scene .kinds) (scene .numbers))
+    ∷ row 6 (badMaterialsFor solid (scene .uses) (scene .kinds) (scene .numbers))
     ∷ rest
 
 -- ---- 7: bad light, ambient or sky number

@@ -1,6 +1,6 @@
 -- What the rows mean: of each, what holds exactly when it is not given. And what follows once several have passed.
 use mathlib.Core.Path.{_≡_, refl, sym, ap, _∙_}
-use mathlib.Core.Bool.{Bool, true, false, not, _&&_, _||_, false≢true, and-eq-true-iff}
+use mathlib.Core.Bool.{Bool, true, false, not, _&&_, _||_, or-false, false≢true, and-eq-true-iff}
 use mathlib.Core.Logic.{_↔_, _⊎_, ⊎-elim}
 use mathlib.Core.List.{List, [], _∷_}
 use Prim.Native.Nat.{ℕ, zero, suc, _+_, _*_, _/_, _%_, _≤_, _<_}
@@ -15,9 +15,10 @@ use lib.Ieee as Ieee
 use lib.Ieee.Scale.{finite}
 use lib.Ieee.{Float, nan, inf, fin, isNan}
 use Rattle.names.specs.Bits.{one32}
-use Rattle.names.specs.Numbers.{axisLimit, triangleLimit, materialLimit, lastKind, lampLimit, pointLimit, edgeLimit, colourLimit, lightDirectionLimit, originLimit, directionLimit, shortestLimit, positionLimit, lightLimit, coefficientLimit, thinLimit}
+use Rattle.names.specs.Numbers.{axisLimit, triangleLimit, materialLimit, opaqueKind, lastKind, lampLimit, pointLimit, edgeLimit, colourLimit, lightDirectionLimit, originLimit, directionLimit, shortestLimit, positionLimit, lightLimit, coefficientLimit, thinLimit}
 use Rattle.names.specs.Refusals.{Row, row, firstOf}
-use Rattle.names.specs.Scene.{sceneOf, Sound}
+use Rattle.names.specs.Scene.{Scene, sceneOf, Sound, otherKind, HitsFit}
+use Rattle.names.specs.SolidLaws.{none-other, room-most, solid-room}
 use Rattle.vectors.specs.declared.Vec3.{Vec3}
 use Rattle.vectors.specs.declared.Ray.{Ray}
 use Rattle.vectors.specs.Vectors.{dotV}
@@ -27,7 +28,7 @@ use Rattle.grid.specs.Grid.{edgesOf, AxesUnder, AxesWithin}
 use Rattle.lists.specs.Any.{any, any-in, any-out}
 use Rattle.limits.specs.declared.Lamp.{Lamp}
 use Rattle.lists.specs.Some.{some, none-out, none-in}
-use Rattle.limits.specs.Limits.{within, outside, upTo, outsideV, badAxis, badAxesUnder, badAxes, badCorners, badEdges, badGrid, wrongShare, wrongScene, tooMany, badPoints, badKinds, badNumber, badFrom, badNumbers, badUses, badMaterials, badDirection, badSky, badRay, badMask, badLights, badCoefficients, lampCount, lampAt, badLamp, badLampAt, badLamps}
+use Rattle.limits.specs.Limits.{within, outside, upTo, outsideV, badAxis, badAxesUnder, badAxes, badCorners, badEdges, badGrid, wrongShare, tooShort, shortHits, wrongScene, tooMany, badPoints, badKinds, badNumber, badFrom, badNumbers, badUses, badMaterials, badMaterialsFor, badDirection, badSky, badRay, badMask, badLights, badCoefficients, lampCount, lampAt, badLamp, badLampAt, badLamps}
 
 -- ---- tests joined
 
@@ -281,6 +282,44 @@ pub materials-row : (uses kinds : List ℕ) (numbers : List Float)
     ↔ ((badKinds kinds ≡ false) × (badNumbers numbers ≡ false) × (badUses uses (length kinds) ≡ false))
 unfolding badMaterials
 materials-row uses kinds numbers = any-of-three (badKinds kinds) (badNumbers numbers) (badUses uses (length kinds))
+
+-- of the engine of solid walls: each kind is opaque too
+pub solid-row : (uses kinds : List ℕ) (numbers : List Float)
+    → (badMaterialsFor true uses kinds numbers ≡ false)
+    ↔ ((badMaterials uses kinds numbers ≡ false) × ((m : ℕ) → m < length kinds → getD kinds m 0 ≡ opaqueKind))
+solid-row uses kinds numbers =
+    let parts = either (badMaterials uses kinds numbers) (otherKind kinds) in (
+      λ e. let p = parts .0 e in (p .0, none-other kinds .0 (p .1)),
+      λ h. parts .1 (h .0, none-other kinds .1 (h .1)),
+    )
+
+-- what either engine lets pass, document 01's rule lets pass too
+pub materials-for : (solid : Bool) (uses kinds : List ℕ) (numbers : List Float) → badMaterialsFor solid uses kinds numbers ≡ false → badMaterials uses kinds numbers ≡ false
+materials-for true uses kinds numbers e = or-out (badMaterials uses kinds numbers) (otherKind kinds) e .0
+materials-for false uses kinds numbers e = e
+
+-- where no other kind stands in the list both engines have one row
+pub solid-same : (solid : Bool) (uses kinds : List ℕ) (numbers : List Float) → otherKind kinds ≡ false → badMaterialsFor solid uses kinds numbers ≡ badMaterials uses kinds numbers
+solid-same true uses kinds numbers e = rw e (or-false (badMaterials uses kinds numbers))
+solid-same false uses kinds numbers e = refl
+
+-- nor is hit scratch that is long enough refused by either
+pub long-hits : (solid : Bool) (distancesLength placesLength t : ℕ) → t ≤ distancesLength → t ≤ placesLength → shortHits solid distancesLength placesLength t ≡ false
+long-hits true distancesLength placesLength t h k = refl
+long-hits false distancesLength placesLength t h k = or-in _ _ (le-ltb distancesLength t h, le-ltb placesLength t k)
+
+-- 3 and 6 passed: there is room for hits
+pub room : (solid : Bool) (s : Scene) (distancesLength placesLength : ℕ) → shortHits solid distancesLength placesLength (length (s .uses)) ≡ false
+    → badMaterialsFor solid (s .uses) (s .kinds) (s .numbers) ≡ false
+    → HitsFit s distancesLength placesLength
+room true s distancesLength placesLength e f =
+    let z = solid-room s (or-out (badMaterials (s .uses) (s .kinds) (s .numbers)) (otherKind (s .kinds)) f .1) in
+    (omega (arith, z), omega (arith, z))
+room false s distancesLength placesLength e f =
+    let t = length (s .uses) in
+    let p = or-out (tooShort distancesLength t) (tooShort placesLength t) e in
+    let m = room-most s in
+    (omega (arith, m, ltb-false distancesLength t (p .0)), omega (arith, m, ltb-false placesLength t (p .1)))
 
 -- ---- 3, 4 and 6 passed: the lists of a scene fit
 

@@ -1,12 +1,12 @@
 // One test for each row: true where the row's number is given. Each test stands alone, so that a call's chain can take them in any order.
 ghost use mathlib.Core.Path.{_≡_};
 ghost use Prim.Native.Nat.{_<_, _≤_};
-ghost use mathlib.Core.Bool.{not};
+ghost use mathlib.Core.Bool.{cond, not};
 ghost use lib.ListN.{length};
 ghost use Rattle.grid.specs.Grid.{AxesWithin};
-ghost use Rattle.names.specs.Numbers.{lightLimit};
+ghost use Rattle.names.specs.Numbers.{opaqueKind, lastKind, lightLimit};
 ghost use Rattle.lists.specs.Some.{some};
-ghost use Rattle.limits.specs.Limits.{within, outside, upTo, outsideV, badAxes, badCorners, badEdges, badGrid, wrongShare, wrongScene, tooMany, badPoints, badTriangle, badKinds, badNumber, badNumbers, badUses, badMaterials, badDirection, badColour, badLight, badAmbient, badSky, badRay, badPosition, badMask, badLights, badCoefficients, lampCount, lampAt, badLamp, badLamps};
+ghost use Rattle.limits.specs.Limits.{within, outside, upTo, outsideV, badAxes, badCorners, badEdges, badGrid, wrongShare, shortHits, wrongScene, tooMany, badPoints, badTriangle, badKinds, badNumber, badNumbers, badUses, badMaterials, badMaterialsFor, badDirection, badColour, badLight, badAmbient, badSky, badRay, badPosition, badMask, badLights, badCoefficients, lampCount, lampAt, badLamp, badLamps};
 ghost use lib.Dec.{ltb, leb};
 use super::Ambient;
 use super::Lamp;
@@ -23,6 +23,7 @@ use names::LAST_KIND;
 use names::LIGHT_DIRECTION_LIMIT;
 use names::LIGHT_LIMIT;
 use names::MATERIAL_LIMIT;
+use names::OPAQUE_KIND;
 use names::ORIGIN_LIMIT;
 use names::POINT_LIMIT;
 use names::POSITION_LIMIT;
@@ -97,6 +98,16 @@ pub fn wrong_scene(points: &[f32], uses: &[u32], kinds: &[u8], numbers: &[f32]) 
     wrong_share(9, points.len(), uses.len()) | wrong_share(7, numbers.len(), kinds.len())
 }
 
+// Whether a list of hits is too short for t triangles; for solid walls none is asked for.
+pub fn short_hits(solid: bool, distances: usize, places: usize, t: usize) -> bool
+    ensures { λ r. ⌜ r ≡ shortHits solid distances places t ⌝ }
+{
+    if solid {
+        return false;
+    }
+    (distances < t) | (places < t)
+}
+
 // ---- 4
 
 pub fn too_many(triangles: usize, materials: usize) -> bool
@@ -123,10 +134,17 @@ pub fn bad_triangle(t: Triangle) -> bool
 
 // ---- 6
 
-pub fn bad_materials(uses: &[u32], kinds: &[u8], numbers: &[f32]) -> bool
-    ensures { λ r. ⌜ r ≡ badMaterials (now (uses .entry)) (now (kinds .entry)) (now (numbers .entry)) ⌝ }
+// For the engine of solid walls, or for the other: they differ in the last kind that may stand in the list.
+pub fn bad_materials_for(solid: bool, uses: &[u32], kinds: &[u8], numbers: &[f32]) -> bool
+    ensures { λ r. ⌜ r ≡ badMaterialsFor solid (now (uses .entry)) (now (kinds .entry)) (now (numbers .entry)) ⌝ }
 {
-    any_above(kinds, LAST_KIND) | bad_numbers(numbers) | any_from(uses, kinds.len())
+    any_above(kinds, last_kind(solid)) | bad_numbers(numbers) | any_from(uses, kinds.len())
+}
+
+fn last_kind(solid: bool) -> u8
+    ensures { λ r. ⌜ r ≡ cond solid opaqueKind lastKind ⌝ }
+{
+    if solid { OPAQUE_KIND } else { LAST_KIND }
 }
 
 fn bad_number(place: usize, x: f32) -> bool

@@ -4,3 +4,4 @@ pub mod Numbers
 pub mod Refusals
 pub mod Passed
 pub mod Scene
+pub mod SolidLaws

@@ -1,10 +1,12 @@
 -- A scene as the lent lists hold it. Assumes nothing.
 use mathlib.Core.Path.{_≡_}
-use mathlib.Core.List.{List}
+use mathlib.Core.Bool.{Bool, false, cond, not, _||_}
+use mathlib.Core.List.{List, [], _∷_}
 use Prim.Native.Nat.{ℕ, _*_, _<_, _≤_}
+use lib.Dec.{eqb}
 use lib.ListN.{length, getD}
 use lib.Ieee.{Float}
-use Rattle.names.specs.Numbers.{triangleLimit, materialLimit}
+use Rattle.names.specs.Numbers.{opaqueKind, triangleLimit, materialLimit}
 
 -- T triangles and M materials
 pub record Scene : Type 0 where
@@ -27,3 +29,18 @@ pub record Sound (s : Scene) : Type 0 where
   pub triangles : length (s .uses) ≤ triangleLimit
   pub materials : length (s .kinds) ≤ materialLimit
   pub within : (i : ℕ) → i < length (s .uses) → getD (s .uses) i 0 < length (s .kinds)
+
+-- ---- solid walls
+
+-- "another kind stands in the list": one that is not opaque, of a material that is used or not
+unfoldable pub otherKind : List ℕ → Bool
+otherKind [] = false
+otherKind (k ∷ kinds) = not (eqb k opaqueKind) || otherKind kinds
+
+-- for how many hits of a ray there has to be room: none where every material is opaque, since the ray then ends at its first hit
+unfoldable pub hitRoom : Scene → ℕ
+hitRoom s = cond (otherKind (s .kinds)) (length (s .uses)) 0
+
+-- two lists of hits of these lengths have it
+abbrev pub HitsFit : Scene → ℕ → ℕ → Type 0
+HitsFit s distancesLength placesLength = (hitRoom s ≤ distancesLength) × (hitRoom s ≤ placesLength)

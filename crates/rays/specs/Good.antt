@@ -1,16 +1,17 @@
 -- Good calls are accepted: the ray down on triangle Q, alone and as a scene of one opaque triangle.
 use mathlib.Core.Path.{_≡_, refl}
-use mathlib.Core.List.{[], _∷_}
+use mathlib.Core.List.{[], _∷_, map}
+use Prim.Native.Nat.{ℕ}
 use lib.Ieee.{Float, ofBits, ofFields, odd, neg, le, lt, eq, isNan}
 use Rattle.names.specs.Bits.{lit, zero32, quarter32, one32, inf32}
 use Rattle.names.specs.Refusals.{firstOf}
-use Rattle.names.specs.Scene.{Scene, sceneOf}
+use Rattle.names.specs.Scene.{Scene, sceneOf, otherKind}
 use Rattle.vectors.specs.Vectors.{vec}
 use Rattle.vectors.specs.declared.Ray.{Ray}
 use Rattle.vectors.specs.declared.Triangle.{Triangle}
 use Rattle.limits.specs.Limits.{within, upTo, outsideV, wrongShare, wrongScene, tooMany, badPoints, badTriangle, badKinds, badFrom, badUses, badMaterials, badRay}
 use Rattle.lists.specs.Some.{some}
-use Rattle.rays.specs.Rays.{meetRefusal, nearestRefusal, wrongScratch, transmittanceRefusal}
+use Rattle.rays.specs.Rays.{meetRefusal, nearestRefusal, wrongScratch, transmittanceRefusal, solidTransmittanceRefusal}
 
 -- from (.25, .25, 1) down, from 0 to infinity
 unfoldable pub down : Ray
@@ -41,3 +42,20 @@ nearest-accepted = refl
 pub transmittance-accepted : transmittanceRefusal hall down (zero32 ∷ []) (0 ∷ []) ≡ 0
 unfolding transmittanceRefusal wrongScratch hall down firstOf wrongScene wrongShare tooMany badPoints badMaterials badKinds badFrom badUses some badRay outsideV within upTo ofBits ofFields odd neg le lt eq isNan
 transmittance-accepted = refl
+
+-- the engine of solid walls takes it too, without hit scratch. Beside a material of another kind, which no triangle uses, it refuses it with 6: before a bad
+-- ray's 8, after a bad point's 5
+unfoldable pub besideKind : ℕ → Float → Scene
+besideKind kind x =
+    sceneOf (x ∷ zero32 ∷ zero32 ∷ one32 ∷ zero32 ∷ zero32 ∷ zero32 ∷ one32 ∷ zero32 ∷ []) (0 ∷ []) (0 ∷ kind ∷ [])
+    (one32 ∷ one32 ∷ one32 ∷ zero32 ∷ zero32 ∷ zero32 ∷ zero32 ∷ one32 ∷ one32 ∷ one32 ∷ zero32 ∷ zero32 ∷ zero32 ∷ one32 ∷ [])
+
+unfoldable pub unbounded : Ray
+unbounded = record { origin = down .origin; direction = down .direction; shortest = zero32; longest = lit 0x7fc00000 }
+
+pub solid-transmittance-accepted : (solidTransmittanceRefusal hall down ≡ 0) × (transmittanceRefusal hall down [] [] ≡ 3)
+    × (map (λ (kind : ℕ). solidTransmittanceRefusal (besideKind kind zero32) down) (0 ∷ 1 ∷ 2 ∷ 3 ∷ []) ≡ 0 ∷ 6 ∷ 6 ∷ 6 ∷ [])
+    × (solidTransmittanceRefusal (besideKind 1 zero32) unbounded ≡ 6)
+    × (solidTransmittanceRefusal (besideKind 1 inf32) down ≡ 5)
+unfolding solidTransmittanceRefusal transmittanceRefusal wrongScratch besideKind hall down unbounded firstOf wrongScene wrongShare tooMany badPoints badMaterials badKinds badFrom badUses some otherKind badRay outsideV within upTo ofBits ofFields odd neg le lt eq isNan
+solid-transmittance-accepted = (refl, refl, refl, refl, refl)

@@ -1,7 +1,7 @@
 -- The public calls over rays. Each tests rows in order, the first that holds is the refusal, and a refusal answers its number with every other number
 -- zero. "Where an answer is an enum, a definition gives this paper's number and values for each of the enum's cases": `valuesOfMet` and `valuesOfFound`.
 use mathlib.Core.Path.{_≡_}
-use mathlib.Core.Bool.{Bool, cond, _||_}
+use mathlib.Core.Bool.{Bool, true, false, cond, _||_}
 use mathlib.Core.List.{List, [], _∷_}
 use Prim.Native.Nat.{ℕ}
 use lib.ListN.{length}
@@ -11,7 +11,7 @@ use Rattle.names.specs.Refusals.{Row, row, firstOf, unlessRefused}
 use Rattle.names.specs.Scene.{Scene}
 use Rattle.vectors.specs.declared.Ray.{Ray}
 use Rattle.vectors.specs.declared.Triangle.{Triangle}
-use Rattle.limits.specs.Limits.{wrongScene, tooShort, badTriangle, sceneRows, badRay}
+use Rattle.limits.specs.Limits.{wrongScene, shortHits, badTriangle, sceneRows, badRay}
 use Rattle.triangle.specs.Meet.{meetOf}
 use Rattle.triangle.specs.declared.Meet.{Meet}
 use Rattle.scan.specs.Nearest.{nearestOf}
@@ -87,14 +87,14 @@ pub record MeetAnswered (ray : Ray) (triangle : Triangle) (r : Met) : Type 0 whe
 abbrev pub wrongSceneLists : Scene → Bool
 wrongSceneLists scene = wrongScene (scene .points) (scene .uses) (scene .kinds) (scene .numbers)
 
--- where `wrong` says whether a length is
-abbrev pub scanRows : Bool → Scene → Ray → List Row
-scanRows wrong scene ray = row 3 wrong ∷ sceneRows scene (row 8 (badRay ray) ∷ [])
+-- where `wrong` says whether a length is, and `solid` whether for the engine of solid walls
+abbrev pub scanRows : Bool → Bool → Scene → Ray → List Row
+scanRows solid wrong scene ray = row 3 wrong ∷ sceneRows solid scene (row 8 (badRay ray) ∷ [])
 
 -- ---- the nearest hit
 
 unfoldable pub nearestRefusal : Scene → Ray → ℕ
-nearestRefusal scene ray = firstOf (scanRows (wrongSceneLists scene) scene ray)
+nearestRefusal scene ray = firstOf (scanRows false (wrongSceneLists scene) scene ray)
 
 unfoldable pub foundCase : Nearest → Found
 foundCase Nearest.Nothing = Found.Nothing
@@ -121,11 +121,11 @@ pub record NearestAnswered (scene : Scene) (ray : Ray) (r : Found) : Type 0 wher
 -- a list of the scene has the wrong length, or hit scratch is shorter than the triangle count
 unfoldable pub wrongScratch : Scene → ℕ → ℕ → Bool
 wrongScratch scene distances places =
-    wrongSceneLists scene || tooShort distances (length (scene .uses)) || tooShort places (length (scene .uses))
+    wrongSceneLists scene || shortHits false distances places (length (scene .uses))
 
 unfoldable pub transmittanceRefusal : Scene → Ray → List Float → List ℕ → ℕ
 transmittanceRefusal scene ray distances places =
-    firstOf (scanRows (wrongScratch scene (length distances) (length places)) scene ray)
+    firstOf (scanRows false (wrongScratch scene (length distances) (length places)) scene ray)
 
 -- hit scratch keeps its length always, and what it held on a refusal; what it holds otherwise is open
 pub record TransmittanceAnswered (scene : Scene) (ray : Ray) (distances : List Float) (places : List ℕ) (r : Transmitted) (distances' : List Float)
@@ -136,3 +136,13 @@ pub record TransmittanceAnswered (scene : Scene) (ray : Ray) (distances : List F
   pub places-kept : (r .refusal ≡ 0 → ⊥) → places' ≡ places
   pub distances-long : length distances' ≡ length distances
   pub places-long : length places' ≡ length places
+
+-- ---- the same between solid walls: "a second engine that stops a transmittance ray at its first hit and needs no hit scratch"
+
+unfoldable pub solidTransmittanceRefusal : Scene → Ray → ℕ
+solidTransmittanceRefusal scene ray = firstOf (scanRows true (wrongSceneLists scene) scene ray)
+
+-- "On scenes with every material of kind 0 it equals the sorted product"
+pub record SolidTransmittanceAnswered (scene : Scene) (ray : Ray) (r : Transmitted) : Type 0 where
+  pub answer : r .refusal ≡ solidTransmittanceRefusal scene ray
+  pub transmittance : r .transmittance ≡ unlessRefused (r .refusal) (transmittanceOf scene ray) zero32

@@ -1,10 +1,10 @@
-// The public calls over rays: the test of one triangle, the nearest hit, and how much light passes. Each tests its input first; a refusal answers
+// The public calls over rays: the test of one triangle, the nearest hit, and how much light passes, with hit scratch or between solid walls. Each tests its input first; a refusal answers
 // its number and writes nothing.
 ghost use mathlib.Core.Path.{_≡_};
 ghost use lib.ListN.{length};
 ghost use Rattle.names.specs.Refusals.{firstOf};
 ghost use Rattle.names.specs.Scene.{sceneOf};
-ghost use Rattle.rays.specs.Rays.{meetRefusal, scanRows, metCase, foundCase, MeetAnswered, NearestAnswered, TransmittanceAnswered};
+ghost use Rattle.rays.specs.Rays.{meetRefusal, scanRows, metCase, foundCase, MeetAnswered, NearestAnswered, TransmittanceAnswered, SolidTransmittanceAnswered};
 use scan::Nearest;
 use triangle::Meet;
 use vectors::Ray;
@@ -47,7 +47,7 @@ pub fn nearest(points: &[f32], uses: &[u32], kinds: &[u8], numbers: &[f32], ray:
     ensures { λ r. ⌜ NearestAnswered (sceneOf (now (points .entry)) (now (uses .entry)) (now (kinds .entry)) (now (numbers .entry))) ray r ⌝ }
 {
     let wrong = limits::inner::wrong_scene(points, uses, kinds, numbers);
-    let refusal = scene_refusal(wrong, points, uses, kinds, numbers, ray);
+    let refusal = scene_refusal(false, wrong, points, uses, kinds, numbers, ray);
     if refusal == 0 {
         return as_found(scan::inner::nearest(points, uses, kinds, numbers, ray));
     }
@@ -69,8 +69,8 @@ pub fn transmittance(
 {
     let n = uses.len();
     let scene = limits::inner::wrong_scene(points, uses, kinds, numbers);
-    let wrong = scene | (distances.len() < n) | (places.len() < n);
-    let refusal = scene_refusal(wrong, points, uses, kinds, numbers, ray);
+    let wrong = scene | limits::inner::short_hits(false, distances.len(), places.len(), n);
+    let refusal = scene_refusal(false, wrong, points, uses, kinds, numbers, ray);
     if refusal == 0 {
         let passed = scan::inner::transmittance(
             points,
@@ -80,6 +80,42 @@ pub fn transmittance(
             ray,
             distances,
             places,
+        );
+        return Transmitted {
+            refusal: 0,
+            transmittance: passed,
+        };
+    }
+    Transmitted {
+        refusal,
+        transmittance: 0.0,
+    }
+}
+
+// How much light passes along the ray where every material is opaque: all or nothing. The ray ends at its first hit, and no hit scratch is lent. Refusals 3,
+// 4, 5, 6, also for a kind other than opaque, used or not, and 8.
+pub fn solid_transmittance(
+    points: &[f32],
+    uses: &[u32],
+    kinds: &[u8],
+    numbers: &[f32],
+    ray: Ray,
+) -> Transmitted
+    ensures { λ r. ⌜ SolidTransmittanceAnswered (sceneOf (now (points .entry)) (now (uses .entry)) (now (kinds .entry)) (now (numbers .entry))) ray r ⌝ }
+{
+    let wrong = limits::inner::wrong_scene(points, uses, kinds, numbers);
+    let refusal = scene_refusal(true, wrong, points, uses, kinds, numbers, ray);
+    if refusal == 0 {
+        let mut distances = [0.0f32; 0];
+        let mut places = [0usize; 0];
+        let passed = scan::inner::transmittance(
+            points,
+            uses,
+            kinds,
+            numbers,
+            ray,
+            &mut distances,
+            &mut places,
         );
         return Transmitted {
             refusal: 0,
@@ -105,8 +141,9 @@ fn meet_refusal(ray: Ray, triangle: Triangle) -> u32
     0
 }
 
-// 3, 4, 5, 6, 8, where `wrong` says that a length is.
+// 3, 4, 5, 6, 8, where `wrong` says that a length is; with `solid` 6 also for another kind.
 fn scene_refusal(
+    solid: bool,
     wrong: bool,
     points: &[f32],
     uses: &[u32],
@@ -114,7 +151,7 @@ fn scene_refusal(
     numbers: &[f32],
     ray: Ray,
 ) -> u32
-    ensures { λ r. ⌜ r ≡ firstOf (scanRows wrong (sceneOf (now (points .entry)) (now (uses .entry)) (now (kinds .entry)) (now (numbers .entry))) ray) ⌝ }
+    ensures { λ r. ⌜ r ≡ firstOf (scanRows solid wrong (sceneOf (now (points .entry)) (now (uses .entry)) (now (kinds .entry)) (now (numbers .entry))) ray) ⌝ }
 {
     if wrong {
         return 3;
@@ -125,7 +162,7 @@ fn scene_refusal(
     if limits::inner::bad_points(points) {
         return 5;
     }
-    if limits::inner::bad_materials(uses, kinds, numbers) {
+    if limits::inner::bad_materials_for(solid, uses, kinds, numbers) {
         return 6;
     }
     if limits::inner::bad_ray(ray) {

@@ -1,16 +1,17 @@
 -- A hit that stops light, of an opaque triangle or of a panel's front, lets none through, at whatever place of the order it stands. So the scan for a transmittance may end at the first that it meets, and
 -- where it meets none the product need not ask.
-use mathlib.Core.Path.{_≡_, refl, ap}
-use mathlib.Core.Bool.{Bool, true, false, cond}
+use mathlib.Core.Path.{_≡_, refl, sym, ap, _∙_}
+use mathlib.Core.Bool.{Bool, true, false, cond, false≢true}
 use mathlib.Core.Logic.{⊎-elim}
 use mathlib.Core.List.{List, [], _∷_, List·Memᴰ, List·Memᴰ·head, List·Memᴰ·tail, List·Memᴰ·cases-cons, List·Memᴰ·not-nil}
 use Prim.Native.Nat.{ℕ, _<_}
-use lib.ListN.{length}
+use lib.ListN.{length, getD}
 use lib.Ieee as Ieee
 use lib.Ieee.{Float, binary32}
 use Rattle.names.specs.Bits.{zero32, one32}
-use Rattle.names.specs.Numbers.{faintLimit}
-use Rattle.names.specs.Scene.{Scene}
+use Rattle.names.specs.Numbers.{opaqueKind, faintLimit}
+use Rattle.names.specs.Scene.{Scene, Sound, hitRoom}
+use Rattle.names.specs.SolidLaws.{other-room}
 use Rattle.vectors.specs.declared.Ray.{Ray}
 use Rattle.triangle.specs.declared.Meet.the-variants.{Hit}
 use Rattle.panels.specs.Panels.{kindAt, stopsLight, meetAt}
@@ -65,3 +66,13 @@ clear-pass uses kinds numbers w (h ∷ hs) n =
 pub none-opaque-put : (uses kinds : List ℕ) (h : Struck) (hs : List Struck) → stopsLight (kindAt uses kinds (h .place)) ≡ false → NoneOpaque uses kinds hs
     → NoneOpaque uses kinds (insertOf h hs)
 none-opaque-put uses kinds h hs e n g m = ⊎-elim (λ (f : g ≡ h). rw f e) (λ k. n g k) (put-only h hs m)
+
+-- ---- room for hits
+
+-- a triangle that does not stop light is of another kind than opaque, and then there has to be room for the hits of all triangles
+pub clear-room : (scene : Scene) (i : ℕ) → Sound scene → i < length (scene .uses) → stopsLight (kindAt (scene .uses) (scene .kinds) i) ≡ false
+    → hitRoom scene ≡ length (scene .uses)
+unfolding stopsLight
+clear-room scene i s h e =
+    other-room scene (getD (scene .uses) i 0) (s .within i h)
+    (λ (k : kindAt (scene .uses) (scene .kinds) i ≡ opaqueKind). false≢true (sym e ∙ ap stopsLight k))

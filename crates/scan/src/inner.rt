@@ -3,7 +3,7 @@ ghost use mathlib.Core.Path.{_≡_};
 ghost use Prim.Native.Nat.{ℕ, _+_, _*_, _≤_, _<_};
 ghost use lib.ListN.{length, getD};
 ghost use Rattle.names.specs.Bits.{one32};
-ghost use Rattle.names.specs.Scene.{Sound, sceneOf};
+ghost use Rattle.names.specs.Scene.{Sound, sceneOf, HitsFit};
 ghost use Rattle.triangle.specs.Missed.{Missed};
 ghost use Rattle.triangle.specs.declared.Meet.the-variants.{Hit};
 ghost use Rattle.scan.specs.Nearest.{beats, nearerOf, nearestOf};
@@ -73,7 +73,7 @@ fn better(t: f32, i: usize, s: f32, j: usize) -> bool
 // ---- how much light passes
 
 // How much light passes along the ray: the hits by distance, then by place, and the product of their transmissions. The two scratch lists hold
-// the hits on the way: in the list's order first, then in their own. A hit that stops light leaves nothing at whatever place of the order (`opaque-dark`),
+// the hits on the way: in the list's order first, then in their own; where every material is opaque they hold none, and may be empty. A hit that stops light leaves nothing at whatever place of the order (`opaque-dark`),
 // so the scan ends at the first it meets; the Rust collects all hits and sorts them.
 pub fn transmittance(
     points: &[f32],
@@ -85,7 +85,7 @@ pub fn transmittance(
     places: &mut [usize],
 ) -> f32
     requires { ⌜ Sound (sceneOf (now points) (now uses) (now kinds) (now numbers)) ⌝ }
-    requires { ⌜ (length (now uses) ≤ length (now distances)) × (length (now uses) ≤ length (now places)) ⌝ }
+    requires { ⌜ HitsFit (sceneOf (now points) (now uses) (now kinds) (now numbers)) (length (now distances)) (length (now places)) ⌝ }
     ensures { λ r. ⌜ r ≡ transmittanceOf (sceneOf (now (points .entry)) (now (uses .entry)) (now (kinds .entry)) (now (numbers .entry))) ray ⌝ }
 {
     let n = uses.len();

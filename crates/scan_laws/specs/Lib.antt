@@ -5,3 +5,4 @@ pub mod TransmittanceLaws
 pub mod Narrowed
 pub mod BaseScans
 pub mod PanelScans
+pub mod SolidScans

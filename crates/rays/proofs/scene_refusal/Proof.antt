@@ -23,12 +23,12 @@ returns-3 c =
     rw (← c .before .before .before .too-many .ensures, ← c .before .bad-points .ensures)
     (search refusals depth 12)
 
-bad-materials-requires : tie.Need-bad-materials-requires
-bad-materials-requires c κs = search needs
+bad-materials-for-requires : tie.Need-bad-materials-for-requires
+bad-materials-for-requires c κs = search needs
 
 returns-4 : tie.Need-returns-4
 returns-4 c =
-    rw (← c .before .before .before .before .before .too-many .ensures, ← c .before .before .before .bad-points .ensures, ← c .before .bad-materials .ensures)
+    rw (← c .before .before .before .before .before .too-many .ensures, ← c .before .before .before .bad-points .ensures, ← c .before .bad-materials-for .ensures)
     (search refusals depth 12)
 
 bad-ray-requires : tie.Need-bad-ray-requires
@@ -36,12 +36,12 @@ bad-ray-requires c κs = search needs
 
 returns-5 : tie.Need-returns-5
 returns-5 c =
-    rw (← c .before .before .before .before .before .before .before .too-many .ensures, ← c .before .before .before .before .before .bad-points .ensures, ← c .before .before .before .bad-materials .ensures, ← c .before .bad-ray .ensures)
+    rw (← c .before .before .before .before .before .before .before .too-many .ensures, ← c .before .before .before .before .before .bad-points .ensures, ← c .before .before .before .bad-materials-for .ensures, ← c .before .bad-ray .ensures)
     (search refusals depth 12)
 
 returns-6 : tie.Need-returns-6
 returns-6 c =
-    rw (← c .before .before .before .before .before .before .before .too-many .ensures, ← c .before .before .before .before .before .bad-points .ensures, ← c .before .before .before .bad-materials .ensures, ← c .before .bad-ray .ensures)
+    rw (← c .before .before .before .before .before .before .before .too-many .ensures, ← c .before .before .before .before .before .bad-points .ensures, ← c .before .before .before .bad-materials-for .ensures, ← c .before .bad-ray .ensures)
     (search refusals depth 12)
 
 pub scene-refusal-spec : {M : Type 1} → statement M
@@ -53,7 +53,7 @@ scene-refusal-spec =
     returns-2
     bad-points-requires
     returns-3
-    bad-materials-requires
+    bad-materials-for-requires
     returns-4
     bad-ray-requires
     returns-5

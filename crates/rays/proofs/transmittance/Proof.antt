@@ -12,21 +12,24 @@ use Rattle.rays.proofs.transmittance.Tie as tie
 wrong-scene-requires : tie.Need-wrong-scene-requires
 wrong-scene-requires c κs = search needs
 
+short-hits-requires : tie.Need-short-hits-requires
+short-hits-requires c κs = search needs
+
 scene-refusal-requires : tie.Need-scene-refusal-requires
 scene-refusal-requires c κs = search needs
 
 -- where the refusal is known
 judged : (c : tie.After-scene-refusal)
-    → let a = c .before .before .before .before .before .before .before .before .args in
+    → let a = c .before .before .before .before .before .before .before .before .before .args in
     c .scene-refusal .result
     ≡ transmittanceRefusal (sceneOf (a .points .now) (a .uses .now) (a .kinds .now) (a .numbers .now)) (a .ray) (a .distances .now) (a .places .now)
 unfolding transmittanceRefusal wrongScratch
-judged c = c .scene-refusal .ensures ∙ rw (c .before .wrong-scene .ensures)
+judged c = c .scene-refusal .ensures ∙ rw (c .before .before .wrong-scene .ensures, c .before .short-hits .ensures)
 
 transmittance-requires : tie.Need-transmittance-requires
 transmittance-requires c κs =
     let r = transmittance-ready _ _ _ _ (sym (judged (c .before .before .before)) ∙ c .before .before .if1 .taken) in
-    (r .scene-fits, (r .distances-fit, r .places-fit))
+    (r .scene-fits, r .hits-fit)
 
 same-length : tie.Need-same-length
 same-length c = search needs
@@ -64,6 +67,7 @@ transmittance-spec =
     tie.close
     (tie.spec
     wrong-scene-requires
+    short-hits-requires
     scene-refusal-requires
     transmittance-requires
     same-length

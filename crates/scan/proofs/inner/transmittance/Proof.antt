@@ -18,7 +18,7 @@ use Rattle.hits.specs.Hits.{Struck, struck, paired, hitsOf, placesOf}
 use Rattle.hits.specs.HitLaws.{places-below}
 use Rattle.hits.specs.Merge.{insertAll, sortOf, Numbers}
 use Rattle.hits.specs.MergeLaws.{insert-all-append, numbers-append}
-use Rattle.scan.specs.OpaqueLaws.{NoneOpaque, opaque-dark, clear-pass, none-opaque-put}
+use Rattle.scan.specs.OpaqueLaws.{NoneOpaque, opaque-dark, clear-pass, none-opaque-put, clear-room}
 use Rattle.scan.specs.Transmittance.{transmittanceOf}
 use borrow.Author.Needs.{needs}
 use Rattle.hits.specs.PairedLaws.{paired-places, stored}
@@ -29,14 +29,14 @@ abbrev Inv-loop : tie.InvT-loop
 Inv-loop points uses kinds numbers ray distances₀ places₀ n m₀ i₀ end₀ distances places m i end =
     (i ≤ n) × (m ≤ i) × (length distances ≡ length distances₀) × (length places ≡ length places₀)
     × (sortOf (paired (take m distances) (take m places)) ≡ hitsOf (sceneOf points uses kinds numbers) ray i) × Numbers (paired (take m distances) (take m places))
-    × NoneOpaque uses kinds (hitsOf (sceneOf points uses kinds numbers) ray i) × (i < n → i < end) × (end ≤ n)
+    × NoneOpaque uses kinds (hitsOf (sceneOf points uses kinds numbers) ray i) × (i < n → i < end) × (end ≤ n) × (m ≤ length distances) × (m ≤ length places)
 
 abbrev μ-loop : tie.MeasureT-loop
 μ-loop points uses kinds numbers ray distances₀ places₀ n m₀ i₀ end₀ distances places m i end = n - i
 
 loop-holds : tie.Need-loop-holds Inv-loop μ-loop
 unfolding hitsOf paired insertAll
-loop-holds c = (search needs, search needs, refl, refl, refl, tt, (λ h m. absurd (List·Memᴰ·not-nil m)), (λ h. h), omega arith)
+loop-holds c = (search needs, search needs, refl, refl, refl, tt, (λ h m. absurd (List·Memᴰ·not-nil m)), (λ h. h), omega arith, omega arith, omega arith)
 
 first-hit-requires : tie.Need-first-hit-requires Inv-loop μ-loop
 first-hit-requires c κs =
@@ -67,6 +67,8 @@ loop-again c =
       rw missed (at .inv .6),
       (λ h. h),
       omega arith,
+      at .inv .9,
+      at .inv .10,
     )
 
 enum-known-f : tie.Need-enum-known-f Inv-loop μ-loop
@@ -100,17 +102,37 @@ returns c =
     rw (c .before .before .kind-at .ensures) at (sym (c .before .stops-light .ensures) ∙ c .if1 .taken) in
     sym (opaque-dark _ _ _ _ _ _ _ b (g .3) dark)
 
+-- what is hit does not stop light, and then there is room for it
+clear-hit : (c : tie.Else1 Inv-loop μ-loop)
+    → let h = c .before .before .before .before in
+    let a = h .before .before .before .before .before .before .before .before .before .before .before .args in
+    stopsLight (kindAt (a .uses .now) (a .kinds .now) (h .f .given .0 .0)) ≡ false
+clear-hit c = rw (c .before .before .kind-at .ensures) at (sym (c .before .stops-light .ensures) ∙ c .if1 .left)
+
+more-room : (c : tie.Else1 Inv-loop μ-loop)
+    → let at = c .before .before .before .before .before .before .before .before .loop in
+    (at .m < length (at .distances)) × (at .m < length (at .places))
+more-room c =
+    let h = c .before .before .before .before in
+    let at = h .before .before .before .before .loop in
+    let g = rw (h .f .given .1) at (h .before .before .first-hit .ensures) in
+    let s = h .before .before .before .before .before .before .before .before .before .before .before in
+    let a = s .args in
+    let below : h .f .given .0 .0 < length (a .uses .now) = omega (arith, g .1, at .inv .8) in
+    let all = clear-room (sceneOf (a .points .now) (a .uses .now) (a .kinds .now) (a .numbers .now)) _ (s .pre .0) below (clear-hit c) in
+    (omega (arith, all, below, g .0, at .inv .1, at .inv .2, s .pre .1 .0), omega (arith, all, below, g .0, at .inv .1, at .inv .3, s .pre .1 .1))
+
 mul-distances : tie.Need-mul-distances Inv-loop μ-loop
 mul-distances c = omega arith
 
 slice-write-distances : tie.Need-slice-write-distances Inv-loop μ-loop
-slice-write-distances c = omega arith
+slice-write-distances c = more-room c .0
 
 mul-places : tie.Need-mul-places Inv-loop μ-loop
 mul-places c = omega arith
 
 slice-write-places : tie.Need-slice-write-places Inv-loop μ-loop
-slice-write-places c = omega arith
+slice-write-places c = more-room c .1
 
 add-m : tie.Need-add-m Inv-loop μ-loop
 add-m c = omega arith
@@ -138,26 +160,27 @@ loop-again-2 c =
     let at = h .before .before .before .before .loop in
     let g = rw (h .f .given .1) at (h .before .before .first-hit .ensures) in
     let s = h .before .before .before .before .before .before .before .before .before .before .before in
-    let left = h .before .before .before .loop-test .taken in
-    let one = stored (at .distances) (at .places) (at .m) (h .f .given .0 .1 .0) (h .f .given .0 .0)
-    (omega (arith, left, at .inv .1, at .inv .2, s .pre .1 .0)) (omega (arith, left, at .inv .1, at .inv .3, s .pre .1 .1)) in
+    let room = more-room (c .before) in
+    let one = stored (at .distances) (at .places) (at .m) (h .f .given .0 .1 .0) (h .f .given .0 .0) (room .0) (room .1) in
     let a = s .args in
     let scene = sceneOf (a .points .now) (a .uses .now) (a .kinds .now) (a .numbers .now) in
-    let clear : stopsLight (kindAt (a .uses .now) (a .kinds .now) (h .f .given .0 .0)) ≡ false =
-    rw (c .before .before .before .kind-at .ensures) at (sym (c .before .before .stops-light .ensures) ∙ c .before .if1 .left) in (
+    let kept = length-set (at .distances) (at .m) _ in
+    let placed = length-set (at .places) (at .m) _ in (
       omega (arith, g .1, at .inv .8),
       omega (arith, g .0),
-      length-set (at .distances) (at .m) _ ∙ at .inv .2,
-      length-set (at .places) (at .m) _ ∙ at .inv .3,
+      kept ∙ at .inv .2,
+      placed ∙ at .inv .3,
       ap (λ (l : List Struck). sortOf l) one
           ∙ insert-all-append [] (paired (take (at .m) (at .distances)) (take (at .m) (at .places))) _
           ∙ rw (at .inv .4, add-one) (sym (hits-first scene _ _ _ _ _ _ _ _ g)),
       subst (λ (l : List Struck). Numbers l) (sym one)
           (numbers-append (paired (take (at .m) (at .distances)) (take (at .m) (at .places))) _ (at .inv .5) (hit-number _ _ _ _ _ _ _ _ _ (g .3), tt)),
       rw (add-one, hits-first scene _ _ _ _ _ _ _ _ g)
-          (none-opaque-put (a .uses .now) (a .kinds .now) (struck (h .f .given .0 .1 .0) (h .f .given .0 .0)) (hitsOf scene (a .ray) (at .i)) clear (at .inv .6)),
+          (none-opaque-put (a .uses .now) (a .kinds .now) (struck (h .f .given .0 .1 .0) (h .f .given .0 .0)) (hitsOf scene (a .ray) (at .i)) (clear-hit (c .before)) (at .inv .6)),
       c .one-more .ensures .0,
       c .one-more .ensures .1,
+      omega (arith, kept, room .0),
+      omega (arith, placed, room .1),
     )
 
 slice-relend-prefix-in-order : tie.Need-slice-relend-prefix-in-order Inv-loop μ-loop
