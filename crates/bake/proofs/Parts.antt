@@ -1,5 +1,5 @@
 -- How the parts of a call come together: the start, the walk and the end make an accepted call, and with the refusals the call itself.
-use mathlib.Core.Path.{_≡_, refl, sym, ap, ap₂, _∙_}
+use mathlib.Core.Path.{_≡_, refl, sym, ap, ap₂, subst, _∙_}
 use mathlib.Core.Bool.{Bool, true, false, cond}
 use mathlib.Core.List.{List}
 use Prim.Native.Nat.{ℕ, _+_, _-_, _*_, _≤_, _<_}
@@ -19,15 +19,17 @@ use Rattle.marks.specs.MarksLaws.{count-within}
 use Rattle.spread.specs.declared.Progress.{Progress}
 use Rattle.spread.specs.Spread.{progressOf, Stage, stage, Called, Walked, filled, started, walk, anyActive, ended, walkOf, reachedBy, accepted}
 use Rattle.spread.specs.Walks.{ended-progress, call-adds}
+use Rattle.spread.specs.Refusing.{accepted-refusing}
 use Rattle.ends.specs.Ends.{filledOf, Finished}
-use Rattle.intake.specs.Intake.{BakeInput, voxelNumbers, voxelCount, activeEntries, bakeCost, bakeRefusal}
+use Rattle.intake.specs.Intake.{BakeInput, inputOf, voxelNumbers, voxelCount, activeEntries, bakeCost, bakeRefusal}
 use Rattle.intake.specs.IntakeLaws.{Fits, fits, none-refused}
 use Rattle.walk.specs.declared.Reached.{Reached}
 use Rattle.demand.specs.Bake.{bakeOf, bakeCall}
 use Rattle.demand.specs.Calls.{refused-call, accepted-call, accepted-none}
 use Rattle.demand.specs.Lasting.{call-leaves}
 use Rattle.walk.specs.Reports.{Walkable, Reports, Accepts}
-use Rattle.bake.specs.Baked.{Baked, Ends}
+use Rattle.bake.specs.declared.BakeAnswer.{BakeAnswer}
+use Rattle.bake.specs.Baked.{Baked, SolidBaked, Ends}
 
 module _ {b : BakeInput} {p : Progress} {a : ℕ} {v x : List Float} (f : Fits b (stage p v x) a) where
   -- ---- what the parts ask
@@ -44,8 +46,7 @@ module _ {b : BakeInput} {p : Progress} {a : ℕ} {v x : List Float} (f : Fits b
         lamps = f .lamps;
         active = f .active;
         lights = f .lights;
-        distances = f .distances;
-        places = f .places;
+        hits = f .hits;
         inside = e ∙ f .volume;
         within = f .progress .within;
       }
@@ -173,4 +174,45 @@ module _ {b : BakeInput} {s : Stage Float} {a : ℕ} where
         hits = w .hits;
         distances-long = m;
         places-long = n;
+      }
+
+-- ---- the call for solid walls goes on as the other does
+
+abbrev withHits : BakeInput → BakeInput
+withHits b = inputOf (b .axes) (b .corners) (b .scene) (b .light) (b .ambient) (b .sky) (b .lamps) (b .active) (b .lights) (b .distances) (b .places)
+
+module _ (b : BakeInput) (s : Stage Float) (a : ℕ) where
+  pub fits-with-hits : Fits b s a → Fits (withHits b) s a
+  fits-with-hits f =
+      record {
+        axes = f .axes;
+        scene = f .scene;
+        sky = f .sky;
+        lamps = f .lamps;
+        active = f .active;
+        lights = f .lights;
+        volume = f .volume;
+        scratch = f .scratch;
+        hits = f .hits;
+        progress = record { within = f .progress .within; least = f .progress .least; most = f .progress .most };
+        allowance = f .allowance;
+      }
+
+  pub accepts-without : {r : Reached} {v x d d' : List Float} {q q' : List ℕ} → Accepts (accepted (bakeOf (withHits b)) a s) r v x d d' q q'
+      → Accepts (accepted (bakeOf b) a s) r v x d d' q q'
+  accepts-without {r} {v} {x} {d} {d'} {q} {q'} w =
+      subst (λ (c : Called Float). Accepts c r v x d d' q q') (sym (accepted-refusing (bakeOf (withHits b)) (bakeRefusal b) a s)) w
+
+  -- lists of hits that nobody lent are no part of the answer
+  pub lends-none : {r : BakeAnswer} {v x d d' : List Float} {q q' : List ℕ} → Baked b s a r v x d d' q q' → SolidBaked b s a r v x
+  lends-none w =
+      record {
+        refusal = w .refusal;
+        progress = w .progress;
+        rays = w .rays;
+        volume = w .volume;
+        scratch = w .scratch;
+        hits = record { distances = λ z. refl; places = λ z. refl };
+        distances-long = refl;
+        places-long = refl;
       }

@@ -1,23 +1,26 @@
 -- The contract leaves one answer; which row refuses; a refusal and a finished bake fire no ray and leave all as it was; and what record an accepted call is
 -- handed and answers.
 use mathlib.Core.Path.{_≡_, refl, sym, ap, _∙_}
-use mathlib.Core.List.{List}
-use Prim.Native.Nat.{ℕ, zero, suc}
+use mathlib.Core.Bool.{false}
+use mathlib.Core.List.{List, []}
+use Prim.Native.Nat.{ℕ, zero, suc, _≤_}
 use native.Mathlib.Omega.{arith}
 use lib.Dec.{eqb}
 use lib.ListN.{length}
 use lib.Ieee.{Float}
 use borrow.Author.Tests.{eq-eqb}
 use Rattle.names.specs.Refusals.{RefusedBy, refused-by}
+use Rattle.names.specs.Scene.{otherKind}
 use Rattle.spread.specs.declared.Progress.{Progress}
-use Rattle.spread.specs.Spread.{Stage, Called}
-use Rattle.intake.specs.Intake.{BakeInput, voxelCount, bakeRows, bakeRefusal, GoodProgress}
-use Rattle.intake.specs.IntakeLaws.{fits, none-refused}
-use Rattle.demand.specs.Bake.{bakeCall}
+use Rattle.spread.specs.Spread.{Stage, Called, unbroken}
+use Rattle.spread.specs.Refusing.{call-refusing, unbroken-refusing}
+use Rattle.intake.specs.Intake.{BakeInput, solidOf, voxelCount, triangleCount, bakeRows, bakeRefusal, GoodProgress}
+use Rattle.intake.specs.IntakeLaws.{fits, none-refused, bake-refusal-same}
+use Rattle.demand.specs.Bake.{bakeOf, bakeCall}
 use Rattle.demand.specs.Calls.{refused-call, accepted-call, answers-refusal}
 use Rattle.demand.specs.Lasting.{call-leaves}
 use Rattle.bake.specs.declared.BakeAnswer.{BakeAnswer}
-use Rattle.bake.specs.Baked.{Baked}
+use Rattle.bake.specs.Baked.{Baked, SolidBaked}
 
 -- two results that answer r and r' and leave the volumes v and v', the scratches x and x', and in hit scratch e and e', q and q': the answer and both
 -- lists are equal, and where no ray is fired hit scratch too; its lengths are equal always
@@ -30,6 +33,13 @@ pub record SameBaked (r r' : BakeAnswer) (v v' x x' e e' : List Float) (q q' : L
   pub distances-long : length e ≡ length e'
   pub places-long : length q ≡ length q'
 
+-- answers that agree in each number are one
+answered : {r r' : BakeAnswer} → r .refusal ≡ r' .refusal → r .progress ≡ r' .progress → r .rays ≡ r' .rays → r ≡ r'
+answered {r} {r'} h i j =
+    ap (λ (n : ℕ). record { refusal = n; progress = r .progress; rays = r .rays }) h
+    ∙ ap (λ (q : Progress). record { refusal = r' .refusal; progress = q; rays = r .rays }) i
+    ∙ ap (λ (n : ℕ). record { refusal = r' .refusal; progress = r' .progress; rays = n }) j
+
 -- whatever two results satisfy the contract are the same; what hit scratch holds after rays is open
 pub baked-once : (b : BakeInput) (s : Stage Float) (a : ℕ) (d : List Float) (p : List ℕ) (r r' : BakeAnswer) (v v' x x' e e' : List Float) (q q' : List ℕ)
     → Baked b s a r v x d e p q
@@ -38,7 +48,7 @@ pub baked-once : (b : BakeInput) (s : Stage Float) (a : ℕ) (d : List Float) (p
 baked-once b s a d p r r' v v' x x' e e' q q' f g =
     let fired : r .rays ≡ r' .rays = f .rays ∙ sym (g .rays) in
     record {
-      answer = same (f .refusal ∙ sym (g .refusal)) (f .progress ∙ sym (g .progress)) fired;
+      answer = answered (f .refusal ∙ sym (g .refusal)) (f .progress ∙ sym (g .progress)) fired;
       volumes = f .volume ∙ sym (g .volume);
       scratches = f .scratch ∙ sym (g .scratch);
       distances-same = λ z. f .hits .distances z ∙ sym (g .hits .distances (sym fired ∙ z));
@@ -46,12 +56,37 @@ baked-once b s a d p r r' v v' x x' e e' q q' f g =
       distances-long = f .distances-long ∙ sym (g .distances-long);
       places-long = f .places-long ∙ sym (g .places-long);
     }
-  where
-    same : r .refusal ≡ r' .refusal → r .progress ≡ r' .progress → r .rays ≡ r' .rays → r ≡ r'
-    same h i j =
-        ap (λ (n : ℕ). record { refusal = n; progress = r .progress; rays = r .rays }) h
-        ∙ ap (λ (q : Progress). record { refusal = r' .refusal; progress = q; rays = r .rays }) i
-        ∙ ap (λ (n : ℕ). record { refusal = r' .refusal; progress = r' .progress; rays = n }) j
+
+-- for solid walls nothing is left open
+pub record SameSolidBaked (r r' : BakeAnswer) (v v' x x' : List Float) : Type 0 where
+  pub answer : r ≡ r'
+  pub volumes : v ≡ v'
+  pub scratches : x ≡ x'
+
+pub solid-baked-once : (b : BakeInput) (s : Stage Float) (a : ℕ) (r r' : BakeAnswer) (v v' x x' : List Float) → SolidBaked b s a r v x → SolidBaked b s a r' v' x'
+    → SameSolidBaked r r' v v' x x'
+solid-baked-once b s a r r' v v' x x' f g =
+    let same = baked-once b s a [] [] r r' v v' x x' [] [] [] [] f g in
+    record { answer = same .answer; volumes = same .volumes; scratches = same .scratches }
+
+-- "a bake through it equals the old one, counts included": where no other kind stands in the list and hit scratch is long enough, both calls, refusals too
+pub bake-engines-agree : (b : BakeInput) (s : Stage Float) (a : ℕ) (d d' : List Float) (p p' : List ℕ) (r r' : BakeAnswer) (v v' x x' : List Float)
+    → otherKind (b .scene .kinds) ≡ false → triangleCount b ≤ b .distances → triangleCount b ≤ b .places
+    → SolidBaked (solidOf b) s a r v x
+    → Baked b s a r' v' x' d d' p p'
+    → SameSolidBaked r r' v v' x x'
+bake-engines-agree b s a d d' p p' r r' v v' x x' o h k f g =
+    let e : bakeCall (solidOf b) s a ≡ bakeCall b s a = call-refusing (bakeOf b) (bakeRefusal (solidOf b)) a s (bake-refusal-same b s a o h k) in
+    record {
+      answer = answered (f .refusal ∙ ap (λ (c : Called Float). c .refusal) e ∙ sym (g .refusal)) (f .progress ∙ ap (λ (c : Called Float). c .stage .progress) e ∙ sym (g .progress))
+          (f .rays ∙ ap (λ (c : Called Float). c .rays) e ∙ sym (g .rays));
+      volumes = f .volume ∙ ap (λ (c : Called Float). c .stage .volume) e ∙ sym (g .volume);
+      scratches = f .scratch ∙ ap (λ (c : Called Float). c .stage .scratch) e ∙ sym (g .scratch);
+    }
+
+-- and of whole bakes: both end as one unbroken bake, its progress with all rays, volume and scratch
+pub unbroken-engines-agree : (b : BakeInput) (scratch : List Float) → unbroken (bakeOf (solidOf b)) scratch ≡ unbroken (bakeOf b) scratch
+unbroken-engines-agree b scratch = unbroken-refusing (bakeOf b) (bakeRefusal (solidOf b)) scratch
 
 -- k is answered exactly when row k holds and none before it, 0 exactly when none holds
 pub bake-refused-by : (b : BakeInput) (s : Stage Float) (a : ℕ) (r : BakeAnswer) (v x d d' : List Float) (p p' : List ℕ)

@@ -10,7 +10,7 @@ use lib.ListN.{length}
 use lib.Ieee.{Float}
 use Rattle.limits.specs.Limits.{wrongScene, badLights, badLight, badAmbient, badSky, badCoefficients}
 use Rattle.words.specs.Words.{unusedSet}
-use Rattle.limits.specs.LimitsLaws.{either, any-of-three, coefficients-row}
+use Rattle.limits.specs.LimitsLaws.{either, any-of-three, materials-for, coefficients-row}
 use Rattle.spread.specs.Spread.{atZero, Stage, unbroken, run, EachAtLeast, NoneRefused}
 use Rattle.spread.specs.Demand.{Lasts, roundedUp, allActive}
 use Rattle.spread.specs.Holds.{no-call-refused}
@@ -34,7 +34,7 @@ gather-rows b s a p =
       lists = either (wrongScene (b .scene .points) (b .scene .uses) (b .scene .kinds) (b .scene .numbers)) _ .0 (p .lists) .0;
       many = p .few;
       points = p .points;
-      materials = p .materials;
+      materials = materials-for (b .solid) (b .scene .uses) (b .scene .kinds) (b .scene .numbers) (p .materials);
       light = l .0;
       ambient = l .1;
       sky = l .2;

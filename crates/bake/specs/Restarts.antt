@@ -1,7 +1,8 @@
 -- Document 02, C-16: "Operators restart the shift's bake on another desk and lose the running total." Calls one after another of which each is handed the
--- record that the one before it answered and the volume that it left; scratch and hit lists are the desk's own, and so is the allowance. No call need be
--- accepted. Definitions only; `demand-of-restarts` of RestartsLaws shows it of whatever satisfies the calls' contract.
+-- record that the one before it answered and the volume that it left; scratch, hit lists and engine are the desk's own, and so is the allowance. No call need
+-- be accepted. Definitions only; `demand-of-restarts` of RestartsLaws shows it of whatever satisfies the calls' contract.
 use mathlib.Core.Path.{_≡_}
+use mathlib.Core.Bool.{Bool}
 use mathlib.Core.List.{List, [], _∷_}
 use Prim.Native.Nat.{ℕ, _<_}
 use lib.ListN.{take}
@@ -11,14 +12,15 @@ use Rattle.spread.specs.Spread.{atZero, stage, unbroken, stands, sum}
 use Rattle.intake.specs.Intake.{BakeInput, voxelCount, GoodProgress}
 use Rattle.demand.specs.Bake.{bakeOf}
 use Rattle.bake.specs.Baked.{Baked}
-use Rattle.bake.specs.Results.{Result, lending, refusalsOf, reportedBy}
+use Rattle.bake.specs.Results.{Result, lendingFor, refusalsOf, reportedBy}
 
--- the result c is that of a public call with the progress q, the volume v, and a scratch and hit lists of some desk
+-- the result c is that of a public call with the progress q, the volume v, and a scratch and hit lists of some desk; a call for solid walls lends no hit lists, and both are then []
 pub record CalledFrom (b : BakeInput) (q : Progress) (v : List Float) (c : Result) : Type 0 where
+  pub solid : Bool
   pub scratch : List Float
   pub distances : List Float
   pub places : List ℕ
-  pub baked : Baked (lending b distances places) (stage q v scratch) (c .allowance) (c .answer) (c .volume) (c .scratch) distances (c .distances) places (c .places)
+  pub baked : Baked (lendingFor solid b distances places) (stage q v scratch) (c .allowance) (c .answer) (c .volume) (c .scratch) distances (c .distances) places (c .places)
 
 -- each is handed the record and the volume of the one before it
 abbrev pub Restarted : BakeInput → Progress → List Float → List Result → Type 0

@@ -22,7 +22,7 @@ use Rattle.demand.specs.Bake.{gatherInput, bakeOf, bakeCall}
 use Rattle.demand.specs.Calls.{refused-call, answers-refusal}
 use Rattle.demand.specs.Demanded.{bake-fair}
 use Rattle.demand.specs.Lasting.{call-leaves}
-use Rattle.bake.specs.Results.{Result, lending, refusalsOf, reportedBy}
+use Rattle.bake.specs.Results.{Result, lendingFor, refusalsOf, reportedBy}
 use Rattle.bake.specs.Restarts.{CalledFrom, Restarted, recordAfter, volumeAfter, NoneIs, DemandOfRestarts}
 
 -- ---- one call
@@ -66,40 +66,40 @@ leaves-carried b q v x a k = go (bakeRefusal b (stage q v x) a) refl
 -- ---- all of them
 
 module _ (b : BakeInput) where
-  -- the hit lists are not asked
-  lent : (d : List Float) (p : List ℕ) {q : Progress} → GoodProgress b q → GoodProgress (lending b d p) q
-  lent d p g = record { within = g .within; least = g .least; most = g .most }
+  -- neither the engine nor the hit lists are asked
+  lent : (solid : Bool) (d : List Float) (p : List ℕ) {q : Progress} → GoodProgress b q → GoodProgress (lendingFor solid b d p) q
+  lent solid d p g = record { within = g .within; least = g .least; most = g .most }
 
-  back : (d : List Float) (p : List ℕ) {q : Progress} → GoodProgress (lending b d p) q → GoodProgress b q
-  back d p g = record { within = g .within; least = g .least; most = g .most }
+  back : (solid : Bool) (d : List Float) (p : List ℕ) {q : Progress} → GoodProgress (lendingFor solid b d p) q → GoodProgress b q
+  back solid d p g = record { within = g .within; least = g .least; most = g .most }
 
-  carried-lent : (d : List Float) (p : List ℕ) {q : Progress} {v : List Float} → Carried (bakeOf b) q v → Carried (bakeOf (lending b d p)) q v
+  carried-lent : (solid : Bool) (d : List Float) (p : List ℕ) {q : Progress} {v : List Float} → Carried (bakeOf b) q v → Carried (bakeOf (lendingFor solid b d p)) q v
   unfolding filled costs unblurred unbroken
-  carried-lent d p (short h k e) = short h k e
-  carried-lent d p (over e f) = over e f
+  carried-lent solid d p (short h k e) = short h k e
+  carried-lent solid d p (over e f) = over e f
 
-  carried-back : (d : List Float) (p : List ℕ) {q : Progress} {v : List Float} → Carried (bakeOf (lending b d p)) q v → Carried (bakeOf b) q v
+  carried-back : (solid : Bool) (d : List Float) (p : List ℕ) {q : Progress} {v : List Float} → Carried (bakeOf (lendingFor solid b d p)) q v → Carried (bakeOf b) q v
   unfolding filled costs unblurred unbroken
-  carried-back d p (short h k e) = short h k e
-  carried-back d p (over e f) = over e f
+  carried-back solid d p (short h k e) = short h k e
+  carried-back solid d p (over e f) = over e f
 
   module _ {q : Progress} {v : List Float} (c : Result) (h : CalledFrom b q v c) where
     abbrev desk : BakeInput
-    desk = lending b (h .distances) (h .places)
+    desk = lendingFor (h .solid) b (h .distances) (h .places)
 
     abbrev from : Stage Float
     from = stage q v (h .scratch)
 
     leaves : GoodProgress b q → GoodProgress b (c .answer .progress)
-    leaves g = back (h .distances) (h .places) (rw (h .baked .progress) (leaves-good desk from (c .allowance) (lent (h .distances) (h .places) g)))
+    leaves g = back (h .solid) (h .distances) (h .places) (rw (h .baked .progress) (leaves-good desk from (c .allowance) (lent (h .solid) (h .distances) (h .places) g)))
 
     carries : Carried (bakeOf b) q v → Carried (bakeOf b) (c .answer .progress) (c .volume)
     carries k =
-        carried-back (h .distances) (h .places)
-        (rw (h .baked .progress, h .baked .volume) (leaves-carried desk q v (h .scratch) (c .allowance) (carried-lent (h .distances) (h .places) k)))
+        carried-back (h .solid) (h .distances) (h .places)
+        (rw (h .baked .progress, h .baked .volume) (leaves-carried desk q v (h .scratch) (c .allowance) (carried-lent (h .solid) (h .distances) (h .places) k)))
 
     not-nine : GoodProgress b q → c .answer .refusal ≡ 9 → ⊥
-    not-nine g z = good-not-nine desk from (c .allowance) (lent (h .distances) (h .places) g) (sym (answers-refusal desk from (c .allowance)) ∙ sym (h .baked .refusal) ∙ z)
+    not-nine g z = good-not-nine desk from (c .allowance) (lent (h .solid) (h .distances) (h .places) g) (sym (answers-refusal desk from (c .allowance)) ∙ sym (h .baked .refusal) ∙ z)
 
     adds : c .answer .progress .rays ≡ q .rays + c .answer .rays
     adds =

@@ -4,7 +4,7 @@
 -- each active voxel; so A active voxels at allowances of k·384 or more, k at least 1, take at most ⌈A/k⌉ calls; no active voxel, one call." With L lamps
 -- 384+64L stands for 384. Document 02, C-16: "In demand 3, the counts' sum is also the record's last number." Definitions only; `demand-of-results` of ResultsLaws shows it of whatever satisfies the calls' contract.
 use mathlib.Core.Path.{_≡_}
-use mathlib.Core.Bool.{true}
+use mathlib.Core.Bool.{Bool, true}
 use mathlib.Core.Logic.{_⊎_}
 use mathlib.Core.List.{List, [], _∷_, map}
 use Prim.Native.Nat.{ℕ, _+_, _*_, _/_, _≤_, _<_}
@@ -17,10 +17,10 @@ use Rattle.spread.specs.Demand.{roundedUp}
 use Rattle.marks.specs.Marks.{isMarked}
 use Rattle.gather.specs.Gather.{costOf}
 use Rattle.gather.specs.Cost.{raysOf}
-use Rattle.intake.specs.Intake.{BakeInput, inputOf, voxelCount, activeEntries, bakeCost, GoodProgress}
+use Rattle.intake.specs.Intake.{BakeInput, inputFor, solidOf, voxelCount, activeEntries, bakeCost, GoodProgress}
 use Rattle.demand.specs.Bake.{gatherInput, bakeOf}
 use Rattle.bake.specs.declared.BakeAnswer.{BakeAnswer}
-use Rattle.bake.specs.Baked.{Baked}
+use Rattle.bake.specs.Baked.{Baked, SolidBaked}
 
 -- ---- results of calls
 
@@ -37,10 +37,13 @@ pub record Result : Type 0 where
 abbrev pub handedOn : Result → Stage Float
 handedOn c = stage (c .answer .progress) (c .volume) (c .scratch)
 
--- the input b with the hit lists d and p lent to it
+-- the input b with the hit lists d and p lent to it, by the one engine or the other, and by its own; a call for solid walls lends none, and both are then []
+abbrev pub lendingFor : Bool → BakeInput → List Float → List ℕ → BakeInput
+lendingFor solid b d p =
+    inputFor solid (b .axes) (b .corners) (b .scene) (b .light) (b .ambient) (b .sky) (b .lamps) (b .active) (b .lights) (length d) (length p)
+
 abbrev pub lending : BakeInput → List Float → List ℕ → BakeInput
-lending b d p =
-    inputOf (b .axes) (b .corners) (b .scene) (b .light) (b .ambient) (b .sky) (b .lamps) (b .active) (b .lights) (length d) (length p)
+lending b d p = lendingFor (b .solid) b d p
 
 -- results of calls from the stage s on with the hit lists d and p: each satisfies the public contract, and is handed on to the next, all else unchanged
 abbrev pub Successive : BakeInput → Stage Float → List Float → List ℕ → List Result → Type 0
@@ -48,6 +51,22 @@ Successive b s d p [] = Unit
 Successive b s d p (c ∷ rest) =
     Baked (lending b d p) s (c .allowance) (c .answer) (c .volume) (c .scratch) d (c .distances) p (c .places)
     × Successive b (handedOn c) (c .distances) (c .places) rest
+
+-- results of calls for solid walls, to which no hit scratch is lent
+pub record SolidResult : Type 0 where
+  pub allowance : ℕ
+  pub answer : BakeAnswer
+  pub volume : List Float
+  pub scratch : List Float
+
+abbrev pub SolidSuccessive : BakeInput → Stage Float → List SolidResult → Type 0
+SolidSuccessive b s [] = Unit
+SolidSuccessive b s (c ∷ rest) =
+    SolidBaked (solidOf b) s (c .allowance) (c .answer) (c .volume) (c .scratch) × SolidSuccessive b (stage (c .answer .progress) (c .volume) (c .scratch)) rest
+
+-- one such result, with hit scratch that holds nothing
+abbrev pub resultOf : SolidResult → Result
+resultOf c = record { allowance = c .allowance; answer = c .answer; volume = c .volume; scratch = c .scratch; distances = []; places = [] }
 
 -- what the last of them left
 abbrev pub leftBy : Stage Float → List Result → Stage Float

@@ -2,7 +2,7 @@
 -- one's input; and of `run` it is shown.
 use mathlib.Core.Path.{_≡_, refl, sym, ap, ap₂, _∙_, subst}
 use mathlib.Core.Logic.{_⊎_, inl, inr, ⊎-elim}
-use mathlib.Core.List.{List, [], _∷_}
+use mathlib.Core.List.{List, [], _∷_, map}
 use Prim.Native.Nat.{ℕ, _+_, _-_, _≤_, _<_}
 use native.Mathlib.Omega.{arith}
 use native.Mathlib.Nat.{zero-add, eq-or-lt-of-le}
@@ -13,14 +13,14 @@ use Rattle.spread.specs.Spread.{atZero, Stage, stage, Called, Ran, then, active
 use Rattle.spread.specs.Demand.{Demand}
 use Rattle.spread.specs.Walks.{call-adds, actives-split, costs-split, costs-least, costs-most}
 use Rattle.gather.specs.CostLaws.{cost-counted}
-use Rattle.intake.specs.Intake.{BakeInput, inputOf, voxelCount, bakeCost, bakeRefusal}
+use Rattle.intake.specs.Intake.{BakeInput, inputFor, solidOf, voxelCount, bakeCost, bakeRefusal}
 use Rattle.intake.specs.IntakeLaws.{zero-at-zero, fits, none-refused}
 use Rattle.demand.specs.Bake.{gatherInput, bakeOf, bakeCall}
 use Rattle.demand.specs.Calls.{answers-refusal}
 use Rattle.demand.specs.Demanded.{bake-fair, bake-demand}
 use Rattle.demand.specs.Lasting.{call-leaves}
 use Rattle.bake.specs.Baked.{Baked}
-use Rattle.bake.specs.Results.{Result, handedOn, lending, Successive, leftBy, allowancesOf, refusalsOf, reportedBy, OneCall, EachCall, EachKnows, DemandOfResults}
+use Rattle.bake.specs.Results.{Result, handedOn, lending, Successive, SolidResult, SolidSuccessive, resultOf, leftBy, allowancesOf, refusalsOf, reportedBy, OneCall, EachCall, EachKnows, DemandOfResults}
 use Rattle.bake.specs.GoesOn.{never-refused}
 
 -- ---- results are a run
@@ -42,7 +42,7 @@ called {b} {s} {c} f =
 -- lists of the same lengths make the same input
 same-input : (b : BakeInput) (d d' : List Float) (p p' : List ℕ) → length d' ≡ length d → length p' ≡ length p → lending b d' p' ≡ lending b d p
 same-input b d d' p p' e f =
-    ap₂ (inputOf (b .axes) (b .corners) (b .scene) (b .light) (b .ambient) (b .sky) (b .lamps) (b .active) (b .lights)) e f
+    ap₂ (inputFor (b .solid) (b .axes) (b .corners) (b .scene) (b .light) (b .ambient) (b .sky) (b .lamps) (b .active) (b .lights)) e f
 
 abbrev ranOf : Stage Float → List Result → Ran Float
 ranOf s results = record { refusals = refusalsOf results; rays = reportedBy results; stage = leftBy s results }
@@ -170,3 +170,19 @@ demand-of-results b s d p first rest h o m r =
       enough = λ k g c n. end ∙ demand .calls k l s g c (omega arith) (omega (arith, n, length-map results (λ (x : Result). x .allowance))) z unrefused;
       one = λ q. ap (λ (p : Progress). p .next) (h .0 .progress) ∙ demand .one (first .allowance) s q z begun;
     }
+
+-- ---- the same of calls for solid walls
+
+solid-successive : (b : BakeInput) (s : Stage Float) (results : List SolidResult) → SolidSuccessive b s results → Successive (solidOf b) s [] [] (map resultOf results)
+solid-successive b s [] h = tt
+solid-successive b s (c ∷ rest) h = (h .0, solid-successive b (handedOn (resultOf c)) rest (h .1))
+
+-- "demand 3" of them, by the theorem above; where both engines take the hall the unbroken bake at its end is the other engine's too (`unbroken-engines-agree`)
+pub demand-of-solid-results : (b : BakeInput) (s : Stage Float) (first : SolidResult) (rest : List SolidResult)
+    → SolidSuccessive b s (first ∷ rest)
+    → s .progress .next ≡ 0
+    → EachAtLeast (bakeCost b) (allowancesOf (map resultOf (first ∷ rest)))
+    → first .answer .refusal ≡ 0
+    → DemandOfResults (solidOf b) s (resultOf first) (map resultOf rest)
+demand-of-solid-results b s first rest h o m r =
+    demand-of-results (solidOf b) s [] [] (resultOf first) (map resultOf rest) (solid-successive b s (first ∷ rest) h) o m r

@@ -1,7 +1,8 @@
-// The resumable bake of a volume of spherical harmonics. Document 01, module 7; lamps by document 02, C-12, and progress by C-16.
+// The resumable bake of a volume of spherical harmonics, with hit scratch or between solid walls. Document 01, module 7; lamps by document 02, C-12, progress by
+// C-16, and solid walls by C-22.
 ghost use mathlib.Core.Path.{_≡_};
 ghost use mathlib.Core.Bool.{cond};
-ghost use Prim.Native.Nat.{_*_, _≤_, _<_};
+ghost use Prim.Native.Nat.{_+_, _*_, _≤_, _<_};
 ghost use lib.Dec.{eqb};
 ghost use lib.ListN.{length};
 ghost use Rattle.names.specs.Numbers.{voxelLimit};
@@ -10,11 +11,11 @@ ghost use Rattle.grid.specs.Grid.{voxels};
 ghost use Rattle.words.specs.Words.{entriesOf, Tidy};
 ghost use Rattle.spread.specs.Spread.{stage, accepted};
 ghost use Rattle.ends.specs.Ends.{filledOf};
-ghost use Rattle.intake.specs.Intake.{inputOf};
+ghost use Rattle.intake.specs.Intake.{inputOf, solidInput};
 ghost use Rattle.intake.specs.IntakeLaws.{Fits};
 ghost use Rattle.demand.specs.Bake.{bakeOf};
 ghost use Rattle.walk.specs.Reports.{Accepts};
-ghost use Rattle.bake.specs.Baked.{Baked, Ends};
+ghost use Rattle.bake.specs.Baked.{Baked, SolidBaked, refusedAnswer, reachedAnswer, Ends};
 use grid::Axes;
 use grid::Corners;
 use limits::Ambient;
@@ -59,6 +60,7 @@ pub fn bake(
         r (now (volume .exit)) (now (scratch .exit)) (now (distances .entry)) (now (distances .exit)) (now (places .entry)) (now (places .exit)) ⌝ }
 {
     let refusal = intake::inner::judge(
+        false,
         axes,
         corners,
         points,
@@ -79,11 +81,7 @@ pub fn bake(
         allowance,
     );
     if refusal != 0 {
-        return BakeAnswer {
-            refusal,
-            progress,
-            rays: 0,
-        };
+        return refused(refusal, progress);
     }
     let r = go_on(
         axes,
@@ -105,6 +103,100 @@ pub fn bake(
         progress,
         allowance,
     );
+    answered(progress, r)
+}
+
+// The same where every material is opaque: a ray to the sun, the sky or a lamp ends at its first hit, and no hit scratch is lent. Refuses the same numbers; 6
+// also for a kind other than opaque, used or not. A bake may be begun by the one call and gone on with by the other.
+pub fn solid_bake(
+    axes: Axes,
+    corners: Corners,
+    points: &[f32],
+    uses: &[u32],
+    kinds: &[u8],
+    numbers: &[f32],
+    light: Light,
+    ambient: Ambient,
+    sky: &[f32],
+    lamps: &[f32],
+    active: &[u64],
+    lights: &[f32],
+    volume: &mut [f32],
+    scratch: &mut [f32],
+    progress: Progress,
+    allowance: u64,
+) -> BakeAnswer
+    ensures { λ r. ⌜ SolidBaked
+        (solidInput axes corners (sceneOf (now (points .entry)) (now (uses .entry)) (now (kinds .entry)) (now (numbers .entry)))
+        light ambient (now (sky .entry)) (now (lamps .entry)) (now (active .entry)) (now (lights .entry)))
+        (stage progress (now (volume .entry)) (now (scratch .entry))) allowance
+        r (now (volume .exit)) (now (scratch .exit)) ⌝ }
+{
+    let refusal = intake::inner::judge(
+        true,
+        axes,
+        corners,
+        points,
+        uses,
+        kinds,
+        numbers,
+        light,
+        ambient,
+        sky,
+        lamps,
+        active,
+        lights,
+        volume,
+        scratch,
+        0,
+        0,
+        progress,
+        allowance,
+    );
+    if refusal != 0 {
+        return refused(refusal, progress);
+    }
+    let mut distances = [0.0f32; 0];
+    let mut places = [0usize; 0];
+    let r = go_on(
+        axes,
+        corners,
+        points,
+        uses,
+        kinds,
+        numbers,
+        light,
+        ambient,
+        sky,
+        lamps,
+        active,
+        lights,
+        volume,
+        scratch,
+        &mut distances,
+        &mut places,
+        progress,
+        allowance,
+    );
+    answered(progress, r)
+}
+
+// A refusal returns progress as handed in.
+fn refused(refusal: u32, progress: Progress) -> BakeAnswer
+    ensures { λ a. ⌜ a ≡ refusedAnswer refusal progress ⌝ }
+{
+    BakeAnswer {
+        refusal,
+        progress,
+        rays: 0,
+    }
+}
+
+// What was reached from progress on, with its rays added to those so far.
+fn answered(progress: Progress, r: Reached) -> BakeAnswer
+    requires { ⌜ progress .rays + r .rays < 18446744073709551616 ⌝ }
+    ensures { λ a. ⌜ a ≡ reachedAnswer progress r ⌝ }
+{
     let total = progress.rays + r.rays;
     BakeAnswer {
         refusal: 0,
@@ -116,7 +208,7 @@ pub fn bake(
     }
 }
 
-// A call that is not refused: a finished bake is left as it is.
+// A call that is not refused, with hit scratch where hits take room: a finished bake is left as it is.
 fn go_on(
     axes: Axes,
     corners: Corners,

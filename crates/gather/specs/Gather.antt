@@ -9,7 +9,7 @@ use lib.Ieee as Ieee
 use lib.Ieee.{Float, nan, binary32}
 use Rattle.names.specs.Bits.{lit, zero32}
 use Rattle.names.specs.Numbers.{primaryRays, lampLimit, skyNumbers}
-use Rattle.names.specs.Scene.{Scene, Sound}
+use Rattle.names.specs.Scene.{Scene, Sound, hitRoom}
 use Rattle.lists.specs.Fold.{fold}
 use Rattle.vectors.specs.Vectors.{normalV}
 use Rattle.vectors.specs.declared.Vec3.{Vec3}
@@ -62,8 +62,8 @@ pub record Gatherable (g : GatherInput) (i d p o : ℕ) : Type 0 where
   pub lamps : lampCount (g .lamps) ≤ lampLimit
   pub lights : length (g .lights) ≡ voxels (g .axes)
   pub voxel : i < voxels (g .axes)
-  pub distances : length (g .scene .uses) ≤ d
-  pub places : length (g .scene .uses) ≤ p
+  pub distances : hitRoom (g .scene) ≤ d
+  pub places : hitRoom (g .scene) ≤ p
   pub out : o ≡ 16
 
 -- ---- one primary ray

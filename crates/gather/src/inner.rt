@@ -4,7 +4,7 @@ ghost use Prim.Native.Nat.{_+_, _*_, _≤_, _<_};
 ghost use lib.ListN.{length};
 ghost use Rattle.names.specs.Numbers.{primaryRays, lampLimit, skyNumbers};
 ghost use Rattle.limits.specs.Limits.{lampCount};
-ghost use Rattle.names.specs.Scene.{Sound, sceneOf};
+ghost use Rattle.names.specs.Scene.{Sound, sceneOf, HitsFit};
 ghost use Rattle.directions.specs.Table.{directions};
 ghost use Rattle.grid.specs.Grid.{AxesWithin, voxels, xOf, yOf, zOf, centreFrom};
 ghost use Rattle.gather.specs.Gather.{settingOf, directionAt, primaryRay, sentBack, incomingOf, gatheredAlong, gatheringOf, nothingGathered, finishedOf, ambientOf, skySeen, withFour, sixteenOf, setAt, Gatherable, Gathered, gatherOf};
@@ -119,7 +119,7 @@ fn gather_all(
 ) -> Gathering
     requires { ⌜ Sound (sceneOf (now points) (now uses) (now kinds) (now numbers)) ⌝ }
     requires { ⌜ lampCount (now lamps) ≤ lampLimit ⌝ }
-    requires { ⌜ (length (now uses) ≤ length (now distances)) × (length (now uses) ≤ length (now places)) ⌝ }
+    requires { ⌜ HitsFit (sceneOf (now points) (now uses) (now kinds) (now numbers)) (length (now distances)) (length (now places)) ⌝ }
     requires { ⌜ (length (now sky) ≡ skyNumbers) × (now table ≡ directions) × (first + 64 ≤ 576) ⌝ }
     ensures { λ r. ⌜ r ≡ gatheringOf (sceneOf (now (points .entry)) (now (uses .entry)) (now (kinds .entry)) (now (numbers .entry))) (now (lamps .entry)) setting centre (now (sky .entry)) first ⌝ }
 {
@@ -184,7 +184,7 @@ fn gather_along(
 ) -> Gathering
     requires { ⌜ Sound (sceneOf (now points) (now uses) (now kinds) (now numbers)) ⌝ }
     requires { ⌜ lampCount (now lamps) ≤ lampLimit ⌝ }
-    requires { ⌜ (length (now uses) ≤ length (now distances)) × (length (now uses) ≤ length (now places)) ⌝ }
+    requires { ⌜ HitsFit (sceneOf (now points) (now uses) (now kinds) (now numbers)) (length (now distances)) (length (now places)) ⌝ }
     requires { ⌜ (length (now sky) ≡ skyNumbers) × (now table ≡ directions) × (k < 576) ⌝ }
     requires { ⌜ (gathering .rays < 65536) × (gathering .misses < 65536) ⌝ }
     ensures { λ r. ⌜ r ≡ gatheredAlong (sceneOf (now (points .entry)) (now (uses .entry)) (now (kinds .entry)) (now (numbers .entry))) (now (lamps .entry)) setting centre (now (sky .entry)) k gathering ⌝ }
@@ -255,7 +255,7 @@ fn look(
 ) -> Incoming
     requires { ⌜ Sound (sceneOf (now points) (now uses) (now kinds) (now numbers)) ⌝ }
     requires { ⌜ lampCount (now lamps) ≤ lampLimit ⌝ }
-    requires { ⌜ (length (now uses) ≤ length (now distances)) × (length (now uses) ≤ length (now places)) ⌝ }
+    requires { ⌜ HitsFit (sceneOf (now points) (now uses) (now kinds) (now numbers)) (length (now distances)) (length (now places)) ⌝ }
     ensures { λ r. ⌜ r ≡ incomingOf (sceneOf (now (points .entry)) (now (uses .entry)) (now (kinds .entry)) (now (numbers .entry))) (now (lamps .entry)) setting ray sky ⌝ }
 {
     let found = scan::inner::nearest(points, uses, kinds, numbers, ray);
@@ -305,7 +305,7 @@ fn from_surface(
 ) -> Traced
     requires { ⌜ Sound (sceneOf (now points) (now uses) (now kinds) (now numbers)) ⌝ }
     requires { ⌜ lampCount (now lamps) ≤ lampLimit ⌝ }
-    requires { ⌜ (length (now uses) ≤ length (now distances)) × (length (now uses) ≤ length (now places)) ⌝ }
+    requires { ⌜ HitsFit (sceneOf (now points) (now uses) (now kinds) (now numbers)) (length (now distances)) (length (now places)) ⌝ }
     requires { ⌜ place < length (now uses) ⌝ }
     ensures { λ r. ⌜ r ≡ sentBack (sceneOf (now (points .entry)) (now (uses .entry)) (now (kinds .entry)) (now (numbers .entry))) (now (lamps .entry)) setting ray place distance ⌝ }
 {

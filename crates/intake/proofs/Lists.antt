@@ -10,7 +10,7 @@ use Rattle.intake.specs.Intake.{BakeInput, voxelCount, triangleCount, wr
 
 module _ (b : BakeInput) (s : Stage Float) where
   pub lists-row : {n : ℕ} {x y t : Bool} → n ≡ voxelCount b → x ≡ wrongScene (b .scene .points) (b .scene .uses) (b .scene .kinds) (b .scene .numbers)
-      → y ≡ wrongLengths n (triangleCount b) (length (b .sky)) (length (b .lamps)) (length (b .active)) (length (b .lights)) (length (s .volume)) (length (s .scratch))
+      → y ≡ wrongLengths (b .solid) n (triangleCount b) (length (b .sky)) (length (b .lamps)) (length (b .active)) (length (b .lights)) (length (s .volume)) (length (s .scratch))
       (b .distances) (b .places)
       → x || y ≡ t
       → wrongBakeLists b s ≡ t

@@ -1,6 +1,6 @@
 -- What a bake is handed, and when it is refused: rows 1 to 7, 19, 9, 10 and 13 in that order. The mask's unused bits and the lights are tested always, the
 -- volume's coefficients exactly when the next voxel lies strictly between 0 and the voxel count, the contents of scratch never. Assumes nothing.
-use mathlib.Core.Bool.{Bool, _&&_, _||_}
+use mathlib.Core.Bool.{Bool, true, false, _&&_, _||_}
 use mathlib.Core.List.{List, [], _∷_}
 use Prim.Native.Nat.{ℕ, _*_, _≤_}
 use lib.Dec.{ltb}
@@ -16,7 +16,7 @@ use Rattle.grid.specs.declared.Corners.{Corners}
 use Rattle.grid.specs.Grid.{voxels}
 use Rattle.limits.specs.declared.Light.{Light}
 use Rattle.limits.specs.declared.Ambient.{Ambient}
-use Rattle.limits.specs.Limits.{badAxes, badGrid, wrongLength, tooShort, wrongScene, sceneRows, badLight, badAmbient, badSky, lampCount, wrongLamps, badLamps, pastCount, belowCost, badLights, badCoefficients}
+use Rattle.limits.specs.Limits.{badAxes, badGrid, wrongLength, shortHits, wrongScene, sceneRows, badLight, badAmbient, badSky, lampCount, wrongLamps, badLamps, pastCount, belowCost, badLights, badCoefficients}
 use Rattle.marks.specs.Marks.{markedBelow}
 use Rattle.words.specs.Words.{wordCount, entriesOf, unusedSet}
 
@@ -35,12 +35,14 @@ pub record BakeInput : Type 0 where
   pub active : List ℕ
   -- one a voxel
   pub lights : List Float
+  -- whether the call is the one for solid walls, which has no hit scratch and refuses any kind but opaque
+  pub solid : Bool
   -- how long the two lists of hit scratch are
   pub distances : ℕ
   pub places : ℕ
 
-abbrev pub inputOf : Axes → Corners → Scene → Light → Ambient → List Float → List Float → List ℕ → List Float → ℕ → ℕ → BakeInput
-inputOf axes corners scene light ambient sky lamps active lights distances places =
+abbrev pub inputFor : Bool → Axes → Corners → Scene → Light → Ambient → List Float → List Float → List ℕ → List Float → ℕ → ℕ → BakeInput
+inputFor solid axes corners scene light ambient sky lamps active lights distances places =
     record {
       axes = axes;
       corners = corners;
@@ -51,21 +53,32 @@ inputOf axes corners scene light ambient sky lamps active lights distances place
       lamps = lamps;
       active = active;
       lights = lights;
+      solid = solid;
       distances = distances;
       places = places;
     }
+
+-- of a call with hit scratch, and of one for solid walls
+abbrev pub inputOf : Axes → Corners → Scene → Light → Ambient → List Float → List Float → List ℕ → List Float → ℕ → ℕ → BakeInput
+inputOf = inputFor false
+
+abbrev pub solidInput : Axes → Corners → Scene → Light → Ambient → List Float → List Float → List ℕ → List Float → BakeInput
+solidInput axes corners scene light ambient sky lamps active lights = inputFor true axes corners scene light ambient sky lamps active lights 0 0
+
+-- the same as b, but for solid walls
+abbrev pub solidOf : BakeInput → BakeInput
+solidOf b = solidInput (b .axes) (b .corners) (b .scene) (b .light) (b .ambient) (b .sky) (b .lamps) (b .active) (b .lights)
 
 -- the numbers of a voxel in volume and scratch: four coefficients, each a colour and a fourth place
 abbrev pub voxelNumbers : ℕ
 voxelNumbers = 16
 
 -- 3: a lent list of the wrong length, by the lengths: of n voxels and t triangles
-unfoldable pub wrongLengths : ℕ → ℕ → ℕ → ℕ → ℕ → ℕ → ℕ → ℕ → ℕ → ℕ → Bool
-wrongLengths n t skyLength lampsLength activeLength lightsLength volumeLength scratchLength distancesLength placesLength =
+unfoldable pub wrongLengths : Bool → ℕ → ℕ → ℕ → ℕ → ℕ → ℕ → ℕ → ℕ → ℕ → ℕ → Bool
+wrongLengths solid n t skyLength lampsLength activeLength lightsLength volumeLength scratchLength distancesLength placesLength =
     (wrongLength skyLength skyNumbers || wrongLength activeLength (wordCount n) || wrongLength lightsLength n)
     || (wrongLength volumeLength (n * voxelNumbers) || wrongLength scratchLength (n * voxelNumbers))
-    || tooShort distancesLength t
-    || tooShort placesLength t
+    || shortHits solid distancesLength placesLength t
     || wrongLamps lampsLength
 
 -- 7: bad light, ambient or sky number
@@ -109,7 +122,7 @@ module _ (b : BakeInput) where
   unfoldable pub wrongBakeLists : Stage Float → Bool
   wrongBakeLists s =
       wrongScene (b .scene .points) (b .scene .uses) (b .scene .kinds) (b .scene .numbers)
-      || wrongLengths voxelCount triangleCount (length (b .sky)) (length (b .lamps)) (length (b .active)) (length (b .lights)) (length (s .volume)) (length (s .scratch))
+      || wrongLengths (b .solid) voxelCount triangleCount (length (b .sky)) (length (b .lamps)) (length (b .active)) (length (b .lights)) (length (s .volume)) (length (s .scratch))
       (b .distances) (b .places)
 
   -- a call with this allowance, at this stage
@@ -118,7 +131,7 @@ module _ (b : BakeInput) where
       row 1 (badAxes (b .axes))
       ∷ row 2 (badGrid (b .corners) (b .axes))
       ∷ row 3 (wrongBakeLists s)
-      ∷ sceneRows (b .scene)
+      ∷ sceneRows (b .solid) (b .scene)
       (row 7 (badLighting (b .light) (b .ambient) (b .sky))
       ∷ row 19 (badLamps (b .lamps))
       ∷ row 9 (badProgress voxelCount activeEntries (lampCount (b .lamps)) (s .progress))

@@ -1,8 +1,8 @@
 -- What a refusal of the bake means, what stands once none is given, and when a later call at another stage is given none.
-use mathlib.Core.Path.{_≡_, refl, ap₂}
-use mathlib.Core.Bool.{Bool, false}
+use mathlib.Core.Path.{_≡_, refl, sym, ap₂, _∙_}
+use mathlib.Core.Bool.{Bool, true, false, _||_}
 use mathlib.Core.Logic.{_↔_}
-use mathlib.Core.List.{List, _∷_}
+use mathlib.Core.List.{List, [], _∷_}
 use Prim.Native.Nat.{ℕ, _*_, _<_, _≤_}
 use native.Mathlib.Omega.{arith}
 use lib.ListN.{length}
@@ -10,16 +10,16 @@ use lib.Ieee.{Float}
 use borrow.Author.Tests.{ltb-false, le-ltb, eqb-true, not-false}
 use Rattle.names.specs.Numbers.{skyNumbers, lampLimit, primaryRays}
 use Rattle.names.specs.Refusals.{Row, row, firstOf, FirstIs, NoneHolds, none, later, Numbered, first-given, first-found, none-given, none-found}
-use Rattle.names.specs.Scene.{Sound}
+use Rattle.names.specs.Scene.{Sound, otherKind, HitsFit}
 use Rattle.lists.specs.Fold.{fold}
 use Rattle.spread.specs.declared.Progress.{Progress}
 use Rattle.spread.specs.Spread.{progressOf, atZero, Stage}
 use Rattle.grid.specs.Grid.{AxesWithin}
-use Rattle.limits.specs.Limits.{badAxes, badGrid, wrongLength, wrongLamps, tooMany, badPoints, badMaterials, belowCost, lampCount, badLamps, badLights}
+use Rattle.limits.specs.Limits.{badAxes, badGrid, wrongScene, wrongLength, wrongLamps, shortHits, tooMany, badPoints, badMaterialsFor, belowCost, lampCount, badLamps, badLights}
 use Rattle.marks.specs.Marks.{markedBelow}
 use Rattle.words.specs.Words.{wordCount, unusedSet, Tidy}
-use Rattle.limits.specs.LimitsLaws.{either, any-of-three, axes-row, sound, lamps-row}
-use Rattle.intake.specs.Intake.{BakeInput, voxelNumbers, bakeCost, voxelCount, activeEntries, triangleCount, wrongLengths, wrongBakeLists, badLighting, badProgress, badVolume, badContents, bakeRows, bakeRefusal, GoodProgress}
+use Rattle.limits.specs.LimitsLaws.{either, any-of-three, axes-row, sound, materials-for, solid-same, long-hits, room, lamps-row}
+use Rattle.intake.specs.Intake.{BakeInput, solidOf, voxelNumbers, bakeCost, voxelCount, activeEntries, triangleCount, wrongLengths, wrongBakeLists, badLighting, badProgress, badVolume, badContents, bakeRows, bakeRefusal, GoodProgress}
 
 -- no row holds of a call at the stage s with the allowance a
 pub record BakePassed (b : BakeInput) (s : Stage Float) (a : ℕ) : Type 0 where
@@ -28,7 +28,7 @@ pub record BakePassed (b : BakeInput) (s : Stage Float) (a : ℕ) : Type 0 where
   pub lists : wrongBakeLists b s ≡ false
   pub few : tooMany (triangleCount b) (length (b .scene .kinds)) ≡ false
   pub points : badPoints (b .scene .points) ≡ false
-  pub materials : badMaterials (b .scene .uses) (b .scene .kinds) (b .scene .numbers) ≡ false
+  pub materials : badMaterialsFor (b .solid) (b .scene .uses) (b .scene .kinds) (b .scene .numbers) ≡ false
   pub lighting : badLighting (b .light) (b .ambient) (b .sky) ≡ false
   pub lamps : badLamps (b .lamps) ≡ false
   pub progress : badProgress (voxelCount b) (activeEntries b) (lampCount (b .lamps)) (s .progress) ≡ false
@@ -46,8 +46,7 @@ pub record Fits (b : BakeInput) (s : Stage Float) (a : ℕ) : Type 0 where
   pub lights : length (b .lights) ≡ voxelCount b
   pub volume : length (s .volume) ≡ voxelCount b * voxelNumbers
   pub scratch : length (s .scratch) ≡ voxelCount b * voxelNumbers
-  pub distances : triangleCount b ≤ b .distances
-  pub places : triangleCount b ≤ b .places
+  pub hits : HitsFit (b .scene) (b .distances) (b .places)
   pub progress : GoodProgress b (s .progress)
   pub allowance : bakeCost b ≤ a
 
@@ -55,24 +54,22 @@ exactly : (x y : ℕ) → wrongLength x y ≡ false → x ≡ y
 exactly x y e = eqb-true x y (not-false _ e)
 
 -- the lent lists of n voxels and t triangles are as long as they have to be
-pub record FittingLengths (n t skyLength lampsLength activeLength lightsLength volumeLength scratchLength distancesLength placesLength : ℕ) : Type 0 where
+pub record FittingLengths (solid : Bool) (n t skyLength lampsLength activeLength lightsLength volumeLength scratchLength distancesLength placesLength : ℕ) : Type 0 where
   pub sky : skyLength ≡ skyNumbers
   pub lamps : wrongLamps lampsLength ≡ false
   pub active : activeLength ≡ wordCount n
   pub lights : lightsLength ≡ n
   pub volume : volumeLength ≡ n * voxelNumbers
   pub scratch : scratchLength ≡ n * voxelNumbers
-  pub distances : t ≤ distancesLength
-  pub places : t ≤ placesLength
+  pub hits : shortHits solid distancesLength placesLength t ≡ false
 
-pub long : {n t sky lamps active lights volume scratch distances places : ℕ} → wrongLengths n t sky lamps active lights volume scratch distances places ≡ false
-    → FittingLengths n t sky lamps active lights volume scratch distances places
+pub long : {solid : Bool} {n t sky lamps active lights volume scratch distances places : ℕ} → wrongLengths solid n t sky lamps active lights volume scratch distances places ≡ false
+    → FittingLengths solid n t sky lamps active lights volume scratch distances places
 unfolding wrongLengths
-long h =
+long {solid} {n} {t} {distances = distances} {places = places} h =
     let whole = either _ _ .0 h in
-    let places = either _ _ .0 (whole .0) in
-    let distances = either _ _ .0 (places .0) in
-    let lengths = either _ _ .0 (distances .0) in
+    let hits = either _ (shortHits solid distances places t) .0 (whole .0) in
+    let lengths = either _ _ .0 (hits .0) in
     let one = any-of-three _ _ _ .0 (lengths .0) in
     let sixteen = either _ _ .0 (lengths .1) in
     record {
@@ -82,8 +79,7 @@ long h =
       lights = exactly _ _ (one .2);
       volume = exactly _ _ (sixteen .0);
       scratch = exactly _ _ (sixteen .1);
-      distances = ltb-false _ _ (distances .1);
-      places = ltb-false _ _ (places .1);
+      hits = hits .1;
     }
 
 -- row 9 passes exactly such a progress; at next 0 none is marked below it, so that it knows no ray
@@ -171,15 +167,14 @@ module _ (b : BakeInput) (s : Stage Float) (a : ℕ) where
       let l = long (r .1) in
       record {
         axes = axes-row (b .axes) .0 (p .axes);
-        scene = sound (b .scene .points) (b .scene .uses) (b .scene .kinds) (b .scene .numbers) (r .0) (p .few) (p .materials);
+        scene = sound (b .scene .points) (b .scene .uses) (b .scene .kinds) (b .scene .numbers) (r .0) (p .few) (materials-for (b .solid) (b .scene .uses) (b .scene .kinds) (b .scene .numbers) (p .materials));
         sky = l .sky;
         lamps = lamps-row (b .lamps) .0 (p .lamps) .0;
         active = record { long = l .active; clean = any-of-three (unusedSet (b .active) (voxelCount b)) (badLights (b .lights)) _ .0 (p .contents) .0 };
         lights = l .lights;
         volume = l .volume;
         scratch = l .scratch;
-        distances = l .distances;
-        places = l .places;
+        hits = room (b .solid) (b .scene) (b .distances) (b .places) (l .hits) (p .materials);
         progress = progress-row b (s .progress) .0 (p .progress);
         allowance = ltb-false _ _ (p .allowance);
       }
@@ -208,3 +203,32 @@ module _ (b : BakeInput) (s : Stage Float) (a : ℕ) where
         allowance = le-ltb _ _ h;
         contents = any-of-three (unusedSet (b .active) (voxelCount b)) (badLights (b .lights)) _ .1 (k .0, k .1, g);
       }
+
+-- ---- both engines
+
+-- where no other kind stands in the list and hit scratch is long enough both refuse alike
+pub bake-refusal-same : (b : BakeInput) (s : Stage Float) (a : ℕ) → otherKind (b .scene .kinds) ≡ false → triangleCount b ≤ b .distances → triangleCount b ≤ b .places
+    → bakeRefusal (solidOf b) s a ≡ bakeRefusal b s a
+unfolding bakeRefusal bakeRows wrongBakeLists wrongLengths
+bake-refusal-same b s a o h k =
+    let n : ℕ = voxelCount b in
+    let lists : Bool = wrongScene (b .scene .points) (b .scene .uses) (b .scene .kinds) (b .scene .numbers) in
+    let lengths : Bool
+    = (wrongLength (length (b .sky)) skyNumbers || wrongLength (length (b .active)) (wordCount n) || wrongLength (length (b .lights)) n)
+    || (wrongLength (length (s .volume)) (n * voxelNumbers) || wrongLength (length (s .scratch)) (n * voxelNumbers)) in
+    ap₂
+    (λ (short bad : Bool). firstOf
+    (row 1 (badAxes (b .axes))
+    ∷ row 2 (badGrid (b .corners) (b .axes))
+    ∷ row 3 (lists || (lengths || short || wrongLamps (length (b .lamps))))
+    ∷ row 4 (tooMany (triangleCount b) (length (b .scene .kinds)))
+    ∷ row 5 (badPoints (b .scene .points))
+    ∷ row 6 bad
+    ∷ row 7 (badLighting (b .light) (b .ambient) (b .sky))
+    ∷ row 19 (badLamps (b .lamps))
+    ∷ row 9 (badProgress n (activeEntries b) (lampCount (b .lamps)) (s .progress))
+    ∷ row 10 (belowCost (lampCount (b .lamps)) a)
+    ∷ row 13 (badContents (b .active) (b .lights) (s .volume) (s .progress .next) n)
+    ∷ []))
+    (sym (long-hits (b .solid) (b .distances) (b .places) (triangleCount b) h k))
+    (solid-same true (b .scene .uses) (b .scene .kinds) (b .scene .numbers) o ∙ sym (solid-same (b .solid) (b .scene .uses) (b .scene .kinds) (b .scene .numbers) o))

@@ -7,7 +7,7 @@ ghost use Rattle.names.specs.Scene.{sceneOf};
 ghost use Rattle.limits.specs.Limits.{lampCount};
 ghost use Rattle.words.specs.Words.{wordCount, entriesOf};
 ghost use Rattle.spread.specs.Spread.{stage};
-ghost use Rattle.intake.specs.Intake.{inputOf, wrongLengths, badLighting, badProgress, badVolume, badContents, bakeRefusal};
+ghost use Rattle.intake.specs.Intake.{inputFor, wrongLengths, badLighting, badProgress, badVolume, badContents, bakeRefusal};
 use grid::Axes;
 use grid::Corners;
 use limits::Ambient;
@@ -18,8 +18,9 @@ use names::PRIMARY_RAYS;
 use names::SKY_NUMBERS;
 use spread::Progress;
 
-// The number of the first row that holds, 0 where none does.
+// The number of the first row that holds, 0 where none does; for solid walls or not.
 pub fn judge(
+    solid: bool,
     axes: Axes,
     corners: Corners,
     points: &[f32],
@@ -40,7 +41,7 @@ pub fn judge(
     allowance: u64,
 ) -> u32
     ensures { λ r. ⌜ r ≡ bakeRefusal
-        (inputOf axes corners (sceneOf (now (points .entry)) (now (uses .entry)) (now (kinds .entry)) (now (numbers .entry)))
+        (inputFor solid axes corners (sceneOf (now (points .entry)) (now (uses .entry)) (now (kinds .entry)) (now (numbers .entry)))
         light ambient (now (sky .entry)) (now (lamps .entry)) (now (active .entry)) (now (lights .entry)) distances places)
         (stage progress (now (volume .entry)) (now (scratch .entry))) allowance ⌝ }
 {
@@ -53,6 +54,7 @@ pub fn judge(
     let n = grid::inner::voxel_count(axes);
     let scene = limits::inner::wrong_scene(points, uses, kinds, numbers);
     let lengths = wrong_lengths(
+        solid,
         n,
         uses.len(),
         sky,
@@ -73,7 +75,7 @@ pub fn judge(
     if limits::inner::bad_points(points) {
         return 5;
     }
-    if limits::inner::bad_materials(uses, kinds, numbers) {
+    if limits::inner::bad_materials_for(solid, uses, kinds, numbers) {
         return 6;
     }
     if bad_lighting(light, ambient, sky) {
@@ -98,6 +100,7 @@ pub fn judge(
 // ---- 3, of n voxels and t triangles
 
 fn wrong_lengths(
+    solid: bool,
     n: usize,
     t: usize,
     sky: &[f32],
@@ -110,13 +113,14 @@ fn wrong_lengths(
     places: usize,
 ) -> bool
     requires { ⌜ n ≤ voxelLimit ⌝ }
-    ensures { λ r. ⌜ r ≡ wrongLengths n t (length (now (sky .entry))) (length (now (lamps .entry))) (length (now (active .entry))) (length (now (lights .entry)))
+    ensures { λ r. ⌜ r ≡ wrongLengths solid n t (length (now (sky .entry))) (length (now (lamps .entry))) (length (now (active .entry))) (length (now (lights .entry)))
         (length (now (volume .entry))) (length (now (scratch .entry))) distances places ⌝ }
 {
     let all = n * 16;
     let one = (sky.len() != SKY_NUMBERS) | (active.len() != (n + 63) / 64) | (lights.len() != n);
     let sixteen = (volume.len() != all) | (scratch.len() != all);
-    one | sixteen | (distances < t) | (places < t) | (lamps.len() % 6 != 0)
+    let hits = limits::inner::short_hits(solid, distances, places, t);
+    one | sixteen | hits | (lamps.len() % 6 != 0)
 }
 
 // ---- 7

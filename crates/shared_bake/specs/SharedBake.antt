@@ -1,6 +1,6 @@
 -- A bake spread over machines or threads, said of results of public calls: for masks of which each active voxel stands in exactly one and no other voxel in
--- any, baked each by itself to the end, the voxels' numbers taken from the share that has them, then the mean: bit for bit the unbroken bake, rays adding up. Each share has a mask
--- and lists of its own, and all else of the same input; `join` brings the unblurred volumes of the others onto the first one's; the blur of coefficients
+-- any, baked each by itself to the end, the voxels' numbers taken from the share that has them, then the mean: bit for bit the unbroken bake, rays adding up. Each share has a mask,
+-- lists and an engine of its own, and all else of the same input; `join` brings the unblurred volumes of the others onto the first one's; the blur of coefficients
 -- takes the mean. A share may itself be brought by shares, to any depth. Definitions only; `demand-of-shares` and `brought-whole` of SharedBakeLaws show it of
 -- whatever satisfies the calls' contracts.
 use mathlib.Core.Path.{_≡_}
@@ -15,19 +15,23 @@ use Rattle.spread.specs.Spread.{progressOf, atZero, Stage, stage, anyActive, un
 use Rattle.shares.specs.Shares.{Share, Parted}
 use Rattle.join.specs.Join.{Joined}
 use Rattle.blurs.specs.Blurs.{CoefficientsBlurred}
-use Rattle.intake.specs.Intake.{BakeInput, inputOf, voxelNumbers, voxelCount, activeEntries, bakeRefusal, GoodProgress}
+use Rattle.intake.specs.Intake.{BakeInput, inputFor, voxelNumbers, voxelCount, activeEntries, bakeRefusal, GoodProgress}
 use Rattle.demand.specs.Bake.{bakeOf}
 use Rattle.bake.specs.Results.{Result, lending, Successive, leftBy, refusalsOf, reportedBy, raysBelow}
 
 -- ---- the shares' bakes
 
--- the input b with another mask, by its words
-abbrev pub sharing : BakeInput → List ℕ → BakeInput
-sharing b mask =
-    inputOf (b .axes) (b .corners) (b .scene) (b .light) (b .ambient) (b .sky) (b .lamps) mask (b .lights) (b .distances) (b .places)
+-- the input b with another mask, by its words, for the one engine or the other; and for its own
+abbrev pub sharingFor : Bool → BakeInput → List ℕ → BakeInput
+sharingFor solid b mask =
+    inputFor solid (b .axes) (b .corners) (b .scene) (b .light) (b .ambient) (b .sky) (b .lamps) mask (b .lights) (b .distances) (b .places)
 
--- a share's mask, the stage and the hit lists that its first call is handed, and the results of its calls, of which there is at least one
+abbrev pub sharing : BakeInput → List ℕ → BakeInput
+sharing b mask = sharingFor (b .solid) b mask
+
+-- a share's engine and mask, the stage and the hit lists that its first call is handed, and the results of its calls, of which there is at least one
 pub record ShareBake : Type 0 where
+  pub solid : Bool
   pub mask : List ℕ
   pub begun : Stage Float
   pub distances : List Float
@@ -44,7 +48,7 @@ endOf s = leftBy (s .begun) (callsOf s)
 
 -- the results are those of public calls, begun at progress zero, no call refused, all else handed on unchanged, to the end
 pub record BakedToEnd (b : BakeInput) (s : ShareBake) : Type 0 where
-  pub calls : Successive (sharing b (s .mask)) (s .begun) (s .distances) (s .places) (callsOf s)
+  pub calls : Successive (sharingFor (s .solid) b (s .mask)) (s .begun) (s .distances) (s .places) (callsOf s)
   pub from-zero : s .begun .progress ≡ atZero
   pub unrefused : NoneRefused (refusalsOf (callsOf s))
   pub to-end : endOf s .progress .next ≡ voxelCount b
@@ -63,7 +67,7 @@ module _ (b : BakeInput) where
   hasVoxel mask = isMarked (entriesOf mask (voxelCount b))
 
   abbrev pub asShare : ShareBake → Share Float
-  asShare s = record { has = hasVoxel (s .mask); refusal = bakeRefusal (lending (sharing b (s .mask)) (s .distances) (s .places)) }
+  asShare s = record { has = hasVoxel (s .mask); refusal = bakeRefusal (lending (sharingFor (s .solid) b (s .mask)) (s .distances) (s .places)) }
 
   -- its unblurred volume: scratch has it, and where the share has no voxel the volume, which no mean was taken of
   abbrev pub unblurredOf : ShareBake → List Float

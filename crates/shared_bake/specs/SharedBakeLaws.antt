@@ -26,7 +26,7 @@ use Rattle.join.specs.Join.{Joined}
 use Rattle.join.specs.JoinLaws.{join-accepted}
 use Rattle.ends.specs.Ends.{meanOver}
 use Rattle.blurs.specs.Blurs.{wrongBlurLists, coefficientBlurRows, coefficientBlurRefusal}
-use Rattle.intake.specs.Intake.{BakeInput, inputOf, voxelNumbers, voxelCount, bakeCost, wrongBakeLists, badContents, bakeRefusal}
+use Rattle.intake.specs.Intake.{BakeInput, inputFor, voxelNumbers, voxelCount, bakeCost, wrongBakeLists, badContents, bakeRefusal}
 use Rattle.intake.specs.IntakeLaws.{BakePassed, progress-row, good-at-zero, fits, none-refused}
 use Rattle.demand.specs.Bake.{bakeOf, bakeCall}
 use Rattle.demand.specs.Calls.{answers-refusal}
@@ -35,7 +35,7 @@ use Rattle.bake.specs.Baked.{Baked}
 use Rattle.bake.specs.GoesOn.{accepted-unblurred, never-refused}
 use Rattle.bake.specs.Results.{Result, handedOn, lending, Successive, allowancesOf, refusalsOf, reportedBy, raysBelow, DemandOfResults}
 use Rattle.bake.specs.ResultsLaws.{demand-of-results}
-use Rattle.shared_bake.specs.SharedBake.{sharing, ShareBake, callsOf, endOf, BakedToEnd, EachBaked, hasVoxel, asShare, unblurredOf, JoinedShare, JoinedOnto, lastJoined, sharesOf, Shared, allJoined, allKnown, someActive, EndsUnbroken, DemandOfShares, AsOne, Halves, Brought, by-calls, by-join}
+use Rattle.shared_bake.specs.SharedBake.{sharingFor, sharing, ShareBake, callsOf, endOf, BakedToEnd, EachBaked, hasVoxel, asShare, unblurredOf, JoinedShare, JoinedOnto, lastJoined, sharesOf, Shared, allJoined, allKnown, someActive, EndsUnbroken, DemandOfShares, AsOne, Halves, Brought, by-calls, by-join}
 
 -- the sum of one number
 alone : (n : ℕ) → sum (n ∷ []) ≡ n
@@ -98,7 +98,7 @@ pub can-be-baked : (b : BakeInput) (mask : List ℕ) (s : Stage Float) (d : List
 unfolding run
 can-be-baked b mask s d p a t z k l e =
     let i = lending (sharing b mask) d p in
-    let same : i ≡ sharing b mask = ap₂ (inputOf (b .axes) (b .corners) (b .scene) (b .light) (b .ambient) (b .sky) (b .lamps) mask (b .lights)) k l in
+    let same : i ≡ sharing b mask = ap₂ (inputFor (b .solid) (b .axes) (b .corners) (b .scene) (b .light) (b .ambient) (b .sky) (b .lamps) mask (b .lights)) k l in
     let accepted : bakeRefusal i s a ≡ 0 = ap (λ (j : BakeInput). bakeRefusal j s a) same ∙ share-accepted b mask s a t z e in
     let n = allActive (bakeOf i) in
     let m = suc n * bakeCost b in
@@ -114,7 +114,7 @@ can-be-baked b mask s d p a t z k l e =
       distances = d;
       places = p;
     } in (
-      record { mask = mask; begun = s; distances = d; places = p; first = first; rest = [] },
+      record { solid = b .solid; mask = mask; begun = s; distances = d; places = p; first = first; rest = [] },
       refl,
       record {
         calls = (
@@ -177,7 +177,7 @@ module _ (b : BakeInput) where
   -- ---- one share's calls
 
   abbrev inputBy : ShareBake → BakeInput
-  inputBy s = lending (sharing b (s .mask)) (s .distances) (s .places)
+  inputBy s = lending (sharingFor (s .solid) b (s .mask)) (s .distances) (s .places)
 
   module _ (s : ShareBake) (h : BakedToEnd b s) where
     begins : BakePassed (inputBy s) (s .begun) (s .first .allowance)
@@ -185,8 +185,8 @@ module _ (b : BakeInput) where
 
     demanded : DemandOfResults (inputBy s) (s .begun) (s .first) (s .rest)
     demanded =
-        demand-of-results (sharing b (s .mask)) (s .begun) (s .distances) (s .places) (s .first) (s .rest) (h .calls) (ap (λ (q : Progress). q .next) (h .from-zero))
-        (allowances-hold (sharing b (s .mask)) (s .begun) (s .distances) (s .places) (callsOf s) (h .calls) (h .unrefused))
+        demand-of-results (sharingFor (s .solid) b (s .mask)) (s .begun) (s .distances) (s .places) (s .first) (s .rest) (h .calls) (ap (λ (q : Progress). q .next) (h .from-zero))
+        (allowances-hold (sharingFor (s .solid) b (s .mask)) (s .begun) (s .distances) (s .places) (callsOf s) (h .calls) (h .unrefused))
         (h .unrefused .0)
 
     -- they end as the unbroken bake over its voxels

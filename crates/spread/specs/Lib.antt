@@ -6,3 +6,4 @@ pub mod Contents
 pub mod Holds
 pub mod Bare
 pub mod Carried
+pub mod Refusing

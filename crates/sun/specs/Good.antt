@@ -1,17 +1,19 @@
 -- A good call is accepted: one active voxel, so one word with its bit 0 set, no triangles, the light straight up. With bit 1 set too, which no voxel has,
 -- it is refused.
 use mathlib.Core.Path.{_≡_, refl}
+use mathlib.Core.Bool.{true, false}
 use mathlib.Core.List.{[], _∷_}
-use lib.Ieee.{ofBits, ofFields, odd, neg, le, lt, eq, add, sub, mul, div, ofInt, round, sum, units, size, climb, span}
-use Rattle.names.specs.Bits.{zero32, one32}
+use Prim.Native.Nat.{ℕ}
+use lib.Ieee.{Float, ofBits, ofFields, odd, neg, le, lt, eq, add, sub, mul, div, ofInt, round, sum, units, size, climb, span}
+use Rattle.names.specs.Bits.{zero32, one32, inf32}
 use Rattle.names.specs.Refusals.{firstOf}
-use Rattle.names.specs.Scene.{Scene, sceneOf}
+use Rattle.names.specs.Scene.{Scene, sceneOf, otherKind}
 use Rattle.vectors.specs.Vectors.{vec, dotV}
 use Rattle.vectors.specs.declared.Vec3.{Vec3}
 use Rattle.grid.specs.Grid.{edgesOf}
 use Rattle.grid.specs.declared.Axes.{Axes}
 use Rattle.grid.specs.declared.Corners.{Corners}
-use Rattle.limits.specs.Limits.{within, outsideV, badAxes, badCorners, badEdges, wrongShare, wrongScene, tooMany, badPoints, badKinds, badFrom, badUses, badMaterials, badDirection}
+use Rattle.limits.specs.Limits.{within, upTo, outsideV, badAxes, badCorners, badEdges, wrongShare, wrongScene, tooMany, badPoints, badKinds, badFrom, badUses, badMaterials, badDirection}
 use Rattle.lists.specs.Some.{some}
 use Rattle.lists.specs.Any.{any}
 use Rattle.words.specs.Words.{unusedSet}
@@ -29,10 +31,25 @@ upward = vec zero32 zero32 one32
 abbrev pub emptyScene : Scene
 emptyScene = sceneOf [] [] [] []
 
-pub sun-accepted : sunRefusal oneVoxel unitBox emptyScene upward (1 ∷ []) 1 1 0 0 ≡ 0
+pub sun-accepted : sunRefusal false oneVoxel unitBox emptyScene upward (1 ∷ []) 1 1 0 0 ≡ 0
 unfolding sunRefusal wrongSun oneVoxel unitBox upward firstOf badAxes badCorners badEdges edgesOf wrongScene wrongShare tooMany badPoints badKinds badFrom badUses badMaterials badDirection unusedSet any some outsideV within dotV ofBits ofFields odd neg le lt eq add sub mul div ofInt round sum units size climb span
 sun-accepted = refl
 
-pub sun-bit-refused : sunRefusal oneVoxel unitBox emptyScene upward (3 ∷ []) 1 1 0 0 ≡ 13
+pub sun-bit-refused : sunRefusal false oneVoxel unitBox emptyScene upward (3 ∷ []) 1 1 0 0 ≡ 13
 unfolding sunRefusal wrongSun oneVoxel unitBox upward firstOf badAxes badCorners badEdges edgesOf wrongScene wrongShare tooMany badPoints badKinds badFrom badUses badMaterials badDirection unusedSet any some outsideV within dotV ofBits ofFields odd neg le lt eq add sub mul div ofInt round sum units size climb span
 sun-bit-refused = refl
+
+-- one triangle is accepted between solid walls without hit scratch, and refused 3 by the other engine. Of another kind than opaque it is refused 6: before a bad
+-- direction's 7 and an unused bit's 13, after a bad point's 5
+abbrev pub oneWall : ℕ → Float → Scene
+oneWall kind x =
+    sceneOf (x ∷ zero32 ∷ zero32 ∷ one32 ∷ zero32 ∷ zero32 ∷ zero32 ∷ one32 ∷ zero32 ∷ []) (0 ∷ []) (kind ∷ [])
+    (one32 ∷ one32 ∷ one32 ∷ zero32 ∷ zero32 ∷ zero32 ∷ zero32 ∷ [])
+
+pub solid-sun-accepted : (sunRefusal true oneVoxel unitBox (oneWall 0 zero32) upward (1 ∷ []) 1 1 0 0 ≡ 0)
+    × (sunRefusal false oneVoxel unitBox (oneWall 0 zero32) upward (1 ∷ []) 1 1 0 0 ≡ 3)
+    × (sunRefusal true oneVoxel unitBox (oneWall 1 zero32) upward (3 ∷ []) 1 1 0 0 ≡ 6)
+    × (sunRefusal true oneVoxel unitBox (oneWall 2 zero32) (vec zero32 zero32 zero32) (1 ∷ []) 1 1 0 0 ≡ 6)
+    × (sunRefusal true oneVoxel unitBox (oneWall 1 inf32) upward (1 ∷ []) 1 1 0 0 ≡ 5)
+unfolding sunRefusal wrongSun oneVoxel unitBox upward firstOf badAxes badCorners badEdges edgesOf wrongScene wrongShare tooMany badPoints badKinds badFrom badUses badMaterials otherKind badDirection unusedSet any some outsideV within upTo dotV ofBits ofFields odd neg le lt eq add sub mul div ofInt round sum units size climb span
+solid-sun-accepted = (refl, refl, refl, refl, refl)

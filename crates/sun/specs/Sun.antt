@@ -3,7 +3,7 @@
 -- normalised. The figures before the blur are a definition of their own, which the light's scratch list holds afterwards; where no voxel is active
 -- that list stays as it was.
 use mathlib.Core.Path.{_≡_}
-use mathlib.Core.Bool.{Bool, cond, _||_}
+use mathlib.Core.Bool.{Bool, true, cond, _||_}
 use mathlib.Core.List.{List, [], _∷_}
 use Prim.Native.Nat.{ℕ, _≤_}
 use lib.Dec.{eqb}
@@ -13,7 +13,7 @@ use lib.Ieee.{Float, binary32}
 use Rattle.names.specs.Bits.{one32}
 use Rattle.names.specs.Numbers.{sunShortest, sunDiagonals}
 use Rattle.names.specs.Refusals.{Row, row, firstOf, unlessRefused}
-use Rattle.names.specs.Scene.{Scene, Sound}
+use Rattle.names.specs.Scene.{Scene, Sound, HitsFit}
 use Rattle.lists.specs.Fold.{tab}
 use Rattle.vectors.specs.Vectors.{normalV}
 use Rattle.vectors.specs.Rays.{rayFrom}
@@ -22,7 +22,7 @@ use Rattle.vectors.specs.declared.Ray.{Ray}
 use Rattle.grid.specs.Grid.{voxels, xOf, yOf, zOf, edgesOf, centreFrom, diagonalOf, AxesWithin}
 use Rattle.grid.specs.declared.Axes.{Axes}
 use Rattle.grid.specs.declared.Corners.{Corners}
-use Rattle.limits.specs.Limits.{badAxes, badGrid, wrongScene, wrongLength, tooShort, sceneRows, badDirection}
+use Rattle.limits.specs.Limits.{badAxes, badGrid, wrongScene, wrongLength, shortHits, sceneRows, badDirection}
 use Rattle.means.specs.Box.{lightBlurOf}
 use Rattle.marks.specs.Marks.{isMarked, markedCount}
 use Rattle.words.specs.Words.{wordCount, entriesOf, unusedSet}
@@ -75,40 +75,40 @@ sunScratch axes corners scene direction active scratch =
 
 -- ---- the call
 
--- a list of the scene, the mask, the light or its scratch has the wrong length, or a list of hits is shorter than the triangle count
-unfoldable pub wrongSun : ℕ → Scene → ℕ → ℕ → ℕ → ℕ → ℕ → Bool
-wrongSun n scene activeLength lightLength scratchLength distancesLength placesLength =
+-- `solid` says whether the call is the one for solid walls, which has no hit scratch and refuses any kind but opaque
+
+-- a list of the scene, the mask, the light or its scratch has the wrong length, or hit scratch is lent and too short
+unfoldable pub wrongSun : Bool → ℕ → Scene → ℕ → ℕ → ℕ → ℕ → ℕ → Bool
+wrongSun solid n scene activeLength lightLength scratchLength distancesLength placesLength =
     wrongScene (scene .points) (scene .uses) (scene .kinds) (scene .numbers)
     || wrongLength activeLength (wordCount n)
     || wrongLength lightLength n
     || wrongLength scratchLength n
-    || tooShort distancesLength (length (scene .uses))
-    || tooShort placesLength (length (scene .uses))
+    || shortHits solid distancesLength placesLength (length (scene .uses))
 
 -- The mask is lent as words; what the pass sees of it, and what the definitions above take, is their entries.
 -- Of the light, its scratch and the two lists of hits only the lengths are asked: what they hold is never tested.
-abbrev pub sunRows : Axes → Corners → Scene → Vec3 → List ℕ → ℕ → ℕ → ℕ → ℕ → List Row
-sunRows axes corners scene direction active lightLength scratchLength distancesLength placesLength =
+abbrev pub sunRows : Bool → Axes → Corners → Scene → Vec3 → List ℕ → ℕ → ℕ → ℕ → ℕ → List Row
+sunRows solid axes corners scene direction active lightLength scratchLength distancesLength placesLength =
     row 1 (badAxes axes)
     ∷ row 2 (badGrid corners axes)
-    ∷ row 3 (wrongSun (voxels axes) scene (length active) lightLength scratchLength distancesLength placesLength)
-    ∷ sceneRows scene (row 7 (badDirection direction) ∷ row 13 (unusedSet active (voxels axes)) ∷ [])
+    ∷ row 3 (wrongSun solid (voxels axes) scene (length active) lightLength scratchLength distancesLength placesLength)
+    ∷ sceneRows solid scene (row 7 (badDirection direction) ∷ row 13 (unusedSet active (voxels axes)) ∷ [])
 
-unfoldable pub sunRefusal : Axes → Corners → Scene → Vec3 → List ℕ → ℕ → ℕ → ℕ → ℕ → ℕ
-sunRefusal axes corners scene direction active lightLength scratchLength distancesLength placesLength =
-    firstOf (sunRows axes corners scene direction active lightLength scratchLength distancesLength placesLength)
+unfoldable pub sunRefusal : Bool → Axes → Corners → Scene → Vec3 → List ℕ → ℕ → ℕ → ℕ → ℕ → ℕ
+sunRefusal solid axes corners scene direction active lightLength scratchLength distancesLength placesLength =
+    firstOf (sunRows solid axes corners scene direction active lightLength scratchLength distancesLength placesLength)
 
 -- what the trace of a voxel asks
 pub record Traceable (axes : Axes) (scene : Scene) (distancesLength placesLength : ℕ) : Type 0 where
   pub axes-fit : AxesWithin axes
   pub scene-fits : Sound scene
-  pub distances-fit : length (scene .uses) ≤ distancesLength
-  pub places-fit : length (scene .uses) ≤ placesLength
+  pub hits-fit : HitsFit scene distancesLength placesLength
 
 -- the lists of hits keep their lengths always, and what they held where no ray is traced; what they hold otherwise is open
-pub record SunAnswered (axes : Axes) (corners : Corners) (scene : Scene) (direction : Vec3) (active : List ℕ) (light scratch distances : List Float)
+pub record SunAnswered (solid : Bool) (axes : Axes) (corners : Corners) (scene : Scene) (direction : Vec3) (active : List ℕ) (light scratch distances : List Float)
     (places : List ℕ) (r : Sunned) (light' scratch' distances' : List Float) (places' : List ℕ) : Type 0 where
-  pub answer : r .refusal ≡ sunRefusal axes corners scene direction active (length light) (length scratch) (length distances) (length places)
+  pub answer : r .refusal ≡ sunRefusal solid axes corners scene direction active (length light) (length scratch) (length distances) (length places)
   pub rays : r .rays ≡ unlessRefused (r .refusal) (markedCount (entriesOf active (voxels axes))) 0
   pub light-after : light' ≡ unlessRefused (r .refusal) (sunLight axes corners scene direction (entriesOf active (voxels axes))) light
   pub scratch-after : scratch' ≡ unlessRefused (r .refusal) (sunScratch axes corners scene direction (entriesOf active (voxels axes)) scratch) scratch
@@ -116,3 +116,17 @@ pub record SunAnswered (axes : Axes) (corners : Corners) (scene : Scene) (direct
   pub places-kept : r .rays ≡ 0 → places' ≡ places
   pub distances-long : length distances' ≡ length distances
   pub places-long : length places' ≡ length places
+
+-- the same between solid walls, where no lists of hits are lent
+abbrev pub SolidSunAnswered : Axes → Corners → Scene → Vec3 → List ℕ → List Float → List Float → Sunned → List Float → List Float → Type 0
+SolidSunAnswered axes corners scene direction active light scratch r light' scratch' =
+    SunAnswered true axes corners scene direction active light scratch [] [] r light' scratch' [] []
+
+-- what a pass that is not refused counts and leaves, of a mask of these entries
+pub record SunPassed (axes : Axes) (corners : Corners) (scene : Scene) (direction : Vec3) (entries : List ℕ) (scratch distances : List Float) (places : List ℕ) (rays : ℕ)
+    (light' scratch' distances' : List Float) (places' : List ℕ) : Type 0 where
+  pub rays-counted : rays ≡ markedCount entries
+  pub light-after : light' ≡ sunLight axes corners scene direction entries
+  pub scratch-after : scratch' ≡ sunScratch axes corners scene direction entries scratch
+  pub distances-kept : rays ≡ 0 → distances' ≡ distances
+  pub places-kept : rays ≡ 0 → places' ≡ places

@@ -8,18 +8,18 @@ use native.Mathlib.Nat.{zero-add}
 use native.Mathlib.Omega.{arith}
 use lib.ListN.{length, getD}
 use lib.Ieee.{Float, nan}
-use borrow.Author.Tests.{ltb-false, eqb-true, not-false}
+use borrow.Author.Tests.{eqb-true, not-false}
 use Rattle.names.specs.Bits.{one32}
 use Rattle.names.specs.Refusals.{Row, row, firstOf, Numbered, RefusedBy, refused-by}
-use Rattle.names.specs.Scene.{Scene}
+use Rattle.names.specs.Scene.{Scene, otherKind}
 use Rattle.lists.specs.Fold.{length-tab, getD-tab, tab-same}
 use Rattle.vectors.specs.Vectors.{normalV}
 use Rattle.vectors.specs.declared.Vec3.{Vec3}
 use Rattle.grid.specs.Grid.{voxels, xOf, yOf, zOf, edgesOf, centreOf}
 use Rattle.grid.specs.declared.Axes.{Axes}
 use Rattle.grid.specs.declared.Corners.{Corners}
-use Rattle.limits.specs.Limits.{badAxes, badGrid, wrongScene, wrongLength, tooShort, sceneRows, badDirection}
-use Rattle.limits.specs.LimitsLaws.{either, axes-row, sound}
+use Rattle.limits.specs.Limits.{badAxes, badGrid, wrongScene, wrongLength, shortHits, tooMany, badPoints, sceneRows, badDirection}
+use Rattle.limits.specs.LimitsLaws.{either, axes-row, sound, materials-for, solid-same, long-hits, room}
 use Rattle.names.specs.Passed.{passed}
 use Rattle.marks.specs.Marks.{isMarked, markedCount}
 use Rattle.marks.specs.MarksLaws.{active-some}
@@ -27,7 +27,7 @@ use Rattle.words.specs.Words.{bitAt, entriesOf, wordCount, wordsOf, unusedSet, 
 use Rattle.words.specs.WordsLaws.{unclean-bit, bit-unclean, words-entries}
 use Rattle.scan.specs.Transmittance.{transmittanceOf}
 use Rattle.sun.specs.declared.Sunned.{Sunned}
-use Rattle.sun.specs.Sun.{aheadOf, sunRay, figureOf, sunAt, sunBefore, allOnes, sunRows, wrongSun, sunRefusal, Traceable, SunAnswered}
+use Rattle.sun.specs.Sun.{aheadOf, sunRay, figureOf, sunAt, sunBefore, allOnes, sunRows, wrongSun, sunRefusal, Traceable, SunAnswered, SolidSunAnswered}
 
 -- ---- the figures before the blur
 
@@ -61,28 +61,28 @@ module _ (axes : Axes) (corners : Corners) (scene : Scene) (direction : Vec3) (a
 
 -- ---- k is refused exactly when row k holds and none before it, and a call is accepted exactly when none holds
 
-pub sun-numbered : (axes : Axes) (corners : Corners) (scene : Scene) (direction : Vec3) (active : List ℕ) (lightLength scratchLength distancesLength placesLength : ℕ)
-    → Numbered (sunRows axes corners scene direction active lightLength scratchLength distancesLength placesLength)
-sun-numbered axes corners scene direction active lightLength scratchLength distancesLength placesLength =
+pub sun-numbered : (solid : Bool) (axes : Axes) (corners : Corners) (scene : Scene) (direction : Vec3) (active : List ℕ) (lightLength scratchLength distancesLength placesLength : ℕ)
+    → Numbered (sunRows solid axes corners scene direction active lightLength scratchLength distancesLength placesLength)
+sun-numbered solid axes corners scene direction active lightLength scratchLength distancesLength placesLength =
     (omega arith, (omega arith, (omega arith, (omega arith, (omega arith, (omega arith, (omega arith, (omega arith, tt))))))))
 
-pub sun-refused-by : (axes : Axes) (corners : Corners) (scene : Scene) (direction : Vec3) (active : List ℕ) (light scratch distances : List Float) (places : List ℕ)
+pub sun-refused-by : (solid : Bool) (axes : Axes) (corners : Corners) (scene : Scene) (direction : Vec3) (active : List ℕ) (light scratch distances : List Float) (places : List ℕ)
     (r : Sunned) (light' scratch' distances' : List Float) (places' : List ℕ)
-    → SunAnswered axes corners scene direction active light scratch distances places r light' scratch' distances' places'
-    → RefusedBy (sunRows axes corners scene direction active (length light) (length scratch) (length distances) (length places)) (r .refusal)
+    → SunAnswered solid axes corners scene direction active light scratch distances places r light' scratch' distances' places'
+    → RefusedBy (sunRows solid axes corners scene direction active (length light) (length scratch) (length distances) (length places)) (r .refusal)
 unfolding sunRefusal
-sun-refused-by axes corners scene direction active light scratch distances places r light' scratch' distances' places' p =
-    refused-by _ (r .refusal) (sun-numbered axes corners scene direction active (length light) (length scratch) (length distances) (length places)) (p .answer)
+sun-refused-by solid axes corners scene direction active light scratch distances places r light' scratch' distances' places' p =
+    refused-by _ (r .refusal) (sun-numbered solid axes corners scene direction active (length light) (length scratch) (length distances) (length places)) (p .answer)
 
 -- 13 is refused exactly when the rows before it pass and a bit past the last voxel is set
 
 -- every row but the last
-abbrev pub earlierRows : Axes → Corners → Scene → Vec3 → List ℕ → ℕ → ℕ → ℕ → ℕ → List Row
-earlierRows axes corners scene direction active lightLength scratchLength distancesLength placesLength =
+abbrev pub earlierRows : Bool → Axes → Corners → Scene → Vec3 → List ℕ → ℕ → ℕ → ℕ → ℕ → List Row
+earlierRows solid axes corners scene direction active lightLength scratchLength distancesLength placesLength =
     row 1 (badAxes axes)
     ∷ row 2 (badGrid corners axes)
-    ∷ row 3 (wrongSun (voxels axes) scene (length active) lightLength scratchLength distancesLength placesLength)
-    ∷ sceneRows scene (row 7 (badDirection direction) ∷ [])
+    ∷ row 3 (wrongSun solid (voxels axes) scene (length active) lightLength scratchLength distancesLength placesLength)
+    ∷ sceneRows solid scene (row 7 (badDirection direction) ∷ [])
 
 -- no row has the number k
 abbrev Without : ℕ → List Row → Type 0
@@ -100,14 +100,14 @@ last-row k b (r ∷ rows) h p q = go (r .holds) (last-row k b rows h (p .1) (q .
     go true rest = (λ e. absurd (q .0 e), λ e. absurd (omega (arith, p .0, e .0)))
     go false rest = rest
 
-pub sun-unused-bit : (axes : Axes) (corners : Corners) (scene : Scene) (direction : Vec3) (active : List ℕ) (lightLength scratchLength distancesLength placesLength : ℕ)
-    → (sunRefusal axes corners scene direction active lightLength scratchLength distancesLength placesLength ≡ 13)
-    ↔ ((firstOf (earlierRows axes corners scene direction active lightLength scratchLength distancesLength placesLength) ≡ 0)
+pub sun-unused-bit : (solid : Bool) (axes : Axes) (corners : Corners) (scene : Scene) (direction : Vec3) (active : List ℕ) (lightLength scratchLength distancesLength placesLength : ℕ)
+    → (sunRefusal solid axes corners scene direction active lightLength scratchLength distancesLength placesLength ≡ 13)
+    ↔ ((firstOf (earlierRows solid axes corners scene direction active lightLength scratchLength distancesLength placesLength) ≡ 0)
     × ((i : ℕ) × (voxels axes ≤ i) × (i / 64 < length active) × (bitAt active i ≡ 1)))
 unfolding sunRefusal
-sun-unused-bit axes corners scene direction active lightLength scratchLength distancesLength placesLength =
+sun-unused-bit solid axes corners scene direction active lightLength scratchLength distancesLength placesLength =
     let n : ℕ = voxels axes in
-    let rows : List Row = earlierRows axes corners scene direction active lightLength scratchLength distancesLength placesLength in
+    let rows : List Row = earlierRows solid axes corners scene direction active lightLength scratchLength distancesLength placesLength in
     let only = last-row 13 (unusedSet active n) rows (omega arith)
     (omega arith, (omega arith, (omega arith, (omega arith, (omega arith, (omega arith, (omega arith, tt)))))))
     ((λ e. omega arith), ((λ e. omega arith), ((λ e. omega arith), ((λ e. omega arith), ((λ e. omega arith), ((λ e. omega arith), ((λ e. omega arith), tt))))))) in (
@@ -126,11 +126,11 @@ pub record SameSun (r s : Sunned) (light light' scratch scratch' distances dista
   pub distances-long : length distances ≡ length distances'
   pub places-long : length places ≡ length places'
 
-pub sun-answered-once : (axes : Axes) (corners : Corners) (scene : Scene) (direction : Vec3) (active : List ℕ) (l s d : List Float) (p : List ℕ)
+pub sun-answered-once : (solid : Bool) (axes : Axes) (corners : Corners) (scene : Scene) (direction : Vec3) (active : List ℕ) (l s d : List Float) (p : List ℕ)
     (r₁ r₂ : Sunned) (l₁ s₁ d₁ l₂ s₂ d₂ : List Float) (p₁ p₂ : List ℕ)
-    → SunAnswered axes corners scene direction active l s d p r₁ l₁ s₁ d₁ p₁ → SunAnswered axes corners scene direction active l s d p r₂ l₂ s₂ d₂ p₂
+    → SunAnswered solid axes corners scene direction active l s d p r₁ l₁ s₁ d₁ p₁ → SunAnswered solid axes corners scene direction active l s d p r₂ l₂ s₂ d₂ p₂
     → SameSun r₁ r₂ l₁ l₂ s₁ s₂ d₁ d₂ p₁ p₂
-sun-answered-once axes corners scene direction active l s d p r₁ r₂ l₁ s₁ d₁ l₂ s₂ d₂ p₁ p₂ a b =
+sun-answered-once solid axes corners scene direction active l s d p r₁ r₂ l₁ s₁ d₁ l₂ s₂ d₂ p₁ p₂ a b =
     let f : r₁ .refusal ≡ r₂ .refusal = a .answer ∙ sym (b .answer) in
     let g : r₁ .rays ≡ r₂ .rays = a .rays ∙ rw f (sym (b .rays)) in
     record {
@@ -141,6 +141,59 @@ sun-answered-once axes corners scene direction active l s d p r₁ r₂ l₁ s�
       places-same = λ z. a .places-kept z ∙ sym (b .places-kept (sym g ∙ z));
       distances-long = a .distances-long ∙ sym (b .distances-long);
       places-long = a .places-long ∙ sym (b .places-long);
+    }
+
+-- between solid walls nothing is left open
+pub record SameSolidSun (r s : Sunned) (light light' scratch scratch' : List Float) : Type 0 where
+  pub answer : r ≡ s
+  pub lights : light ≡ light'
+  pub scratches : scratch ≡ scratch'
+
+pub solid-sun-answered-once : (axes : Axes) (corners : Corners) (scene : Scene) (direction : Vec3) (active : List ℕ) (l s : List Float) (r₁ r₂ : Sunned) (l₁ s₁ l₂ s₂ : List Float)
+    → SolidSunAnswered axes corners scene direction active l s r₁ l₁ s₁ → SolidSunAnswered axes corners scene direction active l s r₂ l₂ s₂
+    → SameSolidSun r₁ r₂ l₁ l₂ s₁ s₂
+solid-sun-answered-once axes corners scene direction active l s r₁ r₂ l₁ s₁ l₂ s₂ a b =
+    let same = sun-answered-once true axes corners scene direction active l s [] [] r₁ r₂ l₁ s₁ [] l₂ s₂ [] [] [] a b in
+    record { answer = same .answer; lights = same .lights; scratches = same .scratches }
+
+-- ---- both engines
+
+-- where no other kind stands in the list and hit scratch is long enough both refuse alike
+pub sun-refusal-same : (axes : Axes) (corners : Corners) (scene : Scene) (direction : Vec3) (active : List ℕ) (lightLength scratchLength distancesLength placesLength : ℕ)
+    → otherKind (scene .kinds) ≡ false → length (scene .uses) ≤ distancesLength → length (scene .uses) ≤ placesLength
+    → sunRefusal true axes corners scene direction active lightLength scratchLength 0 0
+    ≡ sunRefusal false axes corners scene direction active lightLength scratchLength distancesLength placesLength
+unfolding sunRefusal wrongSun
+sun-refusal-same axes corners scene direction active lightLength scratchLength distancesLength placesLength o h k =
+    let n : ℕ = voxels axes in
+    let lists : Bool = wrongScene (scene .points) (scene .uses) (scene .kinds) (scene .numbers) || wrongLength (length active) (wordCount n) || wrongLength lightLength n || wrongLength scratchLength n in
+    ap₂
+    (λ (short bad : Bool). firstOf
+    (row 1 (badAxes axes)
+    ∷ row 2 (badGrid corners axes)
+    ∷ row 3 (lists || short)
+    ∷ row 4 (tooMany (length (scene .uses)) (length (scene .kinds)))
+    ∷ row 5 (badPoints (scene .points))
+    ∷ row 6 bad
+    ∷ row 7 (badDirection direction)
+    ∷ row 13 (unusedSet active n)
+    ∷ []))
+    (sym (long-hits false distancesLength placesLength (length (scene .uses)) h k))
+    (solid-same true (scene .uses) (scene .kinds) (scene .numbers) o)
+
+-- and answer and leave the same
+pub sun-engines-agree : (axes : Axes) (corners : Corners) (scene : Scene) (direction : Vec3) (active : List ℕ) (l s d : List Float) (p : List ℕ)
+    (r₁ r₂ : Sunned) (l₁ s₁ l₂ s₂ d₂ : List Float) (p₂ : List ℕ)
+    → otherKind (scene .kinds) ≡ false → length (scene .uses) ≤ length d → length (scene .uses) ≤ length p
+    → SolidSunAnswered axes corners scene direction active l s r₁ l₁ s₁ → SunAnswered false axes corners scene direction active l s d p r₂ l₂ s₂ d₂ p₂
+    → SameSolidSun r₁ r₂ l₁ l₂ s₁ s₂
+sun-engines-agree axes corners scene direction active l s d p r₁ r₂ l₁ s₁ l₂ s₂ d₂ p₂ o h k a b =
+    let f : r₁ .refusal ≡ r₂ .refusal = a .answer ∙ sun-refusal-same axes corners scene direction active (length l) (length s) (length d) (length p) o h k ∙ sym (b .answer) in
+    let g : r₁ .rays ≡ r₂ .rays = a .rays ∙ rw f (sym (b .rays)) in
+    record {
+      answer = ap₂ (λ (m n : ℕ). record { refusal = m; rays = n }) f g;
+      lights = a .light-after ∙ rw f (sym (b .light-after));
+      scratches = a .scratch-after ∙ rw f (sym (b .scratch-after));
     }
 
 -- ---- what an accepted call has
@@ -155,35 +208,35 @@ right : (len n : ℕ) → wrongLength len n ≡ false → len ≡ n
 right len n e = eqb-true _ _ (not-false _ e)
 
 -- what row 3 lets pass has the words of n voxels
-pub words-long : (n : ℕ) (scene : Scene) (activeLength lightLength scratchLength distancesLength placesLength : ℕ)
-    → wrongSun n scene activeLength lightLength scratchLength distancesLength placesLength ≡ false → activeLength ≡ wordCount n
+pub words-long : (solid : Bool) (n : ℕ) (scene : Scene) (activeLength lightLength scratchLength distancesLength placesLength : ℕ)
+    → wrongSun solid n scene activeLength lightLength scratchLength distancesLength placesLength ≡ false → activeLength ≡ wordCount n
 unfolding wrongSun
-words-long n scene activeLength lightLength scratchLength distancesLength placesLength e =
+words-long solid n scene activeLength lightLength scratchLength distancesLength placesLength e =
     let t : ℕ = length (scene .uses) in
-    right _ _ (second (wrongScene (scene .points) (scene .uses) (scene .kinds) (scene .numbers)) (wrongLength activeLength (wordCount n)) (wrongLength lightLength n) (wrongLength scratchLength n) (tooShort distancesLength t) (tooShort placesLength t) e)
+    right _ _ (second (wrongScene (scene .points) (scene .uses) (scene .kinds) (scene .numbers)) (wrongLength activeLength (wordCount n)) (wrongLength lightLength n) (wrongLength scratchLength n) (shortHits solid distancesLength placesLength t) e)
   where
-    second : (a b c d f g : Bool) → a || b || c || d || f || g ≡ false → b ≡ false
-    second false false c d f g h = refl
-    second false true c d f g h = h
-    second true b c d f g h = absurd (false≢true (sym h))
+    second : (a b c d f : Bool) → a || b || c || d || f ≡ false → b ≡ false
+    second false false c d f h = refl
+    second false true c d f h = h
+    second true b c d f h = absurd (false≢true (sym h))
 
-pub sun-ready : (axes : Axes) (corners : Corners) (scene : Scene) (direction : Vec3) (active : List ℕ) (lightLength scratchLength distancesLength placesLength : ℕ)
-    → sunRefusal axes corners scene direction active lightLength scratchLength distancesLength placesLength ≡ 0
+pub sun-ready : (solid : Bool) (axes : Axes) (corners : Corners) (scene : Scene) (direction : Vec3) (active : List ℕ) (lightLength scratchLength distancesLength placesLength : ℕ)
+    → sunRefusal solid axes corners scene direction active lightLength scratchLength distancesLength placesLength ≡ 0
     → SunReady axes scene active lightLength scratchLength distancesLength placesLength
 unfolding sunRefusal wrongSun
-sun-ready axes corners scene direction active lightLength scratchLength distancesLength placesLength e =
-    let p = passed (sunRows axes corners scene direction active lightLength scratchLength distancesLength placesLength) (sun-numbered axes corners scene direction active lightLength scratchLength distancesLength placesLength) e in
-    let a = either _ _ .0 (p .1 .1 .0) in
-    let b = either _ _ .0 (a .0) in
+sun-ready solid axes corners scene direction active lightLength scratchLength distancesLength placesLength e =
+    let p = passed (sunRows solid axes corners scene direction active lightLength scratchLength distancesLength placesLength) (sun-numbered solid axes corners scene direction active lightLength scratchLength distancesLength placesLength) e in
+    let t : ℕ = length (scene .uses) in
+    let b = either _ (shortHits solid distancesLength placesLength t) .0 (p .1 .1 .0) in
     let c = either _ _ .0 (b .0) in
     let d = either _ _ .0 (c .0) in
     let f = either _ _ .0 (d .0) in
+    let m = p .1 .1 .1 .1 .1 .0 in
     record {
       traceable = record {
         axes-fit = axes-row axes .0 (p .0);
-        scene-fits = sound _ _ _ _ (f .0) (p .1 .1 .1 .0) (p .1 .1 .1 .1 .1 .0);
-        distances-fit = ltb-false _ _ (b .1);
-        places-fit = ltb-false _ _ (a .1);
+        scene-fits = sound _ _ _ _ (f .0) (p .1 .1 .1 .0) (materials-for solid (scene .uses) (scene .kinds) (scene .numbers) m);
+        hits-fit = room solid scene distancesLength placesLength (b .1) m;
       };
       tidy = record { long = right _ _ (f .1); clean = p .1 .1 .1 .1 .1 .1 .1 .0 };
       light-fits = right _ _ (d .1);
@@ -191,8 +244,8 @@ sun-ready axes corners scene direction active lightLength scratchLength distance
     }
 
 -- and its words are those of the entries that it sees
-pub sun-words : (axes : Axes) (corners : Corners) (scene : Scene) (direction : Vec3) (active : List ℕ) (lightLength scratchLength distancesLength placesLength : ℕ)
-    → sunRefusal axes corners scene direction active lightLength scratchLength distancesLength placesLength ≡ 0 → AreWords active
+pub sun-words : (solid : Bool) (axes : Axes) (corners : Corners) (scene : Scene) (direction : Vec3) (active : List ℕ) (lightLength scratchLength distancesLength placesLength : ℕ)
+    → sunRefusal solid axes corners scene direction active lightLength scratchLength distancesLength placesLength ≡ 0 → AreWords active
     → wordsOf (entriesOf active (voxels axes)) ≡ active
-sun-words axes corners scene direction active lightLength scratchLength distancesLength placesLength e a =
-    words-entries active (voxels axes) a (sun-ready axes corners scene direction active lightLength scratchLength distancesLength placesLength e .tidy)
+sun-words solid axes corners scene direction active lightLength scratchLength distancesLength placesLength e a =
+    words-entries active (voxels axes) a (sun-ready solid axes corners scene direction active lightLength scratchLength distancesLength placesLength e .tidy)

@@ -1,5 +1,6 @@
 // The sun pass: how much of the sun each voxel sees. Document 01, module 5; the Rust's compute_sun_visibility.
 ghost use mathlib.Core.Path.{_≡_};
+ghost use mathlib.Core.Bool.{false};
 ghost use Prim.Native.Nat.{_<_};
 ghost use lib.ListN.{length};
 ghost use Rattle.names.specs.Bits.{one32};
@@ -8,7 +9,8 @@ ghost use Rattle.lists.specs.Fold.{tab};
 ghost use Rattle.grid.specs.Grid.{voxels, xOf, yOf, zOf, centreFrom};
 ghost use Rattle.words.specs.Words.{entriesOf, Tidy};
 ghost use Rattle.scan.specs.Transmittance.{transmittanceOf};
-ghost use Rattle.sun.specs.Sun.{sunRay, sunBefore, sunRefusal, Traceable, SunAnswered};
+ghost use Rattle.sun.specs.Sun.{sunRay, sunBefore, sunRefusal, Traceable, SunAnswered, SolidSunAnswered, SunPassed};
+ghost use Rattle.sun.specs.SunLaws.{SunReady};
 use grid::Axes;
 use grid::Corners;
 use names::SUN_DIAGONALS;
@@ -39,9 +41,10 @@ pub fn sun(
     distances: &mut [f32],
     places: &mut [usize],
 ) -> Sunned
-    ensures { λ r. ⌜ SunAnswered axes corners (sceneOf (now (points .entry)) (now (uses .entry)) (now (kinds .entry)) (now (numbers .entry))) direction (now (active .entry)) (now (light .entry)) (now (scratch .entry)) (now (distances .entry)) (now (places .entry)) r (now (light .exit)) (now (scratch .exit)) (now (distances .exit)) (now (places .exit)) ⌝ }
+    ensures { λ r. ⌜ SunAnswered false axes corners (sceneOf (now (points .entry)) (now (uses .entry)) (now (kinds .entry)) (now (numbers .entry))) direction (now (active .entry)) (now (light .entry)) (now (scratch .entry)) (now (distances .entry)) (now (places .entry)) r (now (light .exit)) (now (scratch .exit)) (now (distances .exit)) (now (places .exit)) ⌝ }
 {
     let refusal = judge(
+        false,
         axes,
         corners,
         points,
@@ -56,15 +59,7 @@ pub fn sun(
         places.len(),
     );
     if refusal == 0 {
-        let rays = words::inner::count(active, light.len());
-        if rays == 0 {
-            brighten(light);
-            return Sunned {
-                refusal: 0,
-                rays: 0,
-            };
-        }
-        trace(
+        let rays = pass(
             axes,
             corners,
             points,
@@ -73,18 +68,113 @@ pub fn sun(
             numbers,
             direction,
             active,
+            light,
             scratch,
             distances,
             places,
         );
-        means::inner::square(scratch, light, axes.width, axes.height, axes.depth);
         return Sunned { refusal: 0, rays };
     }
     Sunned { refusal, rays: 0 }
 }
 
-// The number of the first row that holds: 1, 2, 3, 4, 5, 6, 7, 13. The last four arguments are the lengths of the light, its scratch and the two lists of hits.
+// The same where every material is opaque: a ray ends at its first hit, and no lists of hits are lent. Refusals 1 to 7 and 13; 6 also for a kind other than
+// opaque, used or not.
+pub fn solid_sun(
+    axes: Axes,
+    corners: Corners,
+    points: &[f32],
+    uses: &[u32],
+    kinds: &[u8],
+    numbers: &[f32],
+    direction: Vec3,
+    active: &[u64],
+    light: &mut [f32],
+    scratch: &mut [f32],
+) -> Sunned
+    ensures { λ r. ⌜ SolidSunAnswered axes corners (sceneOf (now (points .entry)) (now (uses .entry)) (now (kinds .entry)) (now (numbers .entry))) direction (now (active .entry)) (now (light .entry)) (now (scratch .entry)) r (now (light .exit)) (now (scratch .exit)) ⌝ }
+{
+    let refusal = judge(
+        true,
+        axes,
+        corners,
+        points,
+        uses,
+        kinds,
+        numbers,
+        direction,
+        active,
+        light.len(),
+        scratch.len(),
+        0,
+        0,
+    );
+    if refusal == 0 {
+        let mut distances = [0.0f32; 0];
+        let mut places = [0usize; 0];
+        let rays = pass(
+            axes,
+            corners,
+            points,
+            uses,
+            kinds,
+            numbers,
+            direction,
+            active,
+            light,
+            scratch,
+            &mut distances,
+            &mut places,
+        );
+        return Sunned { refusal: 0, rays };
+    }
+    Sunned { refusal, rays: 0 }
+}
+
+// A pass that is not refused, and its rays.
+fn pass(
+    axes: Axes,
+    corners: Corners,
+    points: &[f32],
+    uses: &[u32],
+    kinds: &[u8],
+    numbers: &[f32],
+    direction: Vec3,
+    active: &[u64],
+    light: &mut [f32],
+    scratch: &mut [f32],
+    distances: &mut [f32],
+    places: &mut [usize],
+) -> u64
+    requires { ⌜ SunReady axes (sceneOf (now points) (now uses) (now kinds) (now numbers)) (now active) (length (now light)) (length (now scratch)) (length (now distances)) (length (now places)) ⌝ }
+    ensures { λ r. ⌜ SunPassed axes corners (sceneOf (now (points .entry)) (now (uses .entry)) (now (kinds .entry)) (now (numbers .entry))) direction (entriesOf (now (active .entry)) (voxels axes)) (now (scratch .entry)) (now (distances .entry)) (now (places .entry)) r (now (light .exit)) (now (scratch .exit)) (now (distances .exit)) (now (places .exit)) ⌝ }
+{
+    let rays = words::inner::count(active, light.len());
+    if rays == 0 {
+        brighten(light);
+        return 0;
+    }
+    trace(
+        axes,
+        corners,
+        points,
+        uses,
+        kinds,
+        numbers,
+        direction,
+        active,
+        scratch,
+        distances,
+        places,
+    );
+    means::inner::square(scratch, light, axes.width, axes.height, axes.depth);
+    rays
+}
+
+// The number of the first row that holds: 1, 2, 3, 4, 5, 6, 7, 13, for solid walls or not. The last four arguments are the lengths of the light, its scratch and
+// the two lists of hits.
 fn judge(
+    solid: bool,
     axes: Axes,
     corners: Corners,
     points: &[f32],
@@ -98,7 +188,7 @@ fn judge(
     distances: usize,
     places: usize,
 ) -> u32
-    ensures { λ r. ⌜ r ≡ sunRefusal axes corners (sceneOf (now (points .entry)) (now (uses .entry)) (now (kinds .entry)) (now (numbers .entry))) direction (now (active .entry)) lights scratches distances places ⌝ }
+    ensures { λ r. ⌜ r ≡ sunRefusal solid axes corners (sceneOf (now (points .entry)) (now (uses .entry)) (now (kinds .entry)) (now (numbers .entry))) direction (now (active .entry)) lights scratches distances places ⌝ }
 {
     if limits::inner::bad_axes(axes) {
         return 1;
@@ -115,8 +205,7 @@ fn judge(
         | (a != w)
         | (lights != n)
         | (scratches != n)
-        | (distances < t)
-        | (places < t);
+        | limits::inner::short_hits(solid, distances, places, t);
     if wrong {
         return 3;
     }
@@ -126,7 +215,7 @@ fn judge(
     if limits::inner::bad_points(points) {
         return 5;
     }
-    if limits::inner::bad_materials(uses, kinds, numbers) {
+    if limits::inner::bad_materials_for(solid, uses, kinds, numbers) {
         return 6;
     }
     if limits::inner::bad_direction(direction) {

@@ -3,3 +3,4 @@ pub mod BeforeBounds
 pub mod BlurBounds
 pub mod LightBounds
 pub mod RayBounds
+pub mod SolidFigures

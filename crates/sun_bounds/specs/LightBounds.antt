@@ -47,12 +47,12 @@ at-most-light x h = at-most-within lightLimit x 1 64 light-value (at-most-up x 1
 units-accepted : (l : List Float) → ((i : ℕ) → i < length l → AtMost 1 0 (getD l i nan)) → badLights l ≡ false
 units-accepted l h = lights-row l .1 (λ i p. at-most-light _ (h i p))
 
-module _ (axes : Axes) (corners : Corners) (scene : Scene) (direction : Vec3) (active : List ℕ) (lightLength scratchLength distancesLength placesLength : ℕ)
-    (accepted : sunRefusal axes corners scene direction active lightLength scratchLength distancesLength placesLength ≡ 0) where
+module _ (solid : Bool) (axes : Axes) (corners : Corners) (scene : Scene) (direction : Vec3) (active : List ℕ) (lightLength scratchLength distancesLength placesLength : ℕ)
+    (accepted : sunRefusal solid axes corners scene direction active lightLength scratchLength distancesLength placesLength ≡ 0) where
   before-units : (i : ℕ) → i < length (sunBefore axes corners scene direction (entriesOf active (voxels axes))) → AtMost 1 0 (getD (sunBefore axes corners scene direction (entriesOf active (voxels axes))) i nan)
   before-units i h =
       unit-at-most _
-      (before-within axes corners scene direction active lightLength scratchLength distancesLength placesLength accepted i
+      (before-within solid axes corners scene direction active lightLength scratchLength distancesLength placesLength accepted i
       (omega (arith, length-before axes corners scene direction (entriesOf active (voxels axes)))))
 
   -- what the light's scratch list holds
@@ -72,7 +72,7 @@ module _ (axes : Axes) (corners : Corners) (scene : Scene) (direction : Vec3) (a
       blurred : (i : ℕ) → i < length (lightBlurOf (sunBefore axes corners scene direction (entriesOf active (voxels axes))) (axes .width) (axes .height) (axes .depth))
           → AtMost 1 0 (getD (lightBlurOf (sunBefore axes corners scene direction (entriesOf active (voxels axes))) (axes .width) (axes .height) (axes .depth)) i nan)
       blurred i h =
-          let r = sun-ready axes corners scene direction active lightLength scratchLength distancesLength placesLength accepted .traceable .axes-fit in
+          let r = sun-ready solid axes corners scene direction active lightLength scratchLength distancesLength placesLength accepted .traceable .axes-fit in
           let b = sunBefore axes corners scene direction (entriesOf active (voxels axes)) in
           let l = length-tab (squareAt b (axes .width) (axes .height) (axes .depth)) (length b) 0 in
           blurred-at-most axes b (r .width) (r .height) (length-before axes corners scene direction (entriesOf active (voxels axes))) before-units i (omega arith)

@@ -1,7 +1,7 @@
 -- Row 8 would accept every ray of an accepted sun pass: a centre lies within ±`centreMost`, 12,416, three diagonals are at most 43,008, and a component of the light's direction is at
 -- most 19/16, so that a ray starts within ±63,488. So every number of its test is finite (`Bounded`), and the departure that makes a non-finite distance a miss never shows.
 use mathlib.Core.Path.{_≡_, refl}
-use mathlib.Core.Bool.{true, false}
+use mathlib.Core.Bool.{Bool, true, false}
 use mathlib.Core.List.{List}
 use Prim.Native.Nat.{ℕ, _+_, _<_}
 use native.Mathlib.Omega.{arith}
@@ -49,12 +49,12 @@ longest-passes = unfold isNan ofBits in refl
 abbrev pub sunRayAt : Axes → Corners → Vec3 → ℕ → Ray
 sunRayAt axes corners direction i = sunRay (normalV direction) (aheadOf (edgesOf corners axes)) (centreOf corners axes (xOf axes i) (yOf axes i) (zOf axes i))
 
-module _ (axes : Axes) (corners : Corners) (scene : Scene) (direction : Vec3) (active : List ℕ) (lightLong scratchLong distancesLong placesLong : ℕ)
-    (accepted : sunRefusal axes corners scene direction active lightLong scratchLong distancesLong placesLong ≡ 0) where
+module _ (solid : Bool) (axes : Axes) (corners : Corners) (scene : Scene) (direction : Vec3) (active : List ℕ) (lightLong scratchLong distancesLong placesLong : ℕ)
+    (accepted : sunRefusal solid axes corners scene direction active lightLong scratchLong distancesLong placesLong ≡ 0) where
   pub sun-ray-accepted : (i : ℕ) → i < voxels axes → badRay (sunRayAt axes corners direction i) ≡ false
   unfolding sunRefusal rayFrom pointAt
   sun-ray-accepted i h =
-      let p = passed (sunRows axes corners scene direction active lightLong scratchLong distancesLong placesLong) (sun-numbered axes corners scene direction active lightLong scratchLong distancesLong placesLong) accepted in
+      let p = passed (sunRows solid axes corners scene direction active lightLong scratchLong distancesLong placesLong) (sun-numbered solid axes corners scene direction active lightLong scratchLong distancesLong placesLong) accepted in
       let a = axes-row axes .0 (p .0) in
       let d = direction-row direction .0 (p .1 .1 .1 .1 .1 .1 .0) in
       let e = within-each lightDirectionLimit direction 1 12 point-value (d .0) in
@@ -74,8 +74,8 @@ module _ (axes : Axes) (corners : Corners) (scene : Scene) (direction : Vec3) (a
   near : (k : ℕ) → k < length (scene .uses) → NearPoints (triangleAt (scene .points) k)
   unfolding sunRefusal
   near k h =
-      let p = passed (sunRows axes corners scene direction active lightLong scratchLong distancesLong placesLong) (sun-numbered axes corners scene direction active lightLong scratchLong distancesLong placesLong) accepted in
-      let s = sun-ready axes corners scene direction active lightLong scratchLong distancesLong placesLong accepted .traceable .scene-fits in
+      let p = passed (sunRows solid axes corners scene direction active lightLong scratchLong distancesLong placesLong) (sun-numbered solid axes corners scene direction active lightLong scratchLong distancesLong placesLong) accepted in
+      let s = sun-ready solid axes corners scene direction active lightLong scratchLong distancesLong placesLong accepted .traceable .scene-fits in
       near-place (scene .points) k (p .1 .1 .1 .1 .0) (omega (arith, s .points))
 
   -- every number of the test is finite, once the determinant has passed

@@ -4,7 +4,7 @@ ghost use mathlib.Core.Path.{_≡_};
 ghost use Prim.Native.Nat.{_+_, _≤_, _<_};
 ghost use lib.ListN.{length, getD};
 ghost use Rattle.names.specs.Numbers.{lampLimit};
-ghost use Rattle.names.specs.Scene.{Sound, sceneOf};
+ghost use Rattle.names.specs.Scene.{Sound, sceneOf, HitsFit};
 ghost use Rattle.limits.specs.Limits.{lampCount};
 ghost use Rattle.bounce.specs.Hemisphere.{hemisphere};
 ghost use Rattle.surface.specs.Surface.{surfaceOf, shadowRay, skyRayIn, lampRay, seenBy, seenOf, sunOf, skyOf, daylightOf, litBy, fallenOn, bouncedBy};
@@ -66,7 +66,7 @@ pub fn bounce_light(
 ) -> Traced
     requires { ⌜ Sound (sceneOf (now points) (now uses) (now kinds) (now numbers)) ⌝ }
     requires { ⌜ lampCount (now lamps) ≤ lampLimit ⌝ }
-    requires { ⌜ (length (now uses) ≤ length (now distances)) × (length (now uses) ≤ length (now places)) ⌝ }
+    requires { ⌜ HitsFit (sceneOf (now points) (now uses) (now kinds) (now numbers)) (length (now distances)) (length (now places)) ⌝ }
     ensures { λ r. ⌜ r ≡ bouncedBy (sceneOf (now (points .entry)) (now (uses .entry)) (now (kinds .entry)) (now (numbers .entry))) (now (lamps .entry)) setting surface ⌝ }
 {
     if bounce::inner::black(surface.albedo, surface.emissive) {
@@ -112,7 +112,7 @@ fn light_fallen(
 ) -> Traced
     requires { ⌜ Sound (sceneOf (now points) (now uses) (now kinds) (now numbers)) ⌝ }
     requires { ⌜ lampCount (now lamps) ≤ lampLimit ⌝ }
-    requires { ⌜ (length (now uses) ≤ length (now distances)) × (length (now uses) ≤ length (now places)) ⌝ }
+    requires { ⌜ HitsFit (sceneOf (now points) (now uses) (now kinds) (now numbers)) (length (now distances)) (length (now places)) ⌝ }
     ensures { λ r. ⌜ r ≡ fallenOn (sceneOf (now (points .entry)) (now (uses .entry)) (now (kinds .entry)) (now (numbers .entry))) (now (lamps .entry)) setting surface ⌝ }
 {
     let mut fallen = light_day(
@@ -160,7 +160,7 @@ fn light_lamp(
     places: &mut [usize],
 ) -> Traced
     requires { ⌜ Sound (sceneOf (now points) (now uses) (now kinds) (now numbers)) ⌝ }
-    requires { ⌜ (length (now uses) ≤ length (now distances)) × (length (now uses) ≤ length (now places)) ⌝ }
+    requires { ⌜ HitsFit (sceneOf (now points) (now uses) (now kinds) (now numbers)) (length (now distances)) (length (now places)) ⌝ }
     requires { ⌜ fallen .rays < 65536 ⌝ }
     ensures { λ r. ⌜ r ≡ litBy (sceneOf (now (points .entry)) (now (uses .entry)) (now (kinds .entry)) (now (numbers .entry))) setting surface lamp fallen ⌝ }
 {
@@ -190,7 +190,7 @@ fn light_day(
     places: &mut [usize],
 ) -> Traced
     requires { ⌜ Sound (sceneOf (now points) (now uses) (now kinds) (now numbers)) ⌝ }
-    requires { ⌜ (length (now uses) ≤ length (now distances)) × (length (now uses) ≤ length (now places)) ⌝ }
+    requires { ⌜ HitsFit (sceneOf (now points) (now uses) (now kinds) (now numbers)) (length (now distances)) (length (now places)) ⌝ }
     ensures { λ r. ⌜ r ≡ daylightOf (sceneOf (now (points .entry)) (now (uses .entry)) (now (kinds .entry)) (now (numbers .entry))) setting surface ⌝ }
 {
     let sun = light_sun(
@@ -232,7 +232,7 @@ fn light_sun(
     places: &mut [usize],
 ) -> Traced
     requires { ⌜ Sound (sceneOf (now points) (now uses) (now kinds) (now numbers)) ⌝ }
-    requires { ⌜ (length (now uses) ≤ length (now distances)) × (length (now uses) ≤ length (now places)) ⌝ }
+    requires { ⌜ HitsFit (sceneOf (now points) (now uses) (now kinds) (now numbers)) (length (now distances)) (length (now places)) ⌝ }
     ensures { λ r. ⌜ r ≡ sunOf (sceneOf (now (points .entry)) (now (uses .entry)) (now (kinds .entry)) (now (numbers .entry))) setting surface ⌝ }
 {
     let slant = bounce::inner::slant(surface.normal, setting.toward);
@@ -270,7 +270,7 @@ fn light_sky(
     places: &mut [usize],
 ) -> Traced
     requires { ⌜ Sound (sceneOf (now points) (now uses) (now kinds) (now numbers)) ⌝ }
-    requires { ⌜ (length (now uses) ≤ length (now distances)) × (length (now uses) ≤ length (now places)) ⌝ }
+    requires { ⌜ HitsFit (sceneOf (now points) (now uses) (now kinds) (now numbers)) (length (now distances)) (length (now places)) ⌝ }
     ensures { λ r. ⌜ r ≡ skyOf (sceneOf (now (points .entry)) (now (uses .entry)) (now (kinds .entry)) (now (numbers .entry))) setting surface ⌝ }
 {
     let seen = see_sky(
@@ -302,7 +302,7 @@ fn see_sky(
     places: &mut [usize],
 ) -> Seen
     requires { ⌜ Sound (sceneOf (now points) (now uses) (now kinds) (now numbers)) ⌝ }
-    requires { ⌜ (length (now uses) ≤ length (now distances)) × (length (now uses) ≤ length (now places)) ⌝ }
+    requires { ⌜ HitsFit (sceneOf (now points) (now uses) (now kinds) (now numbers)) (length (now distances)) (length (now places)) ⌝ }
     ensures { λ r. ⌜ r ≡ seenOf (sceneOf (now (points .entry)) (now (uses .entry)) (now (kinds .entry)) (now (numbers .entry))) setting surface ⌝ }
 {
     let table = bounce::inner::hemisphere_table();
@@ -329,7 +329,7 @@ fn see(
     places: &mut [usize],
 ) -> Seen
     requires { ⌜ Sound (sceneOf (now points) (now uses) (now kinds) (now numbers)) ⌝ }
-    requires { ⌜ (length (now uses) ≤ length (now distances)) × (length (now uses) ≤ length (now places)) ⌝ }
+    requires { ⌜ HitsFit (sceneOf (now points) (now uses) (now kinds) (now numbers)) (length (now distances)) (length (now places)) ⌝ }
     requires { ⌜ seen .rays < 4 ⌝ }
     ensures { λ r. ⌜ r ≡ seenBy (sceneOf (now (points .entry)) (now (uses .entry)) (now (kinds .entry)) (now (numbers .entry))) ray seen ⌝ }
 {

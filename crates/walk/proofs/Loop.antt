@@ -95,8 +95,8 @@ module _ {b : BakeInput} {v₀ d₀ : List Float} {p₀ : List ℕ} {start allow
                 lamps = f .lamps;
                 lights = f .lights;
                 voxel = omega (arith, f .lights);
-                distances = omega (arith, f .distances, s .distances);
-                places = omega (arith, f .places, s .places);
+                distances = omega (arith, f .hits .0, s .distances);
+                places = omega (arith, f .hits .1, s .places);
                 out = refl;
               };
           inside = omega (arith, f .inside, f .lights, s .volume);

@@ -7,9 +7,9 @@ use lib.Ieee.{Float}
 use Rattle.lists.specs.Laid.{replaced}
 use Rattle.spread.specs.Spread.{Called, Walked}
 use Rattle.gather.specs.Gather.{GatherInput, gatheredOf, costOf, Gatherable}
-use Rattle.intake.specs.Intake.{BakeInput, voxelNumbers, voxelCount, triangleCount}
+use Rattle.intake.specs.Intake.{BakeInput, voxelNumbers, voxelCount}
 use Rattle.names.specs.Numbers.{skyNumbers, lampLimit}
-use Rattle.names.specs.Scene.{Sound}
+use Rattle.names.specs.Scene.{Sound, HitsFit}
 use Rattle.limits.specs.Limits.{lampCount}
 use Rattle.grid.specs.Grid.{AxesWithin}
 use Rattle.words.specs.Words.{Tidy}
@@ -32,8 +32,7 @@ pub record Walkable (b : BakeInput) (volume next : ℕ) : Type 0 where
   pub lamps : lampCount (b .lamps) ≤ lampLimit
   pub active : Tidy (b .active) (voxelCount b)
   pub lights : length (b .lights) ≡ voxelCount b
-  pub distances : triangleCount b ≤ b .distances
-  pub places : triangleCount b ≤ b .places
+  pub hits : HitsFit (b .scene) (b .distances) (b .places)
   pub inside : volume ≡ voxelCount b * voxelNumbers
   pub within : next ≤ voxelCount b
 

@@ -43,14 +43,18 @@ add-w c =
     let axes-fit = axes-row _ .0 (sym (g .before .bad-axes .ensures) ∙ g .if1 .left) in
     omega (arith, c .before .voxel-count .ensures, voxels-most _ axes-fit)
 
+short-hits-requires : tie.Need-short-hits-requires
+short-hits-requires c κs = search needs
+
 returns-3 : tie.Need-returns-3
 unfolding sunRefusal wrongSun
 returns-3 c =
     rw (
-      ← c .before .before .before .before .before .before .bad-axes .ensures,
-      ← c .before .before .before .before .bad-grid .ensures,
-      ← c .before .before .voxel-count .ensures,
-      ← c .before .wrong-scene .ensures,
+      ← c .before .before .before .before .before .before .before .bad-axes .ensures,
+      ← c .before .before .before .before .before .bad-grid .ensures,
+      ← c .before .before .before .voxel-count .ensures,
+      ← c .before .before .wrong-scene .ensures,
+      ← c .before .short-hits .ensures,
     )
     (search refusals depth 20)
 
@@ -61,10 +65,11 @@ returns-4 : tie.Need-returns-4
 unfolding sunRefusal wrongSun
 returns-4 c =
     rw (
-      ← c .before .before .before .before .before .before .before .before .bad-axes .ensures,
-      ← c .before .before .before .before .before .before .bad-grid .ensures,
-      ← c .before .before .before .before .voxel-count .ensures,
-      ← c .before .before .before .wrong-scene .ensures,
+      ← c .before .before .before .before .before .before .before .before .before .bad-axes .ensures,
+      ← c .before .before .before .before .before .before .before .bad-grid .ensures,
+      ← c .before .before .before .before .before .voxel-count .ensures,
+      ← c .before .before .before .before .wrong-scene .ensures,
+      ← c .before .before .before .short-hits .ensures,
       ← c .before .too-many .ensures,
     )
     (search refusals depth 20)
@@ -76,29 +81,31 @@ returns-5 : tie.Need-returns-5
 unfolding sunRefusal wrongSun
 returns-5 c =
     rw (
-      ← c .before .before .before .before .before .before .before .before .before .before .bad-axes .ensures,
-      ← c .before .before .before .before .before .before .before .before .bad-grid .ensures,
-      ← c .before .before .before .before .before .before .voxel-count .ensures,
-      ← c .before .before .before .before .before .wrong-scene .ensures,
+      ← c .before .before .before .before .before .before .before .before .before .before .before .bad-axes .ensures,
+      ← c .before .before .before .before .before .before .before .before .before .bad-grid .ensures,
+      ← c .before .before .before .before .before .before .before .voxel-count .ensures,
+      ← c .before .before .before .before .before .before .wrong-scene .ensures,
+      ← c .before .before .before .before .before .short-hits .ensures,
       ← c .before .before .before .too-many .ensures,
       ← c .before .bad-points .ensures,
     )
     (search refusals depth 20)
 
-bad-materials-requires : tie.Need-bad-materials-requires
-bad-materials-requires c κs = search needs
+bad-materials-for-requires : tie.Need-bad-materials-for-requires
+bad-materials-for-requires c κs = search needs
 
 returns-6 : tie.Need-returns-6
 unfolding sunRefusal wrongSun
 returns-6 c =
     rw (
-      ← c .before .before .before .before .before .before .before .before .before .before .before .before .bad-axes .ensures,
-      ← c .before .before .before .before .before .before .before .before .before .before .bad-grid .ensures,
-      ← c .before .before .before .before .before .before .before .before .voxel-count .ensures,
-      ← c .before .before .before .before .before .before .before .wrong-scene .ensures,
+      ← c .before .before .before .before .before .before .before .before .before .before .before .before .before .bad-axes .ensures,
+      ← c .before .before .before .before .before .before .before .before .before .before .before .bad-grid .ensures,
+      ← c .before .before .before .before .before .before .before .before .before .voxel-count .ensures,
+      ← c .before .before .before .before .before .before .before .before .wrong-scene .ensures,
+      ← c .before .before .before .before .before .before .before .short-hits .ensures,
       ← c .before .before .before .before .before .too-many .ensures,
       ← c .before .before .before .bad-points .ensures,
-      ← c .before .bad-materials .ensures,
+      ← c .before .bad-materials-for .ensures,
     )
     (search refusals depth 20)
 
@@ -109,13 +116,14 @@ returns-7 : tie.Need-returns-7
 unfolding sunRefusal wrongSun
 returns-7 c =
     rw (
-      ← c .before .before .before .before .before .before .before .before .before .before .before .before .before .before .bad-axes .ensures,
-      ← c .before .before .before .before .before .before .before .before .before .before .before .before .bad-grid .ensures,
-      ← c .before .before .before .before .before .before .before .before .before .before .voxel-count .ensures,
-      ← c .before .before .before .before .before .before .before .before .before .wrong-scene .ensures,
+      ← c .before .before .before .before .before .before .before .before .before .before .before .before .before .before .before .bad-axes .ensures,
+      ← c .before .before .before .before .before .before .before .before .before .before .before .before .before .bad-grid .ensures,
+      ← c .before .before .before .before .before .before .before .before .before .before .before .voxel-count .ensures,
+      ← c .before .before .before .before .before .before .before .before .before .before .wrong-scene .ensures,
+      ← c .before .before .before .before .before .before .before .before .before .short-hits .ensures,
       ← c .before .before .before .before .before .before .before .too-many .ensures,
       ← c .before .before .before .before .before .bad-points .ensures,
-      ← c .before .before .before .bad-materials .ensures,
+      ← c .before .before .before .bad-materials-for .ensures,
       ← c .before .bad-direction .ensures,
     )
     (search refusals depth 20)
@@ -125,22 +133,23 @@ unused-set-requires : tie.Need-unused-set-requires
 unfolding wrongSun
 unused-set-requires c κs =
     let w = c .before .before .before .before .before .before .before .before in
-    let v = w .before .before in
+    let v = w .before .before .before in
     let a = v .before .before .before .before .before .before .before .before .before .before .args in
-    words-long (v .voxel-count .result) (sceneOf (a .points .now) (a .uses .now) (a .kinds .now) (a .numbers .now)) (length (a .active .now)) (a .lights) (a .scratches) (a .distances) (a .places)
-    (rw (← w .before .wrong-scene .ensures) (w .if3 .left))
+    words-long (a .solid) (v .voxel-count .result) (sceneOf (a .points .now) (a .uses .now) (a .kinds .now) (a .numbers .now)) (length (a .active .now)) (a .lights) (a .scratches) (a .distances) (a .places)
+    (rw (← w .before .before .wrong-scene .ensures, ← w .before .short-hits .ensures) (w .if3 .left))
 
 returns-8 : tie.Need-returns-8
 unfolding sunRefusal wrongSun
 returns-8 c =
     rw (
-      ← c .before .before .before .before .before .before .before .before .before .before .before .before .before .before .before .before .bad-axes .ensures,
-      ← c .before .before .before .before .before .before .before .before .before .before .before .before .before .before .bad-grid .ensures,
-      ← c .before .before .before .before .before .before .before .before .before .before .before .before .voxel-count .ensures,
-      ← c .before .before .before .before .before .before .before .before .before .before .before .wrong-scene .ensures,
+      ← c .before .before .before .before .before .before .before .before .before .before .before .before .before .before .before .before .before .bad-axes .ensures,
+      ← c .before .before .before .before .before .before .before .before .before .before .before .before .before .before .before .bad-grid .ensures,
+      ← c .before .before .before .before .before .before .before .before .before .before .before .before .before .voxel-count .ensures,
+      ← c .before .before .before .before .before .before .before .before .before .before .before .before .wrong-scene .ensures,
+      ← c .before .before .before .before .before .before .before .before .before .before .before .short-hits .ensures,
       ← c .before .before .before .before .before .before .before .before .before .too-many .ensures,
       ← c .before .before .before .before .before .before .before .bad-points .ensures,
-      ← c .before .before .before .before .before .bad-materials .ensures,
+      ← c .before .before .before .before .before .bad-materials-for .ensures,
       ← c .before .before .before .bad-direction .ensures,
       ← c .before .unused-set .ensures,
     )
@@ -150,13 +159,14 @@ returns-9 : tie.Need-returns-9
 unfolding sunRefusal wrongSun
 returns-9 c =
     rw (
-      ← c .before .before .before .before .before .before .before .before .before .before .before .before .before .before .before .before .bad-axes .ensures,
-      ← c .before .before .before .before .before .before .before .before .before .before .before .before .before .before .bad-grid .ensures,
-      ← c .before .before .before .before .before .before .before .before .before .before .before .before .voxel-count .ensures,
-      ← c .before .before .before .before .before .before .before .before .before .before .before .wrong-scene .ensures,
+      ← c .before .before .before .before .before .before .before .before .before .before .before .before .before .before .before .before .before .bad-axes .ensures,
+      ← c .before .before .before .before .before .before .before .before .before .before .before .before .before .before .before .bad-grid .ensures,
+      ← c .before .before .before .before .before .before .before .before .before .before .before .before .before .voxel-count .ensures,
+      ← c .before .before .before .before .before .before .before .before .before .before .before .before .wrong-scene .ensures,
+      ← c .before .before .before .before .before .before .before .before .before .before .before .short-hits .ensures,
       ← c .before .before .before .before .before .before .before .before .before .too-many .ensures,
       ← c .before .before .before .before .before .before .before .bad-points .ensures,
-      ← c .before .before .before .before .before .bad-materials .ensures,
+      ← c .before .before .before .before .before .bad-materials-for .ensures,
       ← c .before .before .before .bad-direction .ensures,
       ← c .before .unused-set .ensures,
     )
@@ -173,12 +183,13 @@ judge-spec =
     voxel-count-requires
     wrong-scene-requires
     add-w
+    short-hits-requires
     returns-3
     too-many-requires
     returns-4
     bad-points-requires
     returns-5
-    bad-materials-requires
+    bad-materials-for-requires
     returns-6
     bad-direction-requires
     returns-7

@@ -12,7 +12,7 @@ ray-from-requires c κs = search needs
 transmittance-requires : tie.Need-transmittance-requires
 transmittance-requires c κs =
     let p = c .before .before .before .before .before .before .before .before .before .before .pre .0 in
-    (p .scene-fits, (p .distances-fit, p .places-fit))
+    (p .scene-fits, p .hits-fit)
 
 same-length : tie.Need-same-length
 same-length c = search needs

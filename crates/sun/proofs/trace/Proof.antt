@@ -81,8 +81,7 @@ seen-requires c κs =
       record {
         axes-fit = p .axes-fit;
         scene-fits = p .scene-fits;
-        distances-fit = omega (arith, p .distances-fit, a .loop .inv .2);
-        places-fit = omega (arith, p .places-fit, a .loop .inv .3);
+        hits-fit = (omega (arith, p .hits-fit .0, a .loop .inv .2), omega (arith, p .hits-fit .1, a .loop .inv .3));
       },
       omega (arith, a .loop .inv .0),
     )

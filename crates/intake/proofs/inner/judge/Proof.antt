@@ -69,8 +69,8 @@ returns-5 c =
     (row-passed _ _ _ _ (sym (c .before .before .before .too-many .ensures) ∙ c .before .before .if4 .left)
     (row-holds _ _ _ (sym (c .before .bad-points .ensures) ∙ c .if5 .taken)))))
 
-bad-materials-requires : tie.Need-bad-materials-requires
-bad-materials-requires c κs = search needs
+bad-materials-for-requires : tie.Need-bad-materials-for-requires
+bad-materials-for-requires c κs = search needs
 
 returns-6 : tie.Need-returns-6
 unfolding bakeRefusal bakeRows
@@ -80,7 +80,7 @@ returns-6 c =
     (row-passed _ _ _ _ (lists-row _ _ (c .before .before .before .before .before .before .before .before .before .voxel-count .ensures) (c .before .before .before .before .before .before .before .before .wrong-scene .ensures) (c .before .before .before .before .before .before .before .wrong-lengths .ensures) (c .before .before .before .before .before .before .if3 .left))
     (row-passed _ _ _ _ (sym (c .before .before .before .before .before .too-many .ensures) ∙ c .before .before .before .before .if4 .left)
     (row-passed _ _ _ _ (sym (c .before .before .before .bad-points .ensures) ∙ c .before .before .if5 .left)
-    (row-holds _ _ _ (sym (c .before .bad-materials .ensures) ∙ c .if6 .taken))))))
+    (row-holds _ _ _ (sym (c .before .bad-materials-for .ensures) ∙ c .if6 .taken))))))
 
 bad-lighting-requires : tie.Need-bad-lighting-requires
 bad-lighting-requires c κs = search needs
@@ -93,7 +93,7 @@ returns-7 c =
     (row-passed _ _ _ _ (lists-row _ _ (c .before .before .before .before .before .before .before .before .before .before .before .voxel-count .ensures) (c .before .before .before .before .before .before .before .before .before .before .wrong-scene .ensures) (c .before .before .before .before .before .before .before .before .before .wrong-lengths .ensures) (c .before .before .before .before .before .before .before .before .if3 .left))
     (row-passed _ _ _ _ (sym (c .before .before .before .before .before .before .before .too-many .ensures) ∙ c .before .before .before .before .before .before .if4 .left)
     (row-passed _ _ _ _ (sym (c .before .before .before .before .before .bad-points .ensures) ∙ c .before .before .before .before .if5 .left)
-    (row-passed _ _ _ _ (sym (c .before .before .before .bad-materials .ensures) ∙ c .before .before .if6 .left)
+    (row-passed _ _ _ _ (sym (c .before .before .before .bad-materials-for .ensures) ∙ c .before .before .if6 .left)
     (row-holds _ _ _ (sym (c .before .bad-lighting .ensures) ∙ c .if7 .taken)))))))
 
 bad-lamps-requires : tie.Need-bad-lamps-requires
@@ -107,7 +107,7 @@ returns-8 c =
     (row-passed _ _ _ _ (lists-row _ _ (c .before .before .before .before .before .before .before .before .before .before .before .before .before .voxel-count .ensures) (c .before .before .before .before .before .before .before .before .before .before .before .before .wrong-scene .ensures) (c .before .before .before .before .before .before .before .before .before .before .before .wrong-lengths .ensures) (c .before .before .before .before .before .before .before .before .before .before .if3 .left))
     (row-passed _ _ _ _ (sym (c .before .before .before .before .before .before .before .before .before .too-many .ensures) ∙ c .before .before .before .before .before .before .before .before .if4 .left)
     (row-passed _ _ _ _ (sym (c .before .before .before .before .before .before .before .bad-points .ensures) ∙ c .before .before .before .before .before .before .if5 .left)
-    (row-passed _ _ _ _ (sym (c .before .before .before .before .before .bad-materials .ensures) ∙ c .before .before .before .before .if6 .left)
+    (row-passed _ _ _ _ (sym (c .before .before .before .before .before .bad-materials-for .ensures) ∙ c .before .before .before .before .if6 .left)
     (row-passed _ _ _ _ (sym (c .before .before .before .bad-lighting .ensures) ∙ c .before .before .if7 .left)
     (row-holds _ _ _ (sym (c .before .bad-lamps .ensures) ∙ c .if8 .taken))))))))
 
@@ -131,7 +131,7 @@ returns-9 c =
     (row-passed _ _ _ _ (lists-row _ _ (c .before .before .before .before .before .before .before .before .before .before .before .before .before .before .before .before .voxel-count .ensures) (c .before .before .before .before .before .before .before .before .before .before .before .before .before .before .before .wrong-scene .ensures) (c .before .before .before .before .before .before .before .before .before .before .before .before .before .before .wrong-lengths .ensures) (c .before .before .before .before .before .before .before .before .before .before .before .before .before .if3 .left))
     (row-passed _ _ _ _ (sym (c .before .before .before .before .before .before .before .before .before .before .before .before .too-many .ensures) ∙ c .before .before .before .before .before .before .before .before .before .before .before .if4 .left)
     (row-passed _ _ _ _ (sym (c .before .before .before .before .before .before .before .before .before .before .bad-points .ensures) ∙ c .before .before .before .before .before .before .before .before .before .if5 .left)
-    (row-passed _ _ _ _ (sym (c .before .before .before .before .before .before .before .before .bad-materials .ensures) ∙ c .before .before .before .before .before .before .before .if6 .left)
+    (row-passed _ _ _ _ (sym (c .before .before .before .before .before .before .before .before .bad-materials-for .ensures) ∙ c .before .before .before .before .before .before .before .if6 .left)
     (row-passed _ _ _ _ (sym (c .before .before .before .before .before .before .bad-lighting .ensures) ∙ c .before .before .before .before .before .if7 .left)
     (row-passed _ _ _ _ (sym (c .before .before .before .before .bad-lamps .ensures) ∙ c .before .before .before .if8 .left)
     (row-holds _ _ _ (rw (c .before .before .before .before .before .before .before .before .before .before .before .before .before .before .before .before .voxel-count .ensures) at (sym (c .before .bad-progress .ensures) ∙ c .if9 .taken))))))))))
@@ -144,7 +144,7 @@ returns-10 c =
     (row-passed _ _ _ _ (lists-row _ _ (c .before .before .before .before .before .before .before .before .before .before .before .before .before .before .before .before .before .voxel-count .ensures) (c .before .before .before .before .before .before .before .before .before .before .before .before .before .before .before .before .wrong-scene .ensures) (c .before .before .before .before .before .before .before .before .before .before .before .before .before .before .before .wrong-lengths .ensures) (c .before .before .before .before .before .before .before .before .before .before .before .before .before .before .if3 .left))
     (row-passed _ _ _ _ (sym (c .before .before .before .before .before .before .before .before .before .before .before .before .before .too-many .ensures) ∙ c .before .before .before .before .before .before .before .before .before .before .before .before .if4 .left)
     (row-passed _ _ _ _ (sym (c .before .before .before .before .before .before .before .before .before .before .before .bad-points .ensures) ∙ c .before .before .before .before .before .before .before .before .before .before .if5 .left)
-    (row-passed _ _ _ _ (sym (c .before .before .before .before .before .before .before .before .before .bad-materials .ensures) ∙ c .before .before .before .before .before .before .before .before .if6 .left)
+    (row-passed _ _ _ _ (sym (c .before .before .before .before .before .before .before .before .before .bad-materials-for .ensures) ∙ c .before .before .before .before .before .before .before .before .if6 .left)
     (row-passed _ _ _ _ (sym (c .before .before .before .before .before .before .before .bad-lighting .ensures) ∙ c .before .before .before .before .before .before .if7 .left)
     (row-passed _ _ _ _ (sym (c .before .before .before .before .before .bad-lamps .ensures) ∙ c .before .before .before .before .if8 .left)
     (row-passed _ _ _ _ (rw (c .before .before .before .before .before .before .before .before .before .before .before .before .before .before .before .before .before .voxel-count .ensures) at (sym (c .before .before .bad-progress .ensures) ∙ c .before .if9 .left))
@@ -163,7 +163,7 @@ returns-11 c =
     (row-passed _ _ _ _ (lists-row _ _ (c .before .before .before .before .before .before .before .before .before .before .before .before .before .before .before .before .before .before .before .voxel-count .ensures) (c .before .before .before .before .before .before .before .before .before .before .before .before .before .before .before .before .before .before .wrong-scene .ensures) (c .before .before .before .before .before .before .before .before .before .before .before .before .before .before .before .before .before .wrong-lengths .ensures) (c .before .before .before .before .before .before .before .before .before .before .before .before .before .before .before .before .if3 .left))
     (row-passed _ _ _ _ (sym (c .before .before .before .before .before .before .before .before .before .before .before .before .before .before .before .too-many .ensures) ∙ c .before .before .before .before .before .before .before .before .before .before .before .before .before .before .if4 .left)
     (row-passed _ _ _ _ (sym (c .before .before .before .before .before .before .before .before .before .before .before .before .before .bad-points .ensures) ∙ c .before .before .before .before .before .before .before .before .before .before .before .before .if5 .left)
-    (row-passed _ _ _ _ (sym (c .before .before .before .before .before .before .before .before .before .before .before .bad-materials .ensures) ∙ c .before .before .before .before .before .before .before .before .before .before .if6 .left)
+    (row-passed _ _ _ _ (sym (c .before .before .before .before .before .before .before .before .before .before .before .bad-materials-for .ensures) ∙ c .before .before .before .before .before .before .before .before .before .before .if6 .left)
     (row-passed _ _ _ _ (sym (c .before .before .before .before .before .before .before .before .before .bad-lighting .ensures) ∙ c .before .before .before .before .before .before .before .before .if7 .left)
     (row-passed _ _ _ _ (sym (c .before .before .before .before .before .before .before .bad-lamps .ensures) ∙ c .before .before .before .before .before .before .if8 .left)
     (row-passed _ _ _ _ (rw (c .before .before .before .before .before .before .before .before .before .before .before .before .before .before .before .before .before .before .before .voxel-count .ensures) at (sym (c .before .before .before .before .bad-progress .ensures) ∙ c .before .before .before .if9 .left))
@@ -178,7 +178,7 @@ returns-12 c =
     (row-passed _ _ _ _ (lists-row _ _ (c .before .before .before .before .before .before .before .before .before .before .before .before .before .before .before .before .before .before .before .voxel-count .ensures) (c .before .before .before .before .before .before .before .before .before .before .before .before .before .before .before .before .before .before .wrong-scene .ensures) (c .before .before .before .before .before .before .before .before .before .before .before .before .before .before .before .before .before .wrong-lengths .ensures) (c .before .before .before .before .before .before .before .before .before .before .before .before .before .before .before .before .if3 .left))
     (row-passed _ _ _ _ (sym (c .before .before .before .before .before .before .before .before .before .before .before .before .before .before .before .too-many .ensures) ∙ c .before .before .before .before .before .before .before .before .before .before .before .before .before .before .if4 .left)
     (row-passed _ _ _ _ (sym (c .before .before .before .before .before .before .before .before .before .before .before .before .before .bad-points .ensures) ∙ c .before .before .before .before .before .before .before .before .before .before .before .before .if5 .left)
-    (row-passed _ _ _ _ (sym (c .before .before .before .before .before .before .before .before .before .before .before .bad-materials .ensures) ∙ c .before .before .before .before .before .before .before .before .before .before .if6 .left)
+    (row-passed _ _ _ _ (sym (c .before .before .before .before .before .before .before .before .before .before .before .bad-materials-for .ensures) ∙ c .before .before .before .before .before .before .before .before .before .before .if6 .left)
     (row-passed _ _ _ _ (sym (c .before .before .before .before .before .before .before .before .before .bad-lighting .ensures) ∙ c .before .before .before .before .before .before .before .before .if7 .left)
     (row-passed _ _ _ _ (sym (c .before .before .before .before .before .before .before .bad-lamps .ensures) ∙ c .before .before .before .before .before .before .if8 .left)
     (row-passed _ _ _ _ (rw (c .before .before .before .before .before .before .before .before .before .before .before .before .before .before .before .before .before .before .before .voxel-count .ensures) at (sym (c .before .before .before .before .bad-progress .ensures) ∙ c .before .before .before .if9 .left))
@@ -202,7 +202,7 @@ judge-spec =
     returns-4
     bad-points-requires
     returns-5
-    bad-materials-requires
+    bad-materials-for-requires
     returns-6
     bad-lighting-requires
     returns-7
