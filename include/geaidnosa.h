@@ -1,4 +1,4 @@
-/* Geaidnosa 0.5.0: the public calls of the light bake, for C and C++ on x86-64. Link libgeaidnosa.a.
+/* Geaidnosa 0.6.0: the public calls of the light bake, for C and C++ on x86-64. Link libgeaidnosa.a.
  *
  * A bake, call by call. geaidnosa_masks marks the voxels at and near surfaces; geaidnosa_sun finds how much of the sun each of them sees;
  * geaidnosa_directions gives the directions along which the caller fills the sky; geaidnosa_bake, called until its progress is at the voxel count, fills the
@@ -40,6 +40,10 @@
  *      panel round swap two corners of each of its triangles; a second one back to back with it makes an opaque surface. Masks ask for no material: a panel
  *      occupies voxels whichever way it is turned.
  *
+ * Solid walls. Where every material in the list is of kind 0, used or not, geaidnosa_solid_transmittance, geaidnosa_solid_sun and geaidnosa_solid_bake
+ * do the work of the calls of those names without `solid_`, and take no hit scratch: a ray to the sun, the sky or a lamp ends at the first hit that is found.
+ * Answer, rays, progress and every list come out bit for bit as by the other call, so that a bake may be begun by one of the two and gone on with by the other.
+ *
  * Ownership. Every list is the caller's, lent for the one call as a pointer and a count of its elements (of a mask: words); no call keeps a pointer, allocates or frees.
  * A pointer is never null and is aligned for its type, also where the count is 0. No list that a call writes may overlap another list of that call.
  *
@@ -55,7 +59,7 @@
  *    3  a lent list of the wrong length
  *    4  more than 4,096 triangles or 256 materials
  *    5  a triangle's point not finite or beyond 4,096 in magnitude
- *    6  a kind above 2, a material's colour not finite or beyond 65,536 in magnitude, a transmission outside 0..1, an index past the materials
+ *    6  a kind above 2 (in a solid call above 0), a material's colour not finite or beyond 65,536 in magnitude, a transmission outside 0..1, an index past the materials
  *    7  a light direction with a component beyond 4,096 or of squared length 1e-12 or less; a light, ambient or sky number not finite or beyond 65,536
  *    8  a ray's origin beyond 65,536, direction beyond 2, shortest distance outside 0..65,536, or longest distance NaN
  *    9  progress with next above the voxel count, or with rays below 64 or above 384 + 64·lamps for each active voxel below next
@@ -76,7 +80,7 @@
  *   sky, and the list of directions   1,728: three numbers of direction i of set s from 3·(64·s + i) on
  *   lamps       6 a lamp, none to eight: position x y z, colour RGB; any multiple of 6 is a length
  *   positions   three a position: x y z                                    answers  one a position for light, sixteen for coefficients
- *   distances, places   hit scratch, each at least T
+ *   distances, places   hit scratch, each at least T; the solid calls take none
  * Hit scratch is open after a call that traced rays: the contents are no one's promise. Where a call refuses, or fires no ray, it is as it was.
  */
 #ifndef GEAIDNOSA_H
@@ -92,10 +96,10 @@ extern "C" {
 /* ---- the version: below 1.0 a new second number may change a call */
 
 #define GEAIDNOSA_VERSION_MAJOR 0
-#define GEAIDNOSA_VERSION_MINOR 5
+#define GEAIDNOSA_VERSION_MINOR 6
 #define GEAIDNOSA_VERSION_PATCH 0
-#define GEAIDNOSA_VERSION "0.5.0"
-#define GEAIDNOSA_VERSION_NUMBER 5000 /* major·1,000,000 + minor·1,000 + patch */
+#define GEAIDNOSA_VERSION "0.6.0"
+#define GEAIDNOSA_VERSION_NUMBER 6000 /* major·1,000,000 + minor·1,000 + patch */
 
 /* ---- the limit */
 
@@ -274,6 +278,14 @@ GeaidnosaTransmitted geaidnosa_transmittance(
     float *distances, size_t distances_length,
     size_t *places, size_t places_length);
 
+/* The same where every material is of kind 0, without hit scratch: 0 where the ray meets a triangle, else 1. Writes nothing. Refuses 3, 4, 5, 6 (any other kind too), 8. */
+GeaidnosaTransmitted geaidnosa_solid_transmittance(
+    const float *points, size_t points_length,
+    const uint32_t *uses, size_t uses_length,
+    const uint8_t *kinds, size_t kinds_length,
+    const float *numbers, size_t numbers_length,
+    GeaidnosaRay ray);
+
 /* ---- masks, blurs and the sun */
 
 /* Fills both masks whatever stood there: occupied where a triangle's sample lies in the voxel, whatever its material and side, active within two voxels of
@@ -314,6 +326,20 @@ GeaidnosaSunned geaidnosa_sun(
     float *distances, size_t distances_length,
     size_t *places, size_t places_length);
 
+/* The same where every material is of kind 0, without hit scratch: light, scratch and rays are those of geaidnosa_sun.
+ * Refuses 1, 2, 3, 4, 5, 6 (any other kind too), 7, 13. */
+GeaidnosaSunned geaidnosa_solid_sun(
+    GeaidnosaAxes axes,
+    GeaidnosaCorners corners,
+    const float *points, size_t points_length,
+    const uint32_t *uses, size_t uses_length,
+    const uint8_t *kinds, size_t kinds_length,
+    const float *numbers, size_t numbers_length,
+    GeaidnosaVec3 direction,
+    const uint64_t *active, size_t active_length,
+    float *light, size_t light_length,
+    float *scratch, size_t scratch_length);
+
 /* ---- the bake */
 
 /* Bakes the volume from progress on: an active voxel is taken while at least 384 + 64·lamps rays of the allowance remain. Begin at {0, 0}, and call again
@@ -340,6 +366,26 @@ GeaidnosaBakeAnswer geaidnosa_bake(
     float *scratch, size_t scratch_length,
     float *distances, size_t distances_length,
     size_t *places, size_t places_length,
+    GeaidnosaProgress progress,
+    uint64_t allowance);
+
+/* The same where every material is of kind 0, without hit scratch: volume, scratch, progress and rays are those of geaidnosa_bake, call for call. A progress
+ * that either has answered is good for both. Refuses 1, 2, 3, 4, 5, 6 (any other kind too), 7, 19, 9, 10, 13. */
+GeaidnosaBakeAnswer geaidnosa_solid_bake(
+    GeaidnosaAxes axes,
+    GeaidnosaCorners corners,
+    const float *points, size_t points_length,
+    const uint32_t *uses, size_t uses_length,
+    const uint8_t *kinds, size_t kinds_length,
+    const float *numbers, size_t numbers_length,
+    GeaidnosaLight light,
+    GeaidnosaAmbient ambient,
+    const float *sky, size_t sky_length,
+    const float *lamps, size_t lamps_length,
+    const uint64_t *active, size_t active_length,
+    const float *lights, size_t lights_length,
+    float *volume, size_t volume_length,
+    float *scratch, size_t scratch_length,
     GeaidnosaProgress progress,
     uint64_t allowance);
 

@@ -4,20 +4,20 @@
 ghost use Rattle.names.specs.Scene.{sceneOf};
 ghost use lib.ListN.{length};
 ghost use mathlib.Core.Path.{_≡_};
-ghost use mathlib.Core.Bool.{cond};
+ghost use mathlib.Core.Bool.{false, cond};
 ghost use Rattle.floats.specs.Choice.{magnitudeOf, largerOf, smallerOf};
 ghost use Rattle.floats.specs.Patterns.{onBits, onBoth};
 ghost use Rattle.floats.specs.Root.{rootOf};
 ghost use Rattle.floats.specs.Whole.{floorOf, ceilingOf};
 ghost use Rattle.directions.specs.Sets.{setOf};
 ghost use Rattle.directions.specs.Filled.{DirectionsFilled};
-ghost use Rattle.rays.specs.Rays.{refusedValues, hitValues, valuesOfMet, valuesOfFound, TransmittanceAnswered};
+ghost use Rattle.rays.specs.Rays.{refusedValues, hitValues, valuesOfMet, valuesOfFound, TransmittanceAnswered, SolidTransmittanceAnswered};
 ghost use Rattle.masks.specs.Masks.{MasksFilled};
 ghost use Rattle.blurs.specs.Blurs.{LightBlurred, CoefficientsBlurred};
-ghost use Rattle.sun.specs.Sun.{SunAnswered};
+ghost use Rattle.sun.specs.Sun.{SunAnswered, SolidSunAnswered};
 ghost use Rattle.spread.specs.Spread.{stage};
-ghost use Rattle.intake.specs.Intake.{inputOf};
-ghost use Rattle.bake.specs.Baked.{Baked};
+ghost use Rattle.intake.specs.Intake.{inputOf, solidInput};
+ghost use Rattle.bake.specs.Baked.{Baked, SolidBaked};
 ghost use Rattle.join.specs.Join.{Joined};
 ghost use Rattle.lookup.specs.Lookup.{LightLookedUp, CoefficientsLookedUp, PartJudged};
 ghost use Rattle.frames.specs.Frames.{LightsFramed, CoefficientsFramed};
@@ -66,8 +66,8 @@ pub struct PartStart {
 
 // ---- the version
 
-// 0.5.0: major·1,000,000 + minor·1,000 + patch, as GEAIDNOSA_VERSION_NUMBER in the header.
-const VERSION: u32 = 5000;
+// 0.6.0: major·1,000,000 + minor·1,000 + patch, as GEAIDNOSA_VERSION_NUMBER in the header.
+const VERSION: u32 = 6000;
 
 #[no_mangle]
 pub extern "C" fn geaidnosa_version() -> u32
@@ -129,6 +129,19 @@ pub extern "C" fn geaidnosa_transmittance(
     rays::transmittance(points, uses, kinds, numbers, ray, distances, places)
 }
 
+#[no_mangle]
+pub extern "C" fn geaidnosa_solid_transmittance(
+    points: &[f32],
+    uses: &[u32],
+    kinds: &[u8],
+    numbers: &[f32],
+    ray: Ray,
+) -> Transmitted
+    ensures { λ r. ⌜ SolidTransmittanceAnswered (sceneOf (now (points .entry)) (now (uses .entry)) (now (kinds .entry)) (now (numbers .entry))) ray r ⌝ }
+{
+    rays::solid_transmittance(points, uses, kinds, numbers, ray)
+}
+
 // ---- masks, blurs and the sun
 
 #[no_mangle]
@@ -177,7 +190,7 @@ pub extern "C" fn geaidnosa_sun(
     distances: &mut [f32],
     places: &mut [usize],
 ) -> Sunned
-    ensures { λ r. ⌜ SunAnswered axes corners (sceneOf (now (points .entry)) (now (uses .entry)) (now (kinds .entry)) (now (numbers .entry))) direction (now (active .entry)) (now (light .entry)) (now (scratch .entry)) (now (distances .entry)) (now (places .entry)) r (now (light .exit)) (now (scratch .exit)) (now (distances .exit)) (now (places .exit)) ⌝ }
+    ensures { λ r. ⌜ SunAnswered false axes corners (sceneOf (now (points .entry)) (now (uses .entry)) (now (kinds .entry)) (now (numbers .entry))) direction (now (active .entry)) (now (light .entry)) (now (scratch .entry)) (now (distances .entry)) (now (places .entry)) r (now (light .exit)) (now (scratch .exit)) (now (distances .exit)) (now (places .exit)) ⌝ }
 {
     sun::sun(
         axes,
@@ -192,6 +205,35 @@ pub extern "C" fn geaidnosa_sun(
         scratch,
         distances,
         places,
+    )
+}
+
+#[no_mangle]
+pub extern "C" fn geaidnosa_solid_sun(
+    axes: Axes,
+    corners: Corners,
+    points: &[f32],
+    uses: &[u32],
+    kinds: &[u8],
+    numbers: &[f32],
+    direction: Vec3,
+    active: &[u64],
+    light: &mut [f32],
+    scratch: &mut [f32],
+) -> Sunned
+    ensures { λ r. ⌜ SolidSunAnswered axes corners (sceneOf (now (points .entry)) (now (uses .entry)) (now (kinds .entry)) (now (numbers .entry))) direction (now (active .entry)) (now (light .entry)) (now (scratch .entry)) r (now (light .exit)) (now (scratch .exit)) ⌝ }
+{
+    sun::solid_sun(
+        axes,
+        corners,
+        points,
+        uses,
+        kinds,
+        numbers,
+        direction,
+        active,
+        light,
+        scratch,
     )
 }
 
@@ -242,6 +284,51 @@ pub extern "C" fn geaidnosa_bake(
         scratch,
         distances,
         places,
+        progress,
+        allowance,
+    )
+}
+
+#[no_mangle]
+pub extern "C" fn geaidnosa_solid_bake(
+    axes: Axes,
+    corners: Corners,
+    points: &[f32],
+    uses: &[u32],
+    kinds: &[u8],
+    numbers: &[f32],
+    light: Light,
+    ambient: Ambient,
+    sky: &[f32],
+    lamps: &[f32],
+    active: &[u64],
+    lights: &[f32],
+    volume: &mut [f32],
+    scratch: &mut [f32],
+    progress: Progress,
+    allowance: u64,
+) -> BakeAnswer
+    ensures { λ r. ⌜ SolidBaked
+        (solidInput axes corners (sceneOf (now (points .entry)) (now (uses .entry)) (now (kinds .entry)) (now (numbers .entry)))
+        light ambient (now (sky .entry)) (now (lamps .entry)) (now (active .entry)) (now (lights .entry)))
+        (stage progress (now (volume .entry)) (now (scratch .entry))) allowance
+        r (now (volume .exit)) (now (scratch .exit)) ⌝ }
+{
+    bake::solid_bake(
+        axes,
+        corners,
+        points,
+        uses,
+        kinds,
+        numbers,
+        light,
+        ambient,
+        sky,
+        lamps,
+        active,
+        lights,
+        volume,
+        scratch,
         progress,
         allowance,
     )
