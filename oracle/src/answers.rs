@@ -6,7 +6,7 @@ use crate::scene::Scene;
 use crate::voxelgrid::VoxelGrid;
 use crate::watch::{self, Fired};
 use crate::worlds::voxels;
-use crate::{gi, table, words};
+use crate::{gi, solid, table, words};
 use glam::{Vec3A, Vec4};
 
 pub fn vector(v: &[f32]) -> Vec3A {
@@ -116,6 +116,13 @@ pub fn baked(bake: &Bake, active: Option<&[u8]>) -> Baked {
     Baked { filled, before, after, rays, rays_of, any }
 }
 
+/// The same for C-22's engine: what the Rust gives, each transmittance in it held to the first hit.
+pub fn solid_baked(bake: &Bake, active: Option<&[u8]>) -> Baked {
+    let figures = baked(bake, active);
+    solid::hold_all(&bake.lists, &figures.rays);
+    figures
+}
+
 pub fn blurred_volume(grid: &Grid, volume: &[f32]) -> Vec<f32> {
     let mut voxels = voxel_grid(grid);
     voxels.set_all_gi_sh4(packed(volume));
@@ -212,6 +219,17 @@ pub fn answer(call: &Call) -> Answer {
             );
             Answer { words: vec![0, word(value)], lists: vec![] }
         }
+        Call::SolidTransmittance { lists, ray } => {
+            if !good {
+                return Answer { words: vec![refusal, 0], lists: vec![] };
+            }
+            let scene = bare(lists);
+            let tracer = RayTracer::new(&scene);
+            let fired = Fired { voxel: 0, kind: 1, origin: vector(&ray.origin), direction: vector(&ray.direction), shortest: ray.shortest, longest: ray.longest };
+            let value = tracer.trace_transmittance(fired.origin, fired.direction, &scene, fired.shortest, fired.longest);
+            solid::hold(&tracer, &fired, value);
+            Answer { words: vec![0, word(value)], lists: vec![] }
+        }
         Call::Masks { grid, points, occupied, active } => {
             if !good {
                 return Answer { words: vec![refusal, 0, 0], lists: [occupied, active].map(|mask| words::read_back(&words::lent(mask), mask.len())).to_vec() };
@@ -265,10 +283,26 @@ pub fn answer(call: &Call) -> Answer {
             let [low, high] = low_high(count);
             Answer { words: vec![0, low, high], lists: after }
         }
+        Call::SolidSun { grid, lists, direction, active, light, scratch } => {
+            if !good {
+                return Answer { words: vec![refusal, 0, 0], lists: vec![bits(light), bits(scratch)] };
+            }
+            let s = sunned(grid, lists, *direction, Some(active));
+            let tracer = RayTracer::new(&bare(lists));
+            s.rays.iter().for_each(|ray| solid::hold(&tracer, ray, s.before[ray.voxel]));
+            let held = if s.rays.is_empty() { bits(scratch) } else { bits(&s.before) };
+            let [low, high] = low_high(s.rays.len() as u64);
+            Answer { words: vec![0, low, high], lists: vec![bits(&s.after), held] }
+        }
         Call::Bake(bake) => {
             let mut after = (**bake).clone();
             let (progress, rays) = if good { bake_call(&mut after, &baked(bake, Some(&bake.active))) } else { as_handed_in(bake) };
             bake_answer(&after, refusal, progress, rays)
+        }
+        Call::SolidBake(bake) => {
+            let mut after = (**bake).clone();
+            let (progress, rays) = if good { bake_call(&mut after, &solid_baked(bake, Some(&bake.active))) } else { as_handed_in(bake) };
+            solid_answer(&after, refusal, progress, rays)
         }
         Call::LightLookup { grid, light, position } => {
             let mut words = vec![refusal, 0];
@@ -323,4 +357,10 @@ pub fn bake_answer(after: &Bake, refusal: u32, progress: Progress, rays: u64) ->
         lists.extend(scratch_words(&after.hits));
     }
     Answer { words, lists }
+}
+
+/// The answer of C-22's bake: that of the other engine, which was lent no hit scratch to be held.
+pub fn solid_answer(after: &Bake, refusal: u32, progress: Progress, rays: u64) -> Answer {
+    let answer = bake_answer(after, refusal, progress, rays);
+    Answer { words: answer.words, lists: answer.lists[..2].to_vec() }
 }

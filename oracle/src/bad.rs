@@ -60,7 +60,7 @@ fn slots(call: &mut Call, visit: Visit) {
             each(points, "point", -4096.0, 4096.0, 5, visit);
             ray_slots(ray, visit);
         }
-        Call::Nearest { lists, ray } | Call::Transmittance { lists, ray, .. } => {
+        Call::Nearest { lists, ray } | Call::Transmittance { lists, ray, .. } | Call::SolidTransmittance { lists, ray } => {
             each(&mut lists.points, "point", -4096.0, 4096.0, 5, visit);
             material_slots(lists, visit);
             ray_slots(ray, visit);
@@ -71,13 +71,13 @@ fn slots(call: &mut Call, visit: Visit) {
         }
         Call::LightBlur { light, .. } => each(light, "light", -light_bound, light_bound, 13, visit),
         Call::CoefficientBlur { volume, .. } => each(volume, "coefficient", -coefficient_bound, coefficient_bound, 13, visit),
-        Call::Sun { grid, lists, direction, .. } => {
+        Call::Sun { grid, lists, direction, .. } | Call::SolidSun { grid, lists, direction, .. } => {
             each(&mut grid.corners, "corner", -4096.0, 4096.0, 2, visit);
             each(&mut lists.points, "point", -4096.0, 4096.0, 5, visit);
             material_slots(lists, visit);
             each(direction, "light direction", -4096.0, 4096.0, 7, visit);
         }
-        Call::Bake(b) => {
+        Call::Bake(b) | Call::SolidBake(b) => {
             each(&mut b.grid.corners, "corner", -4096.0, 4096.0, 2, visit);
             each(&mut b.lists.points, "point", -4096.0, 4096.0, 5, visit);
             material_slots(&mut b.lists, visit);
@@ -117,7 +117,8 @@ fn slots(call: &mut Call, visit: Visit) {
 fn lists_of(call: &mut Call) -> Option<&mut Lists> {
     match call {
         Call::Nearest { lists, .. } | Call::Transmittance { lists, .. } | Call::Sun { lists, .. } => Some(lists),
-        Call::Bake(b) => Some(&mut b.lists),
+        Call::SolidTransmittance { lists, .. } | Call::SolidSun { lists, .. } => Some(lists),
+        Call::Bake(b) | Call::SolidBake(b) => Some(&mut b.lists),
         _ => None,
     }
 }
@@ -134,7 +135,8 @@ pub fn axes_of(call: &mut Call) -> Option<&mut [u64; 3]> {
     match call {
         Call::Masks { grid, .. } | Call::Sun { grid, .. } | Call::LightLookup { grid, .. } | Call::CoefficientLookup { grid, .. } => Some(&mut grid.axes),
         Call::LightBlur { axes, .. } | Call::CoefficientBlur { axes, .. } | Call::Part { axes, .. } => Some(axes),
-        Call::Bake(b) => Some(&mut b.grid.axes),
+        Call::SolidSun { grid, .. } => Some(&mut grid.axes),
+        Call::Bake(b) | Call::SolidBake(b) => Some(&mut b.grid.axes),
         _ => None,
     }
 }
@@ -142,23 +144,24 @@ pub fn axes_of(call: &mut Call) -> Option<&mut [u64; 3]> {
 fn grid_of(call: &mut Call) -> Option<&mut Grid> {
     match call {
         Call::Masks { grid, .. } | Call::Sun { grid, .. } | Call::LightLookup { grid, .. } | Call::CoefficientLookup { grid, .. } => Some(grid),
-        Call::Bake(b) => Some(&mut b.grid),
+        Call::SolidSun { grid, .. } => Some(grid),
+        Call::Bake(b) | Call::SolidBake(b) => Some(&mut b.grid),
         _ => None,
     }
 }
 
 fn direction_of(call: &mut Call) -> Option<&mut [f32]> {
     match call {
-        Call::Sun { direction, .. } => Some(direction),
-        Call::Bake(b) => Some(&mut b.sunlight[..3]),
+        Call::Sun { direction, .. } | Call::SolidSun { direction, .. } => Some(direction),
+        Call::Bake(b) | Call::SolidBake(b) => Some(&mut b.sunlight[..3]),
         _ => None,
     }
 }
 
 fn mask_of(call: &mut Call) -> Option<&mut Vec<u8>> {
     match call {
-        Call::Sun { active, .. } => Some(active),
-        Call::Bake(b) => Some(&mut b.active),
+        Call::Sun { active, .. } | Call::SolidSun { active, .. } => Some(active),
+        Call::Bake(b) | Call::SolidBake(b) => Some(&mut b.active),
         _ => None,
     }
 }
@@ -198,11 +201,11 @@ fn resized(call: &mut Call, which: usize, by: i64) -> Option<&'static str> {
         }
         Call::LightBlur { light, scratch, .. } => lists!(light => "light", scratch => "light scratch"),
         Call::CoefficientBlur { volume, scratch, .. } => lists!(volume => "volume", scratch => "scratch"),
-        Call::Sun { active, light, scratch, .. } => {
+        Call::Sun { active, light, scratch, .. } | Call::SolidSun { active, light, scratch, .. } => {
             masks!(active => "active");
             lists!(light => "light", scratch => "light scratch");
         }
-        Call::Bake(b) => {
+        Call::Bake(b) | Call::SolidBake(b) => {
             lists!(&mut b.sky => "sky", &mut b.lamps => "lamps");
             masks!(&mut b.active => "active");
             lists!(&mut b.light => "light", &mut b.volume => "volume", &mut b.scratch => "scratch");
@@ -373,7 +376,7 @@ pub fn changes(call: &Call, few: bool) -> Vec<Change> {
     }
     // triangles and materials
     if lists_of(&mut call.clone()).map(|l| l.uses.len()).unwrap_or(0) >= 2 {
-        let counts: &[(usize, Option<u32>)] = if matches!(call, Call::Bake(_)) { &[(4097, Some(4))] } else { &[(4097, Some(4)), (4096, None)] };
+        let counts: &[(usize, Option<u32>)] = if matches!(call, Call::Bake(_) | Call::SolidBake(_)) { &[(4097, Some(4))] } else { &[(4097, Some(4)), (4096, None)] };
         for (count, number) in counts.iter().cloned() {
             out.push(change(format!("{count} triangles"), number, move |call| {
                 grow(lists_of(call).expect("lists"), count);
@@ -454,11 +457,11 @@ pub fn changes(call: &Call, few: bool) -> Vec<Change> {
         }
     }
     // the bake's own
-    if let Call::Bake(b) = call {
+    if let Call::Bake(b) | Call::SolidBake(b) = call {
         let n = b.active.len() as u64;
         for (progress, number) in [(n + 1, Some(9)), (u64::MAX, Some(9)), (n, None), (n - 1, None)] {
             out.push(change(format!("progress := {progress}"), number, move |call| {
-                if let Call::Bake(b) = call {
+                if let Call::Bake(b) | Call::SolidBake(b) = call {
                     b.progress.next = progress;
                     if !b.volume.iter().all(|x| x.is_finite()) {
                         b.volume.fill(0.25);
@@ -469,14 +472,14 @@ pub fn changes(call: &Call, few: bool) -> Vec<Change> {
         let cost = table::cost(&b.lamps);
         for (allowance, number) in [(cost - 1, Some(10)), (0, Some(10)), (cost, None), (u64::MAX, None)] {
             out.push(change(format!("allowance := {allowance}"), number, move |call| {
-                if let Call::Bake(b) = call {
+                if let Call::Bake(b) | Call::SolidBake(b) = call {
                     b.allowance = allowance;
                 }
             }));
         }
         for progress in [0, n] {
             out.push(change(format!("NaN in the volume at progress {progress}"), None, move |call| {
-                if let Call::Bake(b) = call {
+                if let Call::Bake(b) | Call::SolidBake(b) = call {
                     b.progress.next = progress;
                     b.volume.fill(f32::NAN);
                     b.scratch.fill(f32::INFINITY);
@@ -484,7 +487,7 @@ pub fn changes(call: &Call, few: bool) -> Vec<Change> {
             }));
         }
         out.push(change("allowance one short at the end", Some(10), move |call| {
-            if let Call::Bake(b) = call {
+            if let Call::Bake(b) | Call::SolidBake(b) = call {
                 b.progress.next = n;
                 b.allowance = cost - 1;
             }
@@ -523,7 +526,7 @@ fn record_changes(bake: &Bake, few: bool) -> Vec<Change> {
             let (least, most) = progress_places::least_and_most(bake, next);
             let number = if next > n || rays < least || rays > most { Some(9) } else { None };
             let made = change(format!("record := {next}, {rays}"), number, move |call| {
-                if let Call::Bake(b) = call {
+                if let Call::Bake(b) | Call::SolidBake(b) = call {
                     b.progress = Progress { next, rays };
                     if !b.volume.iter().all(|x| x.is_finite()) {
                         b.volume.fill(0.25);
@@ -552,7 +555,7 @@ fn of_records(bake: &Bake, base: &Call, others: &[Change], few: bool) -> Vec<Bad
             .iter()
             .map(|record| applied(base, &[other, record]))
             // axes and lengths come first, and without good ones there is nothing to count
-            .filter(|both| row < 4 || matches!(&both.call, Call::Bake(b) if !progress_places::keeps(b)))
+            .filter(|both| row < 4 || matches!(&both.call, Call::Bake(b) | Call::SolidBake(b) if !progress_places::keeps(b)))
             .collect();
         let k = c.below(wrong.len());
         let both = wrong.into_iter().nth(k).expect("a record that breaks the rule");
@@ -566,7 +569,7 @@ fn of_records(bake: &Bake, base: &Call, others: &[Change], few: bool) -> Vec<Bad
 fn lamp_changes(out: &mut Vec<Change>) {
     let mut lamps = |name: &str, number: Option<u32>, make: fn(&mut Bake)| {
         out.push(change(format!("lamps: {name}"), number, move |call| {
-            if let Call::Bake(b) = call {
+            if let Call::Bake(b) | Call::SolidBake(b) = call {
                 make(b);
             }
         }))
@@ -749,7 +752,7 @@ pub fn applied(base: &Call, changes: &[&Change]) -> Bad {
 pub fn of(c: &mut Chance, base: &Call, few: bool, several: usize) -> Vec<Bad> {
     meant(table::refusal(base), 0, "a base");
     let mut all = changes(base, few);
-    if few && matches!(base, Call::Bake(b) if !b.lamps.is_empty()) {
+    if few && matches!(base, Call::Bake(b) | Call::SolidBake(b) if !b.lamps.is_empty()) {
         // beside what concerns the lamps, a fault of each row that they stand among
         let beside = ["lamp", "allowance", "progress", "sky", "coefficient", "unused bit", "NaN in the volume", "hit scratch", "kind :="];
         all.retain(|change| beside.iter().any(|name| change.name.starts_with(name)));
@@ -783,7 +786,7 @@ pub fn of(c: &mut Chance, base: &Call, few: bool, several: usize) -> Vec<Bad> {
             out.push(applied(base, &set));
         }
     }
-    if let Call::Bake(bake) = base {
+    if let Call::Bake(bake) | Call::SolidBake(bake) = base {
         out.extend(of_records(bake, base, &all, few));
     }
     out

@@ -44,6 +44,30 @@ pub enum Call {
     LightLookup { grid: Grid, light: Vec<f32>, position: [f32; 3] },
     CoefficientLookup { grid: Grid, volume: Vec<f32>, position: [f32; 3] },
     Part { axes: [u64; 3], volume: Vec<f32>, scratch: Vec<f32>, index: u64, choice: bool },
+    SolidTransmittance { lists: Lists, ray: Ray },
+    SolidSun { grid: Grid, lists: Lists, direction: [f32; 3], active: Vec<u8>, light: Vec<f32>, scratch: Vec<f32> },
+    /// Hit scratch is not lent; the list of it is empty.
+    SolidBake(Box<Bake>),
+}
+
+impl Call {
+    /// C-22's call with the same arguments but hit scratch, if there is one.
+    pub fn solid(&self) -> Option<Call> {
+        match self.clone() {
+            Call::Transmittance { lists, ray, hits: _ } => Some(Call::SolidTransmittance { lists, ray }),
+            Call::Sun { grid, lists, direction, active, light, scratch, hits: _ } => Some(Call::SolidSun { grid, lists, direction, active, light, scratch }),
+            Call::Bake(bake) => Some(Call::SolidBake(Box::new(bake.without_hits()))),
+            _ => None,
+        }
+    }
+}
+
+/// Which of the calls is made with a ray over a scene. Its number leads the ray in a record.
+#[derive(Clone, Copy, Debug, PartialEq)]
+pub enum RayCall {
+    Nearest = 0,
+    Transmittance = 1,
+    SolidTransmittance = 2,
 }
 
 /// C-16's record: the next voxel, and the rays of all calls so far.
@@ -71,6 +95,13 @@ pub struct Bake {
     pub hits: Scratch,
     pub progress: Progress,
     pub allowance: u64,
+}
+
+impl Bake {
+    /// The same bake as C-22's call takes it.
+    pub fn without_hits(&self) -> Bake {
+        Bake { hits: Scratch::default(), ..self.clone() }
+    }
 }
 
 /// What a call answers: its numbers as words, the refusal first, and every lent list afterwards, as words, in the order in which the

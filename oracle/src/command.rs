@@ -4,6 +4,7 @@ use crate::items::{self, Item, MODULES};
 use crate::panel_places;
 use crate::progress_places;
 use crate::records::Record;
+use crate::solid_places;
 use crate::scene::recorded_bits;
 use crate::watch;
 use crate::wide_places;
@@ -180,12 +181,23 @@ fn directions() -> Result<bool, String> {
 /// Every seeded scene is inside the limits, and together they reach every branch that can be reached.
 fn coverage(seeds: Range<u64>) -> Result<bool, String> {
     let mut good = true;
+    let mut both = [0; MODULES.len()];
     for seed in seeds {
-        for name in MODULES {
-            for (place, item) in items::seeded(name, seed).iter().enumerate() {
-                good &= accepted(&item.record(), &format!("{name}: record {place} of seed {seed}"))?;
+        for (which, name) in MODULES.into_iter().enumerate() {
+            let inside = items::inside(name, seed);
+            for (place, item) in inside.iter().enumerate() {
+                let made = item.record();
+                both[which] += made.both as u64;
+                good &= accepted(&made, &format!("{name}: record {place} of seed {seed}"))?;
+            }
+            for (place, item) in solid_places::refused(name, seed).iter().enumerate() {
+                let place = inside.len() + place;
+                good &= kinds_refused(&item.record(), &format!("{name}: record {place} of seed {seed}"))?;
             }
         }
+    }
+    for (name, count) in MODULES.iter().zip(both).filter(|(_, count)| *count > 0) {
+        say(&format!("{count:>12} records of {name} through both engines\n"))?;
     }
     Ok(good & report()?)
 }
@@ -195,6 +207,17 @@ fn accepted(record: &Record, what: &str) -> Result<bool, String> {
     match record.refusals.iter().find(|r| **r != 0) {
         Some(number) => {
             say(&format!("{what}: REFUSED {number}, though inside the limits\n"))?;
+            Ok(false)
+        }
+        None => Ok(true),
+    }
+}
+
+/// Whether every answer of a record is refusal 6; says which is not.
+fn kinds_refused(record: &Record, what: &str) -> Result<bool, String> {
+    match record.refusals.iter().find(|r| **r != 6) {
+        Some(number) => {
+            say(&format!("{what}: answered {number}, though a kind other than 0 stands in its list\n"))?;
             Ok(false)
         }
         None => Ok(true),
@@ -251,6 +274,11 @@ fn recorded(name: &str) -> [(bool, Vec<Item>); 6] {
     [(true, out), (false, bad), (true, wide_places::made(name)), (false, wide_places::bad(name, 0)), (true, panel_places::made(name)), (false, panel_places::bad(name, 0))]
 }
 
+/// The records of C-22's calls, which stand after all others of a program: those inside the limits, then the bad inputs.
+fn recorded_solid(name: &str) -> [(bool, Vec<Item>); 2] {
+    [(true, solid_places::made(name)), (false, solid_places::bad(name, 0))]
+}
+
 /// The program that replays a module's records: the bake's also has the rays that it fires.
 fn program(module: &str) -> &str {
     if module == "fired" { "bake" } else { module }
@@ -261,18 +289,25 @@ fn record(folder: &str, compare: bool) -> Result<bool, String> {
     let mut good = true;
     for name in MODULES.into_iter().filter(|name| program(name) == *name) {
         let parent = format!("{folder}/replay_{name}");
-        let (mut bytes, mut records, mut comparisons) = (Vec::new(), 0, 0);
-        for module in MODULES.into_iter().filter(|module| program(module) == name) {
-            let stretches = recorded(module);
-            let items = stretches.iter().flat_map(|(inside, items)| items.iter().map(move |item| (*inside, item)));
-            for (place, (inside, item)) in items.enumerate() {
+        let (mut bytes, mut records, mut comparisons, mut both) = (Vec::new(), 0, 0, 0);
+        let modules = || MODULES.into_iter().filter(|module| program(module) == name);
+        let mut stretches: Vec<(&str, bool, Vec<Item>)> = Vec::new();
+        for module in modules() {
+            stretches.extend(recorded(module).map(|(inside, items)| (module, inside, items)));
+        }
+        for module in modules() {
+            stretches.extend(recorded_solid(module).map(|(inside, items)| (module, inside, items)));
+        }
+        for (module, inside, items) in &stretches {
+            for item in items {
                 let record = item.record();
-                if inside {
-                    good &= accepted(&record, &format!("{module}: record {place}"))?;
+                if *inside {
+                    good &= accepted(&record, &format!("{module}: record {records}"))?;
                 }
                 bytes.extend(record.bytes);
                 records += 1;
                 comparisons += record.comparisons;
+                both += record.both as u64;
             }
         }
         let said = format!("{records} records, {comparisons} comparisons, all the same\n");
@@ -292,6 +327,9 @@ fn record(folder: &str, compare: bool) -> Result<bool, String> {
             say(&format!("{path}: {} bytes{verdict}\n", made.len()))?;
         }
         say(&format!("  {said}"))?;
+        if both > 0 {
+            say(&format!("  {both} of them through both engines\n"))?;
+        }
     }
     Ok(good & report()?)
 }

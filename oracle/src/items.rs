@@ -1,12 +1,13 @@
 //! What is compared, module by module: for a seed the records of one seeded scene, and for a seed of bad inputs those of one base.
 use crate::answers::{baked, sunned};
 use crate::bad;
-use crate::calls::{Bake, Call, Grid, Lists, Progress, Ray, Scratch};
+use crate::calls::{Bake, Call, Grid, Lists, Progress, Ray, RayCall, Scratch};
 use crate::chance::Chance;
 use crate::lamp_places;
 use crate::panel_places;
 use crate::progress_places;
 use crate::records::{self, Record};
+use crate::solid_places;
 use crate::table;
 use crate::wide_places;
 use crate::word_places;
@@ -15,10 +16,11 @@ use crate::worlds::{self, voxels, World};
 #[derive(Clone, Debug)]
 pub enum Item {
     One(Call),
-    Rays { lists: Lists, hits: Scratch, asked: Vec<(bool, Ray)> },
+    Rays { lists: Lists, hits: Scratch, asked: Vec<(RayCall, Ray)> },
     LightLookups { grid: Grid, light: Vec<f32>, positions: Vec<[f32; 3]> },
     CoefficientLookups { grid: Grid, volume: Vec<f32>, positions: Vec<[f32; 3]> },
     Bakes { bake: Box<Bake>, calls: Vec<(Progress, u64)> },
+    SolidBakes { bake: Box<Bake>, calls: Vec<(Progress, u64)> },
     Fired(Box<Bake>),
 }
 
@@ -30,6 +32,7 @@ impl Item {
             Item::LightLookups { grid, light, positions } => records::light_lookups(grid, light, positions),
             Item::CoefficientLookups { grid, volume, positions } => records::coefficient_lookups(grid, volume, positions),
             Item::Bakes { bake, calls } => records::bakes(bake, calls),
+            Item::SolidBakes { bake, calls } => records::solid_bakes(bake, calls),
             Item::Fired(bake) => records::fired(bake),
         }
     }
@@ -86,34 +89,44 @@ pub fn bad(module: &str, seed: u64, few: bool, several: usize) -> Vec<Item> {
     out
 }
 
-/// What of a seed is streamed: its scene's records, then those of a grid of whole words or nearly so, of a bake's progress, of a wide grid and
-/// of panels.
+/// What of a seed is streamed: all that is inside the limits, then what C-22 refuses of its scene.
 pub fn seeded(module: &str, seed: u64) -> Vec<Item> {
+    let mut out = inside(module, seed);
+    out.extend(solid_places::refused(module, seed));
+    out
+}
+
+/// What of a seed is inside the limits: its scene's records, then those of a grid of whole words or nearly so, of a bake's progress, of a wide grid, of
+/// panels and of solid walls.
+pub fn inside(module: &str, seed: u64) -> Vec<Item> {
     let mut out = good(module, seed);
     out.extend(word_places::seeded(module, seed));
     out.extend(progress_places::seeded(module, seed));
     out.extend(wide_places::seeded(module, seed));
     out.extend(panel_places::seeded(module, seed));
+    out.extend(solid_places::seeded(module, seed));
     out
 }
 
-/// The bad inputs of a seed, then those of masks in words, of a bake's progress, of axes about the limit and of kinds.
+/// The bad inputs of a seed, then those of masks in words, of a bake's progress, of axes about the limit, of kinds and of the solid calls.
 pub fn all_bad(module: &str, seed: u64, few: bool, several: usize) -> Vec<Item> {
     let mut out = bad(module, seed, few, several);
     out.extend(word_places::bad(module, seed));
     out.extend(progress_places::bad(module, seed));
     out.extend(wide_places::bad(module, seed));
     out.extend(panel_places::bad(module, seed));
+    out.extend(solid_places::bad(module, seed));
+    out.extend(solid_places::broken(module, seed, few, several));
     out
 }
 
 pub fn module_of(call: &Call) -> &'static str {
     match call {
-        Call::Triangle { .. } | Call::Nearest { .. } | Call::Transmittance { .. } => "rays",
+        Call::Triangle { .. } | Call::Nearest { .. } | Call::Transmittance { .. } | Call::SolidTransmittance { .. } => "rays",
         Call::Masks { .. } => "masks",
         Call::LightBlur { .. } | Call::CoefficientBlur { .. } => "blurs",
-        Call::Sun { .. } => "sun",
-        Call::Bake(_) => "bake",
+        Call::Sun { .. } | Call::SolidSun { .. } => "sun",
+        Call::Bake(_) | Call::SolidBake(_) => "bake",
         Call::LightLookup { .. } | Call::CoefficientLookup { .. } | Call::Part { .. } => "lookup",
     }
 }
@@ -335,7 +348,7 @@ fn stack(c: &mut Chance, sheets: usize, tied: bool, least: f32) -> Item {
         .map(|k| {
             let up = k % 2 == 0;
             let origin = [c.between(0.0, 1.0), c.between(0.0, 1.0), if up { -1.0 } else { sheets as f32 + 2.0 }];
-            (true, Ray { origin, direction: [0.0, 0.0, if up { 1.0 } else { -1.0 }], shortest: 0.0, longest: f32::INFINITY })
+            (RayCall::Transmittance, Ray { origin, direction: [0.0, 0.0, if up { 1.0 } else { -1.0 }], shortest: 0.0, longest: f32::INFINITY })
         })
         .collect();
     Item::Rays { lists, hits, asked }
@@ -425,8 +438,8 @@ fn rays(c: &mut Chance, world: &World) -> Vec<Item> {
             about.extend(worlds::rays_about(world, &ray));
         }
         for r in about {
-            asked.push((false, r));
-            asked.push((true, r));
+            asked.push((RayCall::Nearest, r));
+            asked.push((RayCall::Transmittance, r));
         }
         let t = world.lists.uses.len();
         if t > 0 {

@@ -15,6 +15,8 @@ mod progress_places;
 mod records;
 mod scene;
 mod shrink;
+mod solid;
+mod solid_places;
 mod table;
 mod text;
 mod timed;

@@ -4,7 +4,7 @@
 //!
 //! The kind of a panel is written here anew, so that what is asked does not move with what is answered.
 use crate::bad::{self, meant};
-use crate::calls::{Bake, Call, Grid, Lists, Progress, Ray};
+use crate::calls::{Bake, Call, Grid, Lists, Progress, Ray, RayCall};
 use crate::chance::Chance;
 use crate::items::{self, Item};
 use crate::lamp_places::{cross, dot, met, sub, unit};
@@ -39,7 +39,7 @@ pub fn put_up(seed: u64, lists: &mut Lists) {
 
 /// A large triangle across z, its points in one of three orders. Its front looks up; turned about, down. Its numbers are powers of two, so
 /// that a distance along z comes out the same in every order.
-fn sheet(z: f32, turned: bool, order: usize) -> [f32; 9] {
+pub fn sheet(z: f32, turned: bool, order: usize) -> [f32; 9] {
     let p = [[-4.0, -4.0, z], [12.0, -4.0, z], [-4.0, 12.0, z]];
     let way = if turned { [0, 2, 1] } else { [0, 1, 2] };
     let mut out = [0.0; 9];
@@ -62,19 +62,19 @@ fn sheets(all: &[(u8, f32, bool)]) -> Lists {
     lists
 }
 
-fn along(origin: [f32; 3], z: f32) -> Ray {
+pub fn along(origin: [f32; 3], z: f32) -> Ray {
     Ray { origin, direction: [0.0, 0.0, z], shortest: 0.0, longest: f32::INFINITY }
 }
 
 /// Down from 16 and up from −16.
-fn down_and_up() -> [Ray; 2] {
+pub fn down_and_up() -> [Ray; 2] {
     [along([0.5, 0.25, 16.0], -1.0), along([0.5, 0.25, -16.0], 1.0)]
 }
 
 /// Each ray's nearest hit and its transmittance.
 fn asked(lists: Lists, rays: &[Ray]) -> Item {
     let hits = hits(&lists);
-    Item::Rays { lists, hits, asked: rays.iter().flat_map(|ray| [(false, *ray), (true, *ray)]).collect() }
+    Item::Rays { lists, hits, asked: rays.iter().flat_map(|ray| [(RayCall::Nearest, *ray), (RayCall::Transmittance, *ray)]).collect() }
 }
 
 /// Magnitudes of det at 1e-8, next to it, and tiny.
@@ -85,7 +85,7 @@ fn dets() -> [f32; 7] {
 }
 
 /// Document 01's triangle Q, or Q turned about.
-fn q(turned: bool) -> [f32; 9] {
+pub fn q(turned: bool) -> [f32; 9] {
     if turned {
         [0.0, 0.0, 0.0, 0.0, 1.0, 0.0, 1.0, 0.0, 0.0]
     } else {
@@ -94,13 +94,13 @@ fn q(turned: bool) -> [f32; 9] {
 }
 
 /// Rays at Q from above and below whose det is each of `dets`, of either sign.
-fn at_the_limit() -> Vec<Ray> {
+pub fn at_the_limit() -> Vec<Ray> {
     dets().into_iter().flat_map(|d| [1.0, -1.0].map(|side| along([0.25, 0.25, side], -side * d))).collect()
 }
 
 /// Rays about a sheet at z = 0: from both sides, slantwise, along it, at its corner and its edges, and with bounds at the distance and one
 /// step beside it.
-fn about_a_sheet() -> Vec<Ray> {
+pub fn about_a_sheet() -> Vec<Ray> {
     let mut out = Vec::new();
     for side in [1.0f32, -1.0] {
         let straight = along([0.5, 0.25, 2.0 * side], -side);
@@ -177,7 +177,7 @@ fn meets() -> Vec<Item> {
 }
 
 /// Every order of a list.
-fn orders<T: Copy>(list: &[T]) -> Vec<Vec<T>> {
+pub fn orders<T: Copy>(list: &[T]) -> Vec<Vec<T>> {
     if list.is_empty() {
         return vec![vec![]];
     }
@@ -340,7 +340,7 @@ fn sun_call(lists: Lists, direction: [f32; 3]) -> Item {
 }
 
 /// A half of a level that the grid's rays to the sun cross, left or right of x.
-fn half(z: f32, x: f32, left: bool, turned: bool) -> [f32; 9] {
+pub fn half(z: f32, x: f32, left: bool, turned: bool) -> [f32; 9] {
     let far = if left { -300.0 } else { 300.0 };
     let points = [[x, -300.0, z], [x, 300.0, z], [x + far, 0.0, z]];
     // the front looks up
@@ -382,7 +382,7 @@ fn made_sun() -> Vec<Item> {
 }
 
 /// A box about the middle. Seen from inside, its walls are fronts where `inward`.
-fn walls(lists: &mut Lists, half: f32, inward: bool, open: Option<(usize, f32)>, material: u32) {
+pub fn walls(lists: &mut Lists, half: f32, inward: bool, open: Option<(usize, f32)>, material: u32) {
     for axis in 0..3 {
         for s in [-1.0, 1.0] {
             if open == Some((axis, s)) {
@@ -408,7 +408,7 @@ fn walls(lists: &mut Lists, half: f32, inward: bool, open: Option<(usize, f32)>,
 }
 
 /// A level across a room.
-fn level(lists: &mut Lists, z: f32, turned: bool, material: u32) {
+pub fn level(lists: &mut Lists, z: f32, turned: bool, material: u32) {
     let points = sheet(z, turned, 0);
     lists.points.extend(points.iter().enumerate().map(|(i, x)| if i % 3 == 2 { *x } else { 8.0 * x }));
     lists.uses.push(material);
@@ -554,7 +554,7 @@ pub fn seeded(module: &str, seed: u64) -> Vec<Item> {
 }
 
 /// A small world with one material of each kind, all of them used.
-fn of_each_kind(seed: u64) -> World {
+pub fn of_each_kind(seed: u64) -> World {
     let mut world = bad::base_world(seed);
     world.lists.kinds = vec![OPAQUE, TRANSLUCENT, PANEL];
     world.lists.numbers = [0.5, 0.75, 0.25].into_iter().flat_map(numbers).collect();
@@ -565,16 +565,17 @@ fn of_each_kind(seed: u64) -> World {
     world
 }
 
-fn lists_of(call: &mut Call) -> Option<&mut Lists> {
+pub fn lists_of(call: &mut Call) -> Option<&mut Lists> {
     match call {
         Call::Nearest { lists, .. } | Call::Transmittance { lists, .. } | Call::Sun { lists, .. } => Some(lists),
-        Call::Bake(bake) => Some(&mut bake.lists),
+        Call::SolidTransmittance { lists, .. } | Call::SolidSun { lists, .. } => Some(lists),
+        Call::Bake(bake) | Call::SolidBake(bake) => Some(&mut bake.lists),
         _ => None,
     }
 }
 
 /// A call with a kind at a place of its list, if the list goes so far.
-fn with_kind(call: &Call, place: usize, kind: u8) -> Call {
+pub fn with_kind(call: &Call, place: usize, kind: u8) -> Call {
     let mut call = call.clone();
     lists_of(&mut call).expect("lists").kinds.get_mut(place).into_iter().for_each(|k| *k = kind);
     call

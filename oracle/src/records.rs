@@ -7,16 +7,27 @@
 //!
 //! Beside its bytes a record says how many comparisons its program makes of it, counted here from what was recorded: one that the lists fit
 //! (not for a triangle, which has none), one for each word or group of words held to the answer, one for each list, and one where hit scratch
-//! must stand as it was.
-use crate::answers::{self, as_handed_in, bake_answer, bake_call, baked};
-use crate::calls::{bits, bytes, halves, Answer, Bake, Call, Grid, Lists, Progress, Ray, Scratch};
+//! must stand as it was. A record that `through_both` lets pass is put through C-22's call as well, and each of its answers is held once more,
+//! but not that the lists fit, and no hit scratch. The records of the solid calls are laid out as the others, with no hit scratch in them.
+use crate::answers::{self, as_handed_in, bake_answer, bake_call, baked, solid_answer, solid_baked};
+use crate::calls::{bits, bytes, halves, Answer, Bake, Call, Grid, Lists, Progress, Ray, RayCall, Scratch};
 use crate::table::{self, AXIS};
 
-/// A record, led by its length; the comparisons that its program makes of it; and the refusals among its answers, 0 for none.
+/// A record, led by its length; the comparisons that its program makes of it; the refusals among its answers, 0 for none; and whether calls of it
+/// are put through both engines.
+#[derive(Default)]
 pub struct Record {
     pub bytes: Vec<u8>,
     pub comparisons: u64,
     pub refusals: Vec<u32>,
+    pub both: bool,
+}
+
+/// Whether a transmittance, a sun pass or a bake over these lists is put through C-22's call as well: every kind is 0, none at all among it, and each
+/// hit list is at least as long as the list of uses. Then no row tells the two calls apart, and both are held to one answer.
+fn through_both(lists: &Lists, hits: &Scratch) -> bool {
+    let long = |list: usize| list >= lists.uses.len();
+    lists.kinds.iter().all(|kind| *kind == 0) && long(hits.distances.len()) && long(hits.places.len())
 }
 
 /// The limit before C-21. Lists of a grid with an axis above it are held to more patterns and may differ from them more often; the others
@@ -32,6 +43,7 @@ struct Writer {
     wide_grid: bool,
     comparisons: u64,
     refusals: Vec<u32>,
+    both: bool,
 }
 
 impl Writer {
@@ -142,7 +154,7 @@ impl Writer {
         for w in &self.words {
             bytes.extend(w.to_le_bytes());
         }
-        Record { bytes, comparisons: self.comparisons, refusals: self.refusals }
+        Record { bytes, comparisons: self.comparisons, refusals: self.refusals, both: self.both }
     }
 }
 
@@ -157,15 +169,19 @@ pub const LIGHT_LOOKUP: u32 = 8;
 pub const COEFFICIENT_LOOKUP: u32 = 9;
 pub const PART: u32 = 10;
 pub const FIRED: u32 = 11;
+pub const SOLID_SUN: u32 = 12;
+pub const SOLID_BAKE: u32 = 13;
 
 /// A record of one call and the oracle's answer.
 pub fn record(call: &Call) -> Record {
     match call {
-        Call::Nearest { lists, ray } => rays(lists, &Scratch::default(), &[(false, *ray)]),
-        Call::Transmittance { lists, ray, hits } => rays(lists, hits, &[(true, *ray)]),
+        Call::Nearest { lists, ray } => rays(lists, &Scratch::default(), &[(RayCall::Nearest, *ray)]),
+        Call::Transmittance { lists, ray, hits } => rays(lists, hits, &[(RayCall::Transmittance, *ray)]),
+        Call::SolidTransmittance { lists, ray } => rays(lists, &Scratch::default(), &[(RayCall::SolidTransmittance, *ray)]),
         Call::LightLookup { grid, light, position } => light_lookups(grid, light, &[*position]),
         Call::CoefficientLookup { grid, volume, position } => coefficient_lookups(grid, volume, &[*position]),
         Call::Bake(bake) => bakes(bake, &[(bake.progress, bake.allowance)]),
+        Call::SolidBake(bake) => solid_bakes(bake, &[(bake.progress, bake.allowance)]),
         _ => plain(call),
     }
 }
@@ -208,6 +224,18 @@ fn plain(call: &Call) -> Record {
             w.list(&bits(scratch));
             w.hits(hits);
             w.word((answer.lists.len() > 2) as u32);
+            w.both = through_both(lists, hits);
+        }
+        Call::SolidSun { grid, lists, direction, active, light, scratch } => {
+            w.word(SOLID_SUN);
+            w.grid(grid);
+            w.floats(direction);
+            w.lists(lists);
+            w.list(&bytes(active));
+            w.list(&bits(light));
+            w.list(&bits(scratch));
+            w.hits(&Scratch::default());
+            w.word(0);
         }
         Call::Part { axes, volume, scratch, index, choice } => {
             w.word(PART);
@@ -221,11 +249,16 @@ fn plain(call: &Call) -> Record {
     }
     // hit scratch that must stand as it was is in the record already
     let keep = Answer { words: answer.words.clone(), lists: answer.lists[..answer.lists.len().min(2)].to_vec() };
+    if w.both {
+        assert!(call.solid().is_some_and(|solid| answers::answer(&solid) == keep), "both engines give one answer");
+    }
     w.answer(&keep);
     let comparisons = match call {
         Call::Triangle { .. } => 1,
         Call::Masks { .. } => 6,
-        Call::Sun { .. } => 5 + (answer.lists.len() > 2) as u64,
+        // refusal, rays, light and scratch once more by the other engine
+        Call::Sun { .. } => 5 + (answer.lists.len() > 2) as u64 + 4 * w.both as u64,
+        Call::SolidSun { .. } => 5,
         Call::Part { .. } => 3,
         _ => 4,
     };
@@ -233,26 +266,32 @@ fn plain(call: &Call) -> Record {
     w.record()
 }
 
-/// Rays over one scene: each the nearest hit (false) or the transmittance (true). A ray stands as sixteen words: which of the two, its eight
-/// numbers, and the answer's seven: refusal, hit, place, distance, u, v and front, or refusal and transmittance.
-pub fn rays(lists: &Lists, hits: &Scratch, asked: &[(bool, Ray)]) -> Record {
+/// Rays over one scene: each the nearest hit, the transmittance or the solid one, which reads no hit scratch. A ray stands as sixteen words: which of the
+/// three, its eight numbers, and the answer's seven: refusal, hit, place, distance, u, v and front, or refusal and transmittance.
+pub fn rays(lists: &Lists, hits: &Scratch, asked: &[(RayCall, Ray)]) -> Record {
     let mut w = Writer::default();
     w.word(RAYS);
     w.lists(lists);
     w.hits(hits);
     w.word(asked.len() as u32);
     w.comparisons = 1;
-    for (through, ray) in asked {
-        w.word(*through as u32);
+    for (which, ray) in asked {
+        w.word(*which as u32);
         w.ray(ray);
-        let call = if *through {
-            Call::Transmittance { lists: lists.clone(), ray: *ray, hits: hits.clone() }
-        } else {
-            Call::Nearest { lists: lists.clone(), ray: *ray }
+        let call = match which {
+            RayCall::Nearest => Call::Nearest { lists: lists.clone(), ray: *ray },
+            RayCall::Transmittance => Call::Transmittance { lists: lists.clone(), ray: *ray, hits: hits.clone() },
+            RayCall::SolidTransmittance => Call::SolidTransmittance { lists: lists.clone(), ray: *ray },
         };
         let mut words = answers::answer(&call).words;
+        let through = *which == RayCall::Transmittance;
+        let both = through && through_both(lists, hits);
+        if both {
+            assert!(call.solid().is_some_and(|solid| answers::answer(&solid).words == words), "both engines give one answer");
+        }
+        w.both |= both;
         words.resize(7, 0);
-        w.held(1 + (*through && words[0] != 0) as u64, words[0]);
+        w.held(1 + (through && words[0] != 0) as u64 + both as u64, words[0]);
         w.words.extend(words);
     }
     w.record()
@@ -308,19 +347,33 @@ fn bake_arguments(w: &mut Writer, b: &Bake) {
 /// two of them: next voxel, rays so far and allowance handed in, whether hit scratch is held, the refusal, next voxel and rays so far answered,
 /// and the rays of this call; then volume and scratch.
 pub fn bakes(bake: &Bake, calls: &[(Progress, u64)]) -> Record {
+    calls_of(bake, calls, false)
+}
+
+/// The same by C-22's engine. No hit scratch is lent.
+pub fn solid_bakes(bake: &Bake, calls: &[(Progress, u64)]) -> Record {
+    calls_of(&bake.without_hits(), calls, true)
+}
+
+fn calls_of(bake: &Bake, calls: &[(Progress, u64)], solid: bool) -> Record {
     let mut w = Writer::default();
-    w.word(BAKE);
+    w.word(if solid { SOLID_BAKE } else { BAKE });
     bake_arguments(&mut w, bake);
     w.word(calls.len() as u32);
     w.comparisons = 1;
+    w.both = !solid && !calls.is_empty() && through_both(&bake.lists, &bake.hits);
+    let figured = if solid || w.both { solid_baked } else { baked };
     let mut now = bake.clone();
     let mut figures = None;
     for (progress, allowance) in calls {
         now.progress = *progress;
         now.allowance = *allowance;
-        let refusal = table::refusal(&Call::Bake(Box::new(now.clone())));
+        let call = Call::Bake(Box::new(now.clone()));
+        let by_solid = call.solid().map(|solid| table::refusal(&solid));
+        let refusal = if solid { by_solid.expect("a bake") } else { table::refusal(&call) };
+        assert!(!w.both || by_solid == Some(refusal), "both engines give one answer");
         let (answered, rays) = if refusal == 0 {
-            let figures = figures.get_or_insert_with(|| baked(bake, Some(&bake.active)));
+            let figures = figures.get_or_insert_with(|| figured(bake, Some(&bake.active)));
             bake_call(&mut now, figures)
         } else {
             as_handed_in(&now)
@@ -328,10 +381,10 @@ pub fn bakes(bake: &Bake, calls: &[(Progress, u64)]) -> Record {
         w.wide(progress.next);
         w.wide(progress.rays);
         w.wide(*allowance);
-        let answer = bake_answer(&now, refusal, answered, rays);
+        let answer = (if solid { solid_answer } else { bake_answer })(&now, refusal, answered, rays);
         w.word((answer.lists.len() > 2) as u32);
-        // refusal, next voxel, rays so far, rays of this call, volume, scratch
-        w.held(6 + (answer.lists.len() > 2) as u64, refusal);
+        // refusal, next voxel, rays so far, rays of this call, volume, scratch; the same once more by the other engine
+        w.held(6 + (answer.lists.len() > 2) as u64 + 6 * w.both as u64, refusal);
         w.answer(&Answer { words: answer.words, lists: answer.lists[..2].to_vec() });
     }
     w.record()

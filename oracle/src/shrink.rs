@@ -115,6 +115,14 @@ fn smaller(item: &Item) -> Vec<Item> {
                 }
             }
         }
+        // what is left of the same bake by the other engine
+        Item::SolidBakes { bake, calls } => {
+            for less in smaller(&Item::Bakes { bake: bake.clone(), calls: calls.clone() }) {
+                if let Item::Bakes { bake, calls } = less {
+                    out.push(Item::SolidBakes { bake, calls });
+                }
+            }
+        }
         Item::Fired(bake) => {
             for (l, _) in fewer_triangles(&bake.lists, None) {
                 let mut b = bake.clone();
@@ -143,10 +151,10 @@ fn smaller(item: &Item) -> Vec<Item> {
                 out.push(Item::CoefficientLookups { grid: *grid, volume: volume.clone(), positions: vec![*p] });
             }
         }
-        Item::One(Call::Sun { lists, .. }) => {
+        Item::One(Call::Sun { lists, .. } | Call::SolidSun { lists, .. }) => {
             for (l, _) in fewer_triangles(lists, None) {
                 let mut call = item.clone();
-                if let Item::One(Call::Sun { lists, .. }) = &mut call {
+                if let Item::One(Call::Sun { lists, .. } | Call::SolidSun { lists, .. }) = &mut call {
                     *lists = l;
                 }
                 out.push(call);

@@ -1,5 +1,5 @@
-//! Document 01's table of refusals with what document 02's C-12, C-16, C-18, C-19 and C-21 make of it, and the order in which each call tests them, written
-//! from these and the open points alone: which numbers are accepted, and for each call the first number whose condition holds, 0 if none.
+//! Document 01's table of refusals with what document 02's C-12, C-16, C-18, C-19, C-21 and C-22 make of it, and the order in which each call tests them,
+//! written from these and the open points alone: which numbers are accepted, and for each call the first number whose condition holds, 0 if none.
 use crate::calls::{Bake, Call, Grid, Lists, Progress, Ray, Scratch};
 use crate::words;
 
@@ -11,6 +11,8 @@ const TRIANGLES: usize = 4096;
 const MATERIALS: usize = 256;
 /// "6 now from kind 3 up"
 const FIRST_BAD_KIND: u8 = 3;
+/// "6 if another kind stands in the list"
+const SOLID: u8 = 0;
 const COLOUR: f32 = 65536.0;
 const ORIGIN: f32 = 65536.0;
 const DIRECTION: f32 = 2.0;
@@ -78,7 +80,7 @@ pub fn refusal(call: &Call) -> u32 {
             (7, &|| bad_direction(*direction)),
             (13, &|| bad_mask(active, grid)),
         ]),
-        Call::Bake(bake) => bake_refusal(bake),
+        Call::Bake(bake) => bake_refusal(bake, false),
         Call::LightLookup { grid, light, position } => first(&[
             (1, &|| bad_axes(grid.axes)),
             (2, &|| bad_corners(grid)),
@@ -98,10 +100,30 @@ pub fn refusal(call: &Call) -> u32 {
             (3, &|| volume.len() != 16 * count(*axes) || scratch.len() != 16 * count(*axes)),
             (11, &|| *index >= count(*axes) as u64),
         ]),
+        // C-22's calls: the rows of the other engine, in their order; hit scratch is not lent
+        Call::SolidTransmittance { lists, ray } => first(&[
+            (3, &|| misfit(lists)),
+            (4, &|| too_many(lists)),
+            (5, &|| bad_points(&lists.points)),
+            (6, &|| bad_materials(lists) || another_kind(lists)),
+            (8, &|| bad_ray(ray)),
+        ]),
+        Call::SolidSun { grid, lists, direction, active, light, scratch } => first(&[
+            (1, &|| bad_axes(grid.axes)),
+            (2, &|| bad_corners(grid)),
+            (3, &|| misfit(lists) || misfit_mask(active, grid) || [light, scratch].iter().any(|list| list.len() != count(grid.axes))),
+            (4, &|| too_many(lists)),
+            (5, &|| bad_points(&lists.points)),
+            (6, &|| bad_materials(lists) || another_kind(lists)),
+            (7, &|| bad_direction(*direction)),
+            (13, &|| bad_mask(active, grid)),
+        ]),
+        Call::SolidBake(bake) => bake_refusal(bake, true),
     }
 }
 
-fn bake_refusal(bake: &Bake) -> u32 {
+/// The rows of a bake, by C-22's engine where `solid`.
+fn bake_refusal(bake: &Bake, solid: bool) -> u32 {
     let grid = &bake.grid;
     let lists = &bake.lists;
     let s = bake.sunlight;
@@ -117,11 +139,11 @@ fn bake_refusal(bake: &Bake) -> u32 {
                 || bake.light.len() != n
                 || bake.volume.len() != 16 * n
                 || bake.scratch.len() != 16 * n
-                || too_short(&bake.hits, lists)
+                || !solid && too_short(&bake.hits, lists)
         }),
         (4, &|| too_many(lists)),
         (5, &|| bad_points(&lists.points)),
-        (6, &|| bad_materials(lists)),
+        (6, &|| bad_materials(lists) || solid && another_kind(lists)),
         (7, &|| {
             bad_direction([s[0], s[1], s[2]])
                 || beyond(&s[3..], COLOUR)
@@ -191,6 +213,11 @@ fn bad_materials(lists: &Lists) -> bool {
     lists.kinds.iter().any(|k| *k >= FIRST_BAD_KIND)
         || lists.numbers.chunks(7).any(|m| beyond(&m[..6], COLOUR) || outside(m[6], 0.0, 1.0))
         || lists.uses.iter().any(|u| *u as usize >= lists.kinds.len())
+}
+
+/// Whether a kind other than the solid one stands in the list, used by a triangle or not.
+fn another_kind(lists: &Lists) -> bool {
+    lists.kinds.iter().any(|k| *k != SOLID)
 }
 
 fn bad_direction(d: [f32; 3]) -> bool {

@@ -138,6 +138,11 @@ branches! {
     FractionZero true "lookup: a fraction of 0";
     FractionOne true "lookup: a fraction that rounds to 1";
     FractionBetween true "lookup: a fraction between 0 and 1";
+    SolidFree true "solid: a ray that meets no wall where there are some";
+    SolidStopped true "solid: a ray that meets one wall";
+    SolidNearestFirst true "solid: of several walls the nearest stands first in the list";
+    SolidNearestLast true "solid: of several walls the nearest stands last in the list";
+    SolidTied true "solid: another wall at the distance of the first in the list";
 }
 
 #[inline(always)]

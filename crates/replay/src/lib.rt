@@ -316,6 +316,18 @@ pub fn same_hits(s: &[u8], at: usize, distances: &[f32], spots: &[usize]) -> boo
     same_floats(s, at, distances) & same_places(s, past(s, at), spots)
 }
 
+// Whether a record that was made for the engine with hit scratch is put to the one for solid walls too: every kind is opaque, and both lists of hits are
+// long enough for t triangles, so that the two have one answer.
+pub fn through_both(kinds: &[u8], t: usize, distances: usize, spots: usize) -> bool {
+    let mut other = false;
+    let mut i = 0;
+    while i < kinds.len() {
+        other = other | (kinds[i] != 0);
+        i += 1;
+    }
+    !other & (t <= distances) & (t <= spots)
+}
+
 // Whether a number has the recorded bits.
 pub fn same_number(s: &[u8], at: usize, x: f32) -> bool {
     bits(x) == word(s, at)

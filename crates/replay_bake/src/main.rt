@@ -1,4 +1,4 @@
-// Replays the oracle's recorded answers for the bake. A record of calls, whole and interrupted: at each call the refusal, the next voxel, the rays so far,
+// Replays the oracle's recorded answers for the bake, by both engines. A record of calls, whole and interrupted: at each call the refusal, the next voxel, the rays so far,
 // the call's rays, the volume and its scratch bit by bit, and the hit scratch where no ray is traced. A record of rays: each ray that the bake of a small scene fires, and their
 // number, which is also the one that the bake reports.
 use bake::BakeAnswer;
@@ -11,8 +11,10 @@ const FROM: usize = 31;
 // Where a call's lists begin: volume, scratch.
 const LISTS: usize = 14;
 
-// The two kinds of record.
+// The three kinds of record: calls with hit scratch, calls for solid walls, and rays.
 const CALLS: u32 = 7;
+
+const SOLID: u32 = 13;
 
 const RAYS: u32 = 11;
 
@@ -37,6 +39,7 @@ fn numbers_held(s: &[u8], t: Tally, at: usize, r: BakeAnswer) -> Tally {
 fn lists_held(
     s: &[u8],
     t: Tally,
+    solid: bool,
     at: usize,
     volume: &[f32],
     scratch: &[f32],
@@ -44,7 +47,7 @@ fn lists_held(
     places: &[usize],
 ) -> Tally {
     let first = replay::further(at, LISTS);
-    let asked = replay::word(s, replay::further(at, 6)) != 0;
+    let asked = !solid & (replay::word(s, replay::further(at, 6)) != 0);
     let a = replay::held(t, replay::same_floats(s, first, volume));
     let b = replay::held(a, replay::same_floats(s, replay::past(s, first), scratch));
     replay::held_if(
@@ -54,9 +57,10 @@ fn lists_held(
     )
 }
 
-// A call with the record's lists.
+// A call with the record's lists, by the one engine or the other.
 fn answered(
     s: &[u8],
+    solid: bool,
     begun: Progress,
     allowance: u64,
     points: &[f32],
@@ -76,6 +80,26 @@ fn answered(
     let corners = replay_values::corners(s, 7);
     let sunlight = replay_values::light(s, 13);
     let sh = replay_values::ambient(s, 19);
+    if solid {
+        return bake::solid_bake(
+            axes,
+            corners,
+            points,
+            uses,
+            kinds,
+            numbers,
+            sunlight,
+            sh,
+            sky,
+            lamps,
+            active,
+            lights,
+            volume,
+            scratch,
+            begun,
+            allowance,
+        );
+    }
     bake::bake(
         axes,
         corners,
@@ -101,6 +125,7 @@ fn answered(
 fn one(
     s: &[u8],
     t: Tally,
+    solid: bool,
     at: usize,
     points: &[f32],
     uses: &[u32],
@@ -118,6 +143,7 @@ fn one(
     let allowance = replay::long(s, replay::further(at, 4));
     let r = answered(
         s,
+        solid,
         progress(s, at),
         allowance,
         points,
@@ -134,13 +160,14 @@ fn one(
         places,
     );
     let u = numbers_held(s, t, at, r);
-    lists_held(s, u, at, volume, scratch, distances, places)
+    lists_held(s, u, solid, at, volume, scratch, distances, places)
 }
 
 // Hit scratch is lent afresh at each call.
 fn fresh(
     s: &[u8],
     t: Tally,
+    solid: bool,
     at: usize,
     points: &[f32],
     uses: &[u32],
@@ -160,6 +187,7 @@ fn fresh(
     one(
         s,
         t,
+        solid,
         at,
         points,
         uses,
@@ -180,6 +208,7 @@ fn fresh(
 fn calls(
     s: &[u8],
     t: Tally,
+    solid: bool,
     points: &[f32],
     uses: &[u32],
     kinds: &[u8],
@@ -202,6 +231,7 @@ fn calls(
         tally = fresh(
             s,
             tally,
+            solid,
             at,
             points,
             uses,
@@ -242,6 +272,7 @@ fn rays(
     let u = replay_fired::listed(s, t, points, uses, kinds, numbers, lamps, active);
     let r = answered(
         s,
+        false,
         Progress { next: 0, rays: 0 },
         u64::MAX,
         points,
@@ -266,9 +297,11 @@ fn stock(s: &[u8], volume: &mut [f32], scratch: &mut [f32]) {
     replay::floats(s, replay::nth(s, FROM, 9), scratch);
 }
 
+// The calls of a record by the one engine or the other, over volume and scratch as the record lends them.
 fn stocked(
     s: &[u8],
     t: Tally,
+    solid: bool,
     points: &[f32],
     uses: &[u32],
     kinds: &[u8],
@@ -304,6 +337,7 @@ fn stocked(
     calls(
         s,
         t,
+        solid,
         points,
         uses,
         kinds,
@@ -317,6 +351,63 @@ fn stocked(
         distances,
         places,
     )
+}
+
+// By one engine, or by both where they have one answer.
+fn asked(
+    s: &[u8],
+    t: Tally,
+    points: &[f32],
+    uses: &[u32],
+    kinds: &[u8],
+    numbers: &[f32],
+    sky: &[f32],
+    lamps: &[f32],
+    active: &[u64],
+    lights: &[f32],
+    volume: &mut [f32],
+    scratch: &mut [f32],
+    distances: &mut [f32],
+    places: &mut [usize],
+) -> Tally {
+    let kind = replay::word(s, 0);
+    let u = stocked(
+        s,
+        t,
+        kind == SOLID,
+        points,
+        uses,
+        kinds,
+        numbers,
+        sky,
+        lamps,
+        active,
+        lights,
+        volume,
+        scratch,
+        distances,
+        places,
+    );
+    if (kind == CALLS) & replay::through_both(kinds, uses.len(), distances.len(), places.len()) {
+        return stocked(
+            s,
+            u,
+            true,
+            points,
+            uses,
+            kinds,
+            numbers,
+            sky,
+            lamps,
+            active,
+            lights,
+            volume,
+            scratch,
+            distances,
+            places,
+        );
+    }
+    u
 }
 
 fn fill(s: &[u8], sky: &mut [f32], lamps: &mut [f32], active: &mut [u64], lights: &mut [f32]) {
@@ -343,7 +434,7 @@ fn filled(
     places: &mut [usize],
 ) -> Tally {
     fill(s, sky, lamps, active, lights);
-    stocked(
+    asked(
         s,
         t,
         points,
@@ -397,7 +488,7 @@ fn baked(
 }
 
 fn fits(s: &[u8]) -> bool {
-    ((replay::word(s, 0) == CALLS) | (replay::word(s, 0) == RAYS))
+    known(replay::word(s, 0))
         & replay::fits(s, FROM, 36900)
         & replay::fits(s, replay::nth(s, FROM, 1), 4100)
         & replay::fits(s, replay::nth(s, FROM, 2), 260)
@@ -408,6 +499,10 @@ fn fits(s: &[u8]) -> bool {
         & lists_fit(s, 82000, 526400)
         & replay::fits(s, replay::nth(s, FROM, 10), 4100)
         & replay::fits(s, replay::nth(s, FROM, 11), 8200)
+}
+
+fn known(kind: u32) -> bool {
+    (kind == CALLS) | (kind == SOLID) | (kind == RAYS)
 }
 
 fn lists_fit(s: &[u8], lights: usize, volume: usize) -> bool {

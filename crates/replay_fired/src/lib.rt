@@ -368,7 +368,7 @@ pub fn listed(
     if limits::inner::too_many(uses.len(), kinds.len()) {
         return replay::held(t, false);
     }
-    if limits::inner::bad_materials(uses, kinds, numbers) {
+    if limits::inner::bad_materials_for(false, uses, kinds, numbers) {
         return replay::held(t, false);
     }
     let from = replay::nth(s, FROM, 12);

@@ -1,5 +1,5 @@
-// Replays the oracle's recorded answers for the public ray calls: the test of one triangle, the nearest hit and the transmittance, each number
-// bit by bit, and the hit scratch where a refusal leaves it alone.
+// Replays the oracle's recorded answers for the public ray calls: the test of one triangle, the nearest hit and the transmittance by both engines, each
+// number bit by bit, and the hit scratch where a refusal leaves it alone.
 use rays::Found;
 use rays::Met;
 use rays::Transmitted;
@@ -99,6 +99,25 @@ fn transmittance(
     distances: &mut [f32],
     places: &mut [usize],
 ) -> Tally {
+    let u = lent(s, t, at, points, uses, kinds, numbers, distances, places);
+    if replay::through_both(kinds, uses.len(), distances.len(), places.len()) {
+        return solid(s, u, at, points, uses, kinds, numbers);
+    }
+    u
+}
+
+// Through the engine with hit scratch.
+fn lent(
+    s: &[u8],
+    t: Tally,
+    at: usize,
+    points: &[f32],
+    uses: &[u32],
+    kinds: &[u8],
+    numbers: &[f32],
+    distances: &mut [f32],
+    places: &mut [usize],
+) -> Tally {
     let lent = replay::nth(s, 1, 4);
     let ray = replay_values::ray(s, replay::further(at, 1));
     replay::hits(s, lent, distances, places);
@@ -109,6 +128,21 @@ fn transmittance(
         r.refusal != 0,
         replay::same_hits(s, lent, distances, places),
     )
+}
+
+// Through the engine for solid walls.
+fn solid(
+    s: &[u8],
+    t: Tally,
+    at: usize,
+    points: &[f32],
+    uses: &[u32],
+    kinds: &[u8],
+    numbers: &[f32],
+) -> Tally {
+    let ray = replay_values::ray(s, replay::further(at, 1));
+    let r = rays::solid_transmittance(points, uses, kinds, numbers, ray);
+    passed(s, t, replay::further(at, 9), r)
 }
 
 // Holds a transmittance to two words: refusal, value.
@@ -131,6 +165,9 @@ fn one(
 ) -> Tally {
     if replay::word(s, at) == 0 {
         return nearest(s, t, at, points, uses, kinds, numbers);
+    }
+    if replay::word(s, at) == 2 {
+        return solid(s, t, at, points, uses, kinds, numbers);
     }
     transmittance(s, t, at, points, uses, kinds, numbers, distances, places)
 }

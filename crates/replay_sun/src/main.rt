@@ -1,9 +1,14 @@
-// Replays the oracle's recorded answers for the sun pass: the refusal, the rays, the light, its scratch, and the hit scratch where no ray is traced.
+// Replays the oracle's recorded answers for the sun pass, by both engines: the refusal, the rays, the light, its scratch, and the hit scratch where no ray is traced.
 use replay::Tally;
 use sun::Sunned;
 
 // Where the lists begin, and which list is which.
 const FROM: usize = 16;
+
+// The two kinds of record: with hit scratch, and for solid walls.
+const LENT: u32 = 6;
+
+const SOLID: u32 = 12;
 
 fn fill(s: &[u8], active: &mut [u64], light: &mut [f32], scratch: &mut [f32]) {
     replay::mask(s, replay::nth(s, FROM, 4), active);
@@ -65,6 +70,35 @@ fn trace(
     unhit(s, u, distances, places)
 }
 
+fn walled(
+    s: &[u8],
+    t: Tally,
+    points: &[f32],
+    uses: &[u32],
+    kinds: &[u8],
+    numbers: &[f32],
+    active: &[u64],
+    light: &mut [f32],
+    scratch: &mut [f32],
+) -> Tally {
+    let axes = replay_values::axes(s, 1);
+    let corners = replay_values::corners(s, 7);
+    let direction = replay_values::vector(s, 13);
+    let r = sun::solid_sun(
+        axes,
+        corners,
+        points,
+        uses,
+        kinds,
+        numbers,
+        direction,
+        active,
+        light,
+        scratch,
+    );
+    after(s, t, r, light, scratch)
+}
+
 fn hit(
     s: &[u8],
     t: Tally,
@@ -95,7 +129,24 @@ fn hit(
     )
 }
 
-fn lit(
+// Through the engine for solid walls.
+fn solid(
+    s: &[u8],
+    t: Tally,
+    points: &[f32],
+    uses: &[u32],
+    kinds: &[u8],
+    numbers: &[f32],
+    active: &mut [u64],
+    light: &mut [f32],
+    scratch: &mut [f32],
+) -> Tally {
+    fill(s, active, light, scratch);
+    walled(s, t, points, uses, kinds, numbers, active, light, scratch)
+}
+
+// Through the engine with hit scratch.
+fn lent(
     s: &[u8],
     t: Tally,
     points: &[f32],
@@ -122,6 +173,41 @@ fn lit(
         distances,
         places,
     )
+}
+
+fn lit(
+    s: &[u8],
+    t: Tally,
+    points: &[f32],
+    uses: &[u32],
+    kinds: &[u8],
+    numbers: &[f32],
+    active: &mut [u64],
+    light: &mut [f32],
+    scratch: &mut [f32],
+    distances: &mut [f32],
+    places: &mut [usize],
+) -> Tally {
+    if replay::word(s, 0) == SOLID {
+        return solid(s, t, points, uses, kinds, numbers, active, light, scratch);
+    }
+    let u = lent(
+        s,
+        t,
+        points,
+        uses,
+        kinds,
+        numbers,
+        active,
+        light,
+        scratch,
+        distances,
+        places,
+    );
+    if replay::through_both(kinds, uses.len(), distances.len(), places.len()) {
+        return solid(s, u, points, uses, kinds, numbers, active, light, scratch);
+    }
+    u
 }
 
 fn sun(
@@ -154,7 +240,7 @@ fn sun(
 }
 
 fn fits(s: &[u8]) -> bool {
-    (replay::word(s, 0) == 6)
+    ((replay::word(s, 0) == LENT) | (replay::word(s, 0) == SOLID))
         & replay::fits(s, FROM, 36900)
         & replay::fits(s, replay::nth(s, FROM, 1), 4100)
         & replay::fits(s, replay::nth(s, FROM, 2), 260)

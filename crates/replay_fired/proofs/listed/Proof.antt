@@ -35,8 +35,8 @@ held-requires-3 c κs = search needs
 returns-3 : tie.Need-returns-3
 returns-3 c = search needs
 
-bad-materials-requires : tie.Need-bad-materials-requires
-bad-materials-requires c κs = search needs
+bad-materials-for-requires : tie.Need-bad-materials-for-requires
+bad-materials-for-requires c κs = search needs
 
 held-requires-4 : tie.Need-held-requires-4
 held-requires-4 c κs = search needs
@@ -52,7 +52,7 @@ further-requires c κs = search needs
 
 all-rays-requires : tie.Need-all-rays-requires
 all-rays-requires c κs =
-    let scene = sound _ _ _ _ (sym (c .before .before .before .before .before .before .before .wrong-scene .ensures) ∙ c .before .before .before .before .before .before .if2 .left) (sym (c .before .before .before .before .before .too-many .ensures) ∙ c .before .before .before .before .if3 .left) (sym (c .before .before .before .bad-materials .ensures) ∙ c .before .before .if4 .left) in
+    let scene = sound _ _ _ _ (sym (c .before .before .before .before .before .before .before .wrong-scene .ensures) ∙ c .before .before .before .before .before .before .if2 .left) (sym (c .before .before .before .before .before .too-many .ensures) ∙ c .before .before .before .before .if3 .left) (sym (c .before .before .before .bad-materials-for .ensures) ∙ c .before .before .if4 .left) in
     (scene, axes-row _ .0 (sym (c .before .before .before .before .before .before .before .before .before .bad-axes .ensures) ∙ c .before .before .before .before .before .before .before .before .if1 .left))
 
 half-requires : tie.Need-half-requires
@@ -78,7 +78,7 @@ listed-spec =
     too-many-requires
     held-requires-3
     returns-3
-    bad-materials-requires
+    bad-materials-for-requires
     held-requires-4
     returns-4
     nth-requires
