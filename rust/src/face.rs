@@ -107,6 +107,13 @@ extern "C" {
         distances: *mut f32, distances_length: usize,
         places: *mut usize, places_length: usize,
     ) -> Transmitted;
+    pub fn geaidnosa_solid_transmittance(
+        points: *const f32, points_length: usize,
+        uses: *const u32, uses_length: usize,
+        kinds: *const u8, kinds_length: usize,
+        numbers: *const f32, numbers_length: usize,
+        ray: Ray,
+    ) -> Transmitted;
     pub fn geaidnosa_masks(
         axes: Axes,
         corners: Corners,
@@ -138,6 +145,18 @@ extern "C" {
         distances: *mut f32, distances_length: usize,
         places: *mut usize, places_length: usize,
     ) -> Sunned;
+    pub fn geaidnosa_solid_sun(
+        axes: Axes,
+        corners: Corners,
+        points: *const f32, points_length: usize,
+        uses: *const u32, uses_length: usize,
+        kinds: *const u8, kinds_length: usize,
+        numbers: *const f32, numbers_length: usize,
+        direction: Vec3,
+        active: *const u64, active_length: usize,
+        light: *mut f32, light_length: usize,
+        scratch: *mut f32, scratch_length: usize,
+    ) -> Sunned;
     pub fn geaidnosa_bake(
         axes: Axes,
         corners: Corners,
@@ -155,6 +174,24 @@ extern "C" {
         scratch: *mut f32, scratch_length: usize,
         distances: *mut f32, distances_length: usize,
         places: *mut usize, places_length: usize,
+        progress: Progress,
+        allowance: u64,
+    ) -> BakeAnswer;
+    pub fn geaidnosa_solid_bake(
+        axes: Axes,
+        corners: Corners,
+        points: *const f32, points_length: usize,
+        uses: *const u32, uses_length: usize,
+        kinds: *const u8, kinds_length: usize,
+        numbers: *const f32, numbers_length: usize,
+        light: Light,
+        ambient: Ambient,
+        sky: *const f32, sky_length: usize,
+        lamps: *const f32, lamps_length: usize,
+        active: *const u64, active_length: usize,
+        lights: *const f32, lights_length: usize,
+        volume: *mut f32, volume_length: usize,
+        scratch: *mut f32, scratch_length: usize,
         progress: Progress,
         allowance: u64,
     ) -> BakeAnswer;

@@ -11,12 +11,16 @@
 //! A triangle's front is the side from which its corners p0, p1, p2 run counter-clockwise: a ray meets it there where it runs against the cross product
 //! (p1−p0)×(p2−p0), exactly where det, (p1−p0)·(direction×(p2−p0)), is above zero. [`Hit::front`] says which side was met, and a [`PANEL`] is met from the
 //! front alone.
+//!
+//! Most halls have solid walls alone. Where [`Scene::is_solid`] says so, [`solid_transmittance`], [`solid_sun`] and [`solid_bake`] answer and write what
+//! [`transmittance`], [`sun`] and [`bake`] do, bit for bit, without hit scratch: a ray to the sun, the sky or a lamp ends at the first hit that is found. A bake
+//! may be begun by one of the two and gone on with by the other.
 use std::fmt;
 
 mod face;
 
 /// The version of the C face that this crate was written to.
-pub const VERSION_NUMBER: u32 = 5_000;
+pub const VERSION_NUMBER: u32 = 6_000;
 /// The number itself, so that the words of [`Refusal::Axis`] are made of it too.
 macro_rules! axis_limit {
     () => {
@@ -153,7 +157,14 @@ pub struct Scene<'a> {
     pub numbers: &'a [f32],
 }
 
-/// Two lists of at least T, which a call that traces rays writes as it likes.
+impl Scene<'_> {
+    /// Whether every material is [`OPAQUE`], used or not: what the solid calls take. They refuse 6 where it is not.
+    pub fn is_solid(self) -> bool {
+        self.kinds.iter().all(|kind| *kind == OPAQUE)
+    }
+}
+
+/// Two lists of at least T, which a call that traces rays writes as it likes. The solid calls need none.
 #[derive(Debug)]
 pub struct HitScratch<'a> {
     pub distances: &'a mut [f32],
@@ -218,7 +229,7 @@ impl Refusal {
             Refusal::Length => "a lent list of the wrong length",
             Refusal::TooMany => "more than 4,096 triangles or 256 materials",
             Refusal::Point => "a triangle's point not finite or beyond 4,096 in magnitude",
-            Refusal::Material => "a kind above 2, a material's colour not finite or beyond 65,536 in magnitude, a transmission outside 0..1, an index past the materials",
+            Refusal::Material => "a kind above 2 (in a solid call above 0), a material's colour not finite or beyond 65,536 in magnitude, a transmission outside 0..1, an index past the materials",
             Refusal::Light => "a light direction with a component beyond 4,096 or of squared length 1e-12 or less; a light, ambient or sky number not finite or beyond 65,536",
             Refusal::Ray => "a ray's origin beyond 65,536, direction beyond 2, shortest distance outside 0..65,536, or longest distance NaN",
             Refusal::Progress => "progress with next above the voxel count, or with rays below 64 or above 384 + 64·lamps for each active voxel below next",
@@ -329,7 +340,7 @@ pub fn is_marked(mask: &[u64], voxel: usize) -> bool {
     (mask[voxel / 64] >> (voxel % 64)) & 1 == 1
 }
 
-/// Marks a voxel. Panics where the mask has no word for it; a bit past the last voxel is one that [`sun`], [`bake`], [`join`] and [`write_volume`] refuse.
+/// Marks a voxel. Panics where the mask has no word for it; a bit past the last voxel is one that every call refuses that reads a mask.
 pub fn mark(mask: &mut [u64], voxel: usize) {
     mask[voxel / 64] |= 1 << (voxel % 64);
 }
@@ -402,6 +413,19 @@ pub fn transmittance(scene: Scene, ray: Ray, hits: HitScratch) -> Result<f32, Re
     Ok(answer.transmittance)
 }
 
+/// What [`transmittance`] answers where every material is [`OPAQUE`], without hit scratch: 0 where the ray meets a triangle, else 1. Refuses 3, 4, 5, 6
+/// (any other kind too), 8.
+pub fn solid_transmittance(scene: Scene, ray: Ray) -> Result<f32, Refusal> {
+    let Scene { points, uses, kinds, numbers } = scene;
+    let answer = unsafe {
+        face::geaidnosa_solid_transmittance(
+            points.as_ptr(), points.len(), uses.as_ptr(), uses.len(), kinds.as_ptr(), kinds.len(), numbers.as_ptr(), numbers.len(), ray,
+        )
+    };
+    Refusal::good(answer.refusal)?;
+    Ok(answer.transmittance)
+}
+
 /// Fills both masks, [`Axes::words`] each, whatever stood there: occupied where a triangle's sample lies in the voxel, whatever its material and side, active
 /// within two voxels of that on every axis. Refuses 1, 2, 3 (points in no multiple of nine too), 4, 5.
 pub fn masks(axes: Axes, corners: Corners, points: &[f32], occupied: &mut [u64], active: &mut [u64]) -> Result<Marked, Refusal> {
@@ -435,6 +459,20 @@ pub fn sun(
             axes, corners, points.as_ptr(), points.len(), uses.as_ptr(), uses.len(), kinds.as_ptr(), kinds.len(), numbers.as_ptr(), numbers.len(),
             direction, active.as_ptr(), active.len(), light.as_mut_ptr(), light.len(), scratch.as_mut_ptr(), scratch.len(),
             hits.distances.as_mut_ptr(), hits.distances.len(), hits.places.as_mut_ptr(), hits.places.len(),
+        )
+    };
+    Refusal::good(answer.refusal)?;
+    Ok(answer.rays)
+}
+
+/// What [`sun`] does where every material is [`OPAQUE`], without hit scratch: the same light, scratch and rays. Refuses 1, 2, 3, 4, 5, 6 (any other kind too),
+/// 7, 13.
+pub fn solid_sun(axes: Axes, corners: Corners, scene: Scene, direction: Vec3, active: &[u64], light: &mut [f32], scratch: &mut [f32]) -> Result<u64, Refusal> {
+    let Scene { points, uses, kinds, numbers } = scene;
+    let answer = unsafe {
+        face::geaidnosa_solid_sun(
+            axes, corners, points.as_ptr(), points.len(), uses.as_ptr(), uses.len(), kinds.as_ptr(), kinds.len(), numbers.as_ptr(), numbers.len(),
+            direction, active.as_ptr(), active.len(), light.as_mut_ptr(), light.len(), scratch.as_mut_ptr(), scratch.len(),
         )
     };
     Refusal::good(answer.refusal)?;
@@ -475,6 +513,22 @@ pub fn bake(input: BakeInput, volume: &mut [f32], scratch: &mut [f32], hits: Hit
             light, ambient, sky.as_ptr(), sky.len(), lamps.as_ptr(), lamps.len(), active.as_ptr(), active.len(), lights.as_ptr(), lights.len(),
             volume.as_mut_ptr(), volume.len(), scratch.as_mut_ptr(), scratch.len(),
             hits.distances.as_mut_ptr(), hits.distances.len(), hits.places.as_mut_ptr(), hits.places.len(), progress, allowance,
+        )
+    };
+    Refusal::good(answer.refusal)?;
+    Ok(Baked { progress: answer.progress, rays: answer.rays })
+}
+
+/// What [`bake`] does where every material is [`OPAQUE`], without hit scratch: the same volume, scratch, progress and rays, call for call. A progress that either
+/// has answered is good for both. Refuses 1, 2, 3, 4, 5, 6 (any other kind too), 7, 19, 9, 10, 13.
+pub fn solid_bake(input: BakeInput, volume: &mut [f32], scratch: &mut [f32], progress: Progress, allowance: u64) -> Result<Baked, Refusal> {
+    let BakeInput { axes, corners, scene, light, ambient, sky, lamps, active, lights } = input;
+    let Scene { points, uses, kinds, numbers } = scene;
+    let answer = unsafe {
+        face::geaidnosa_solid_bake(
+            axes, corners, points.as_ptr(), points.len(), uses.as_ptr(), uses.len(), kinds.as_ptr(), kinds.len(), numbers.as_ptr(), numbers.len(),
+            light, ambient, sky.as_ptr(), sky.len(), lamps.as_ptr(), lamps.len(), active.as_ptr(), active.len(), lights.as_ptr(), lights.len(),
+            volume.as_mut_ptr(), volume.len(), scratch.as_mut_ptr(), scratch.len(), progress, allowance,
         )
     };
     Refusal::good(answer.refusal)?;

@@ -176,6 +176,145 @@ fn panels_in_sun_and_bake() {
     assert!(both[0].0.occupied > 0 && both[0] == both[1]);
 }
 
+/// A small hall of solid walls: a floor, a wall beside, a roof high over half of it and a lit box in the middle. Its axes, corners, points, uses and numbers.
+fn walled() -> (Axes, Corners, Vec<f32>, Vec<u32>, [f32; 21]) {
+    let axes = Axes { width: 4, height: 5, depth: 12 };
+    let corners = Corners { min: Vec3::default(), max: Vec3::new(4.0, 5.0, 12.0) };
+    let mut points = Vec::new();
+    let mut uses = Vec::new();
+    let mut quad = |material: u32, [a, b, c, d]: [[f32; 3]; 4]| {
+        [a, b, c, a, c, d].into_iter().for_each(|p| points.extend(p));
+        uses.extend([material; 2]);
+    };
+    quad(0, [[0.1, 0.1, 0.2], [3.9, 0.1, 0.2], [3.9, 4.9, 0.2], [0.1, 4.9, 0.2]]);
+    quad(0, [[0.2, 0.1, 0.2], [0.2, 4.9, 0.2], [0.2, 4.9, 3.4], [0.2, 0.1, 3.4]]);
+    quad(1, [[0.1, 0.1, 11.6], [2.1, 0.1, 11.6], [2.1, 4.9, 11.6], [0.1, 4.9, 11.6]]);
+    quad(2, [[1.1, 2.1, 1.2], [2.3, 2.1, 1.2], [2.3, 3.2, 1.2], [1.1, 3.2, 1.2]]);
+    quad(0, [[1.1, 2.1, 0.3], [2.3, 2.1, 0.3], [2.3, 2.1, 1.2], [1.1, 2.1, 1.2]]);
+    // the transmission of a wall is never read
+    let numbers = [0.8, 0.7, 0.6, 0.0, 0.0, 0.0, 0.0, 0.3, 0.4, 0.5, 0.0, 0.0, 0.0, 1.0, 0.1, 0.1, 0.1, 4.0, 3.0, 1.0, 0.5];
+    (axes, corners, points, uses, numbers)
+}
+
+#[test]
+fn solid_walls() {
+    let bits = |list: &[f32]| list.iter().map(|x| x.to_bits()).collect::<Vec<u32>>();
+    let (axes, corners, points, uses, numbers) = walled();
+    let (n, t) = (axes.count(), uses.len());
+    let kinds = [OPAQUE; 3];
+    let scene = Scene { points: &points, uses: &uses, kinds: &kinds, numbers: &numbers };
+    assert!(scene.is_solid() && Scene { kinds: &[], ..scene }.is_solid());
+    // rays from everywhere to everywhere, some of them met more than once, some of them short
+    let mut seen = [0; 2];
+    for k in 0..4096u32 {
+        let part = |shift: u32| (k.wrapping_mul(2_654_435_761) >> shift & 63) as f32 / 64.0;
+        let origin = Vec3::new(4.0 * part(0), 5.0 * part(6), 12.0 * part(12));
+        let direction = Vec3::new(2.0 * part(18) - 1.0, 2.0 * part(24) - 1.0, if k % 2 == 0 { 1.0 } else { -1.0 });
+        let ray = Ray { origin, direction, shortest: 1e-4, longest: [f32::INFINITY, f32::INFINITY, 1.5, -1.0][k as usize / 2 % 4] };
+        let through = solid_transmittance(scene, ray).unwrap();
+        assert_eq!(Ok(through.to_bits()), passes(scene, ray).map(f32::to_bits), "{ray:?}");
+        seen[through as usize] += 1;
+    }
+    assert!(seen.iter().all(|count| *count > 500), "{seen:?}");
+    // the sun: light, scratch and rays
+    let (mut occupied, mut active) = (vec![0; axes.words()], vec![0; axes.words()]);
+    let count = masks(axes, corners, &points, &mut occupied, &mut active).unwrap().active;
+    assert!(0 < count && count < n as u64);
+    let towards = Vec3::new(0.1, -0.05, 0.9);
+    let (mut distances, mut places) = (vec![0.0; t], vec![0; t]);
+    let (mut lights, mut before, mut solid_lights, mut solid_before) = (vec![5.0; n], vec![6.0; n], vec![7.0; n], vec![8.0; n]);
+    assert_eq!(sun(axes, corners, scene, towards, &active, &mut lights, &mut before, HitScratch { distances: &mut distances, places: &mut places }), Ok(count));
+    assert_eq!(solid_sun(axes, corners, scene, towards, &active, &mut solid_lights, &mut solid_before), Ok(count));
+    assert_eq!((bits(&solid_lights), bits(&solid_before)), (bits(&lights), bits(&before)));
+    assert!(before.contains(&0.0) && before.contains(&1.0));
+    // the bake: by either, and by both in turn in the calls of one, which answer alike at every step
+    let lamps = [2.0, 2.0, 2.5, 6.0, 5.0, 4.0, 1.0, 1.0, 8.0, 2.0, 3.0, 4.0];
+    let sky: Vec<f32> = (0..SKY_LENGTH).map(|i| 0.5 + (i % 7) as f32 * 0.125).collect();
+    for lamps in [&[][..], &lamps] {
+        let ambient = Ambient { c0: Vec3::new(0.2, 0.25, 0.3), ..Ambient::default() };
+        let light = Light { direction: towards, colour: Vec3::new(3.0, 2.5, 2.0) };
+        let input = BakeInput { axes, corners, scene, light, ambient, sky: &sky, lamps, active: &active, lights: &lights };
+        let mut by = |solid: bool, volume: &mut [f32], scratch: &mut [f32], progress: Progress, allowance: u64| match solid {
+            true => solid_bake(input, volume, scratch, progress, allowance),
+            false => bake(input, volume, scratch, HitScratch { distances: &mut distances, places: &mut places }, progress, allowance),
+        };
+        let (mut whole, mut unblurred) = (vec![0.0; 16 * n], vec![0.0; 16 * n]);
+        let unbroken = by(false, &mut whole, &mut unblurred, Progress::ZERO, u64::MAX).unwrap();
+        for turns in [[true, true], [true, false], [false, true]] {
+            let (mut volume, mut scratch, mut other, mut kept) = (vec![0.0; 16 * n], vec![3.0; 16 * n], vec![0.0; 16 * n], vec![3.0; 16 * n]);
+            let (mut progress, mut calls) = (Progress::ZERO, 0);
+            while progress.next < n {
+                let answers = [by(turns[calls % 2], &mut volume, &mut scratch, progress, 2000), by(false, &mut other, &mut kept, progress, 2000)];
+                assert_eq!(answers[0], answers[1]);
+                assert_eq!((bits(&volume), bits(&scratch)), (bits(&other), bits(&kept)), "call {calls}");
+                progress = answers[0].unwrap().progress;
+                calls += 1;
+            }
+            assert!(calls > 2 && progress == unbroken.progress);
+            assert_eq!((bits(&volume), bits(&scratch)), (bits(&whole), bits(&unblurred)));
+        }
+        let (mut volume, mut scratch) = (vec![0.0; 16 * n], vec![0.0; 16 * n]);
+        assert_eq!(by(true, &mut volume, &mut scratch, Progress::ZERO, u64::MAX), Ok(unbroken));
+        assert_eq!((bits(&volume), bits(&scratch)), (bits(&whole), bits(&unblurred)));
+        // a finished bake stays so, and what the other call refuses this one does
+        assert_eq!(by(true, &mut volume, &mut scratch, unbroken.progress, 2000), Ok(Baked { progress: unbroken.progress, rays: 0 }));
+        for (progress, allowance) in [(Progress { next: n + 1, ..unbroken.progress }, 2000), (Progress { rays: 0, ..unbroken.progress }, 2000), (Progress::ZERO, 383)] {
+            let refused = by(false, &mut volume, &mut scratch, progress, allowance);
+            assert!(refused.is_err());
+            assert_eq!(by(true, &mut volume, &mut scratch, progress, allowance), refused);
+        }
+        assert_eq!((bits(&volume), bits(&scratch)), (bits(&whole), bits(&unblurred)));
+    }
+    // any other kind, first or last, used or not: 6, and nothing is written
+    let input = BakeInput {
+        axes,
+        corners,
+        scene,
+        light: Light { direction: towards, colour: Vec3::default() },
+        ambient: Ambient::default(),
+        sky: &sky,
+        lamps: &[],
+        active: &active,
+        lights: &lights,
+    };
+    let ray = down(2.0, 2.5, 8.0);
+    for kind in 1..=255 {
+        for place in [0, 3] {
+            // a material more than the triangles use
+            let mut kinds = [OPAQUE; 4];
+            kinds[place] = kind;
+            let scene = Scene { kinds: &kinds, numbers: &[&numbers[..], &[0.0; 7]].concat(), ..scene };
+            assert!(!scene.is_solid());
+            assert_eq!(solid_transmittance(scene, ray), Err(Refusal::Material), "kind {kind}");
+            let (mut light, mut scratch, mut volume, mut kept) = (vec![5.0; n], vec![6.0; n], vec![7.0; 16 * n], vec![8.0; 16 * n]);
+            assert_eq!(solid_sun(axes, corners, scene, towards, &active, &mut light, &mut scratch), Err(Refusal::Material), "kind {kind}");
+            assert_eq!(solid_bake(BakeInput { scene, ..input }, &mut volume, &mut kept, Progress::ZERO, u64::MAX), Err(Refusal::Material), "kind {kind}");
+            assert_eq!((light, scratch, volume, kept), (vec![5.0; n], vec![6.0; n], vec![7.0; 16 * n], vec![8.0; 16 * n]));
+        }
+    }
+    // in its row: after 5, before 7 and 8
+    let glass = Scene { kinds: &[OPAQUE, TRANSLUCENT, OPAQUE], ..scene };
+    let far: Vec<f32> = points.iter().map(|x| x + 5000.0).collect();
+    let nowhere = Vec3::default();
+    assert_eq!(solid_transmittance(Scene { points: &far, ..glass }, ray), Err(Refusal::Point));
+    assert_eq!(solid_transmittance(glass, Ray { shortest: -1.0, ..ray }), Err(Refusal::Material));
+    assert_eq!(solid_transmittance(scene, Ray { shortest: -1.0, ..ray }), Err(Refusal::Ray));
+    let (mut light, mut scratch) = (vec![5.0; n], vec![6.0; n]);
+    assert_eq!(solid_sun(axes, corners, Scene { points: &far, ..glass }, nowhere, &active, &mut light, &mut scratch), Err(Refusal::Point));
+    assert_eq!(solid_sun(axes, corners, glass, nowhere, &active, &mut light, &mut scratch), Err(Refusal::Material));
+    assert_eq!(solid_sun(axes, corners, scene, nowhere, &active, &mut light, &mut scratch), Err(Refusal::Light));
+    // 3 asks for the lists that there are
+    let short = Scene { points: &points[1..], ..scene };
+    assert_eq!(solid_transmittance(short, ray), Err(Refusal::Length));
+    assert_eq!(solid_sun(axes, corners, short, towards, &active, &mut light, &mut scratch), Err(Refusal::Length));
+    assert_eq!(solid_sun(axes, corners, scene, towards, &active, &mut light, &mut scratch[1..]), Err(Refusal::Length));
+    assert_eq!(solid_bake(input, &mut vec![7.0; 16 * n - 1], &mut vec![8.0; 16 * n], Progress::ZERO, u64::MAX), Err(Refusal::Length));
+    assert_eq!((light, scratch), (vec![5.0; n], vec![6.0; n]));
+    // no triangle: everything passes
+    let empty = Scene { points: &[], uses: &[], kinds: &[], numbers: &[] };
+    assert_eq!(solid_transmittance(empty, ray), Ok(1.0));
+}
+
 #[test]
 fn grids() {
     let (mut occupied, mut active) = ([9], [!9]);
@@ -212,7 +351,7 @@ fn along(axis: usize, number: usize) -> Axes {
 }
 
 /// Every call that takes axes, from masks to file and back, over lists of a grid's lengths; the first refusal.
-fn every_call(axes: Axes) -> [Result<(), Refusal>; 14] {
+fn every_call(axes: Axes) -> [Result<(), Refusal>; 16] {
     let (n, words) = (axes.count().min(1 << 10), axes.words().min(1 << 4));
     let max = |axis: usize| axis.min(1 << 10) as f32 / 64.0;
     let corners = Corners { min: Vec3::default(), max: Vec3::new(max(axes.width), max(axes.height), max(axes.depth)) };
@@ -225,6 +364,9 @@ fn every_call(axes: Axes) -> [Result<(), Refusal>; 14] {
     let light_of_sun = Light { direction: up, colour: up };
     let input = BakeInput { axes, corners, scene, light: light_of_sun, ambient: Ambient::default(), sky: &[1.0; SKY_LENGTH], lamps: &[], active: &active, lights: &light };
     let baked = bake(input, &mut volume, &mut kept, HitScratch { distances: &mut distances, places: &mut places }, Progress::ZERO, u64::MAX).map(drop);
+    let walls = Scene { kinds: &[OPAQUE], ..scene };
+    let solid_sunned = solid_sun(axes, corners, walls, up, &active, &mut vec![0.0; n], &mut scratch).map(drop);
+    let solid_baked = solid_bake(BakeInput { scene: walls, ..input }, &mut volume, &mut kept, Progress::ZERO, u64::MAX).map(drop);
     let one = |refused: FirstRefused| refused.refusal;
     let middle = Vec3::new(corners.max.x / 2.0, corners.max.y / 2.0, corners.max.z / 2.0);
     let middles = [middle.x, middle.y, middle.z];
@@ -232,6 +374,8 @@ fn every_call(axes: Axes) -> [Result<(), Refusal>; 14] {
         masked,
         sunned,
         baked,
+        solid_sunned,
+        solid_baked,
         join(axes, &active, &kept, &mut volume),
         light_blur(axes, &mut light, &mut scratch),
         coefficient_blur(axes, &mut volume, &mut kept),
@@ -250,10 +394,10 @@ fn every_call(axes: Axes) -> [Result<(), Refusal>; 14] {
 fn axes_to_the_limit() {
     for axis in 0..3 {
         for good in [1, 32, 33, AXIS_LIMIT] {
-            assert_eq!(every_call(along(axis, good)), [Ok(()); 14], "{good} on axis {axis}");
+            assert_eq!(every_call(along(axis, good)), [Ok(()); 16], "{good} on axis {axis}");
         }
         for bad in [0, AXIS_LIMIT + 1, (1 << 16) + 1, (1 << 32) + 1, usize::MAX] {
-            assert_eq!(every_call(along(axis, bad)), [Err(Refusal::Axis); 14], "{bad} on axis {axis}");
+            assert_eq!(every_call(along(axis, bad)), [Err(Refusal::Axis); 16], "{bad} on axis {axis}");
         }
         // a file says its axis in two bytes: the limit comes back bit for bit, one more is refused and writes nothing
         let axes = along(axis, AXIS_LIMIT);
