@@ -4,6 +4,7 @@
 //! into one; every share is a bake of its own mask, its unblurred volume is joined by the library's `join` onto that of a first share without a voxel, ambient
 //! everywhere, and its blur of coefficients takes the mean last. That calls made so end in the bits of the unbroken bake is proved (`demand-of-shares` of crate shared_bake); that they are made so is
 //! what stands here, and is tested (tests/).
+use crate::engine::Engine;
 use crate::hall::Hall;
 use crate::part::{Only, Part};
 use crate::volume::Volume;
@@ -51,23 +52,8 @@ impl Prepared {
 pub fn ambient_of(hall: &Hall, light: &[f32]) -> Result<Vec<f32>> {
     let (mut volume, mut scratch) = (vec![0.0; 16 * hall.axes.count()], vec![0.0; 16 * hall.axes.count()]);
     let none = vec![0; hall.axes.words()];
-    bake(hall.input(&none, light), &mut volume, &mut scratch, Scratch::new(hall).lent(), Progress::ZERO, u64::MAX)?;
+    Engine::new(hall).bake(&none, light, &mut volume, &mut scratch, Progress::ZERO, u64::MAX)?;
     Ok(volume)
-}
-
-pub struct Scratch {
-    distances: Vec<f32>,
-    places: Vec<usize>,
-}
-
-impl Scratch {
-    pub fn new(hall: &Hall) -> Scratch {
-        Scratch { distances: vec![0.0; hall.triangles()], places: vec![0; hall.triangles()] }
-    }
-
-    pub fn lent(&mut self) -> HitScratch<'_> {
-        HitScratch { distances: &mut self.distances, places: &mut self.places }
-    }
 }
 
 /// Both masks, occupied and active, and their counts.
@@ -104,7 +90,7 @@ pub fn prepare(hall: &Hall) -> Result<Prepared> {
     let begun = Instant::now();
     let (occupied, active, marked) = masked(hall)?;
     let masks_seconds = begun.elapsed().as_secs_f64();
-    sun(hall.axes, hall.corners, hall.scene(), hall.sun.direction, &active, &mut light, &mut scratch, Scratch::new(hall).lent())?;
+    Engine::new(hall).sun(&active, &mut light, &mut scratch)?;
     let sun_seconds = begun.elapsed().as_secs_f64() - masks_seconds;
     Ok(Prepared { occupied, active, light, marked, masks_seconds, sun_seconds, only: None })
 }
@@ -235,11 +221,11 @@ pub fn run(hall: &Hall, prepared: &Prepared, from: Option<Part>, asked: &Asked) 
         let mask = &masks[s];
         let (mut progress, mut volume) = state_of(s)?;
         let mut scratch = vec![0.0; 16 * n];
-        let mut hits = Scratch::new(hall);
+        let mut engine = Engine::new(hall);
         let mut saved = Instant::now();
         while progress.next < n && may_go_on() {
             let was = progress;
-            let baked = bake(hall.input(mask, &prepared.light), &mut volume, &mut scratch, hits.lent(), was, asked.allowance)?;
+            let baked = engine.bake(mask, &prepared.light, &mut volume, &mut scratch, was, asked.allowance)?;
             progress = baked.progress;
             voxels.fetch_add(passed_count(mask, progress.next) - passed_count(mask, was.next), SeqCst);
             rays.fetch_add(baked.rays, SeqCst);

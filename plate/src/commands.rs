@@ -1,5 +1,6 @@
 //! The commands, one function each; each answers its exit code, or an error in words.
-use crate::baking::{self, Asked, Outcome, Prepared, Scratch, Told};
+use crate::baking::{self, Asked, Outcome, Prepared, Told};
+use crate::engine::Engine;
 use crate::faults::Found;
 use crate::hall::{self, thousands, vec, Hall};
 use crate::part::{self, Only, Part};
@@ -45,6 +46,9 @@ fn lasting(seconds: f64) -> String {
     }
 }
 
+/// Said of a hall whose every material is opaque.
+const SOLID: &str = "solid walls: rays to the sun, the sky and the lamps end at their first hit";
+
 pub fn check(paths: &[PathBuf], json: bool) -> Result<u8> {
     let mut code = GOOD;
     for path in paths {
@@ -54,8 +58,8 @@ pub fn check(paths: &[PathBuf], json: bool) -> Result<u8> {
             code = REFUSED;
         }
         if json {
-            let panels = hall.as_ref().map(Hall::panels);
-            let line = serde_json::json!({ "hall": path.display().to_string(), "faults": found.faults, "warnings": found.warnings, "panels": panels });
+            let (panels, solid) = (hall.as_ref().map(Hall::panels), hall.as_ref().map(Hall::solid));
+            let line = serde_json::json!({ "hall": path.display().to_string(), "faults": found.faults, "warnings": found.warnings, "panels": panels, "solid": solid });
             println!("{line}");
             continue;
         }
@@ -73,6 +77,9 @@ pub fn check(paths: &[PathBuf], json: bool) -> Result<u8> {
                     let fronts: Vec<String> = hall.fronts().iter().map(|(name, counts)| format!("{name} {}", turned(counts))).collect();
                     println!("note: {} of {} triangles are panels, opaque from the front and not there from behind. A front is the side from which the corners run counter-clockwise. \
                         Fronts are turned: {}", thousands(hall.panels() as u64), thousands(hall.triangles() as u64), fronts.join("; "));
+                }
+                if hall.triangles() > 0 && hall.solid() {
+                    println!("note: {SOLID}");
                 }
                 let marked = baking::marked_of(&hall)?;
                 let idle = hall.axes.count() as u64 - marked.active;
@@ -362,6 +369,9 @@ pub fn plan(args: &Plan) -> Result<u8> {
             println!("  nothing to bake: no surface is near the grid");
             continue;
         }
+        if hall.solid() {
+            println!("  {SOLID}");
+        }
         println!("  sure: from {} to {} rays ({LEAST_RAYS} to {cost} a voxel)", thousands(LEAST_RAYS * marked.active), thousands(cost * marked.active));
         let at_once = threads.min(marked.active as usize);
         println!("  memory: {} at most with {threads} threads; the volume file has {}, the part file {}", sized(baking::most_bytes(hall.axes, at_once)),
@@ -370,13 +380,13 @@ pub fn plan(args: &Plan) -> Result<u8> {
         let sample = args.sample.unwrap_or((marked.active as usize / MOST_SAMPLED).max(8));
         let first = sample.min(marked.active as usize) / 2;
         let voxels: Vec<usize> = marked_voxels(&active).skip(first).step_by(sample).collect();
-        let (mut volume, mut scratch, mut hits) = (vec![0.0; 16 * n], vec![0.0; 16 * n], Scratch::new(&hall));
+        let (mut volume, mut scratch, mut engine) = (vec![0.0; 16 * n], vec![0.0; 16 * n], Engine::new(&hall));
         // what is fired from a progress on, the progress then, and the time
         let mut timed = |voxels: &[usize], progress: Progress| -> Result<(u64, Progress, f64)> {
             let mut mask = vec![0; hall.axes.words()];
             voxels.iter().for_each(|voxel| mark(&mut mask, *voxel));
             let begun = Instant::now();
-            let baked = geaidnosa::bake(hall.input(&mask, &light), &mut volume, &mut scratch, hits.lent(), progress, u64::MAX)?;
+            let baked = engine.bake(&mask, &light, &mut volume, &mut scratch, progress, u64::MAX)?;
             Ok((baked.rays, baked.progress, begun.elapsed().as_secs_f64()))
         };
         // A bake of one voxel shows what the grid costs by itself, and a call of a finished bake what each call does: in a large hall both are more than a voxel.
@@ -459,12 +469,12 @@ fn face_picture(volume: &Volume, hall: &Hall, name: &str, direct: bool, size: us
     let rows: Result<Vec<Vec<[f32; 3]>>> = (0..height)
         .into_par_iter()
         .map(|row| {
-            let mut scratch = Scratch::new(hall);
+            let mut engine = direct.then(|| Engine::new(hall));
             (0..width)
                 .map(|column| {
                     let (right, upward) = ((column as f32 + 0.5) / width as f32, 1.0 - (row as f32 + 0.5) / height as f32);
                     let point = vec::add(face.corner, vec::add(vec::scale(face.across, right), vec::scale(face.up, upward)));
-                    let falls = light::falling(volume, direct.then_some(hall), &mut scratch, point, face.normal)?;
+                    let falls = light::falling(volume, engine.as_mut(), point, face.normal)?;
                     Ok(light::sent(light::paint(face, right, upward), falls))
                 })
                 .collect()
@@ -530,7 +540,7 @@ pub fn look(args: &Look) -> Result<u8> {
     let mut head: Vec<String> = ["x", "y", "z", "nx", "ny", "nz", "sun", "sky", "Er", "Eg", "Eb"].map(String::from).to_vec();
     head.extend((0..4).flat_map(|k| ["r", "g", "b"].map(|c| format!("c{k}{c}"))));
     out.write_record(&head)?;
-    let mut scratch = hall.as_ref().map(Scratch::new);
+    let mut engine = hall.as_ref().map(Engine::new);
     for (row, p) in positions.iter().enumerate() {
         let c = &coefficients[16 * row..16 * row + 16];
         let normal = match (p.nx, p.ny, p.nz) {
@@ -548,8 +558,8 @@ pub fn look(args: &Look) -> Result<u8> {
         match normal {
             Some(n) => {
                 let mut falls = irradiance(c, n).map(|x| x.max(0.0));
-                if let (Some(hall), Some(scratch)) = (&hall, &mut scratch) {
-                    let more = light::direct(hall, scratch, Vec3::new(p.x, p.y, p.z), n)?;
+                if let Some(engine) = &mut engine {
+                    let more = light::direct(engine, Vec3::new(p.x, p.y, p.z), n)?;
                     (0..3).for_each(|k| falls[k] += more[k]);
                 }
                 fields.extend([n.x, n.y, n.z, lights[row], c[7]].map(|x| x.to_string()));
@@ -687,7 +697,7 @@ pub fn verify(volume_path: &Path, hall_path: &Path, sample: usize) -> Result<u8>
         }
     }
     let (mut again, mut scratch) = (vec![0.0; 16 * n], vec![0.0; 16 * n]);
-    let baked = geaidnosa::bake(hall.input(&mask, &light), &mut again, &mut scratch, Scratch::new(&hall).lent(), Progress::ZERO, u64::MAX)?;
+    let baked = Engine::new(&hall).bake(&mask, &light, &mut again, &mut scratch, Progress::ZERO, u64::MAX)?;
     let wrong = chosen.iter().filter(|v| !volume.voxel(**v).iter().zip(&again[16 * **v..16 * **v + 16]).all(|(a, b)| a.to_bits() == b.to_bits())).count();
     if wrong > 0 {
         words.push(format!("{wrong} of {} voxels baked again come out differently", chosen.len()));
@@ -713,7 +723,8 @@ pub fn explain(number: u32) -> Result<u8> {
         Refusal::TooMany => "Leave out what casts no light worth baking: chairs, screws, what is outside. A drawing has at most 4,096 triangles and 256 materials.",
         Refusal::Point => "A point of the drawing is too far off or not finite. Is unit right? `plate check` names the face and its line.",
         Refusal::Material => "A material's colour or transmission is out of range, in the material file or in hall.toml, or its kind there is none of \"opaque\" (0), \"translucent\" (1) and \
-            \"panel\" (2), which is opaque from the front and not there from behind. `plate check` names it.",
+            \"panel\" (2), which is opaque from the front and not there from behind. `plate check` names it. The solid calls take opaque materials alone; the program makes \
+            them only of a hall that has no other, a program of your own must.",
         Refusal::Light => "In hall.toml, sun and sky: sun.towards has a length, and every number is finite and at most 65,536.",
         Refusal::Ray => "Only programs that trace rays of their own meet this one.",
         Refusal::Progress => "A bake was asked to go on from past its end, or with rays that the voxels passed cannot have fired. Hand on what the last call answered, both numbers of it, with \

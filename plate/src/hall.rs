@@ -1,4 +1,5 @@
 //! A hall: hall.toml, its drawing and its sky, made into the lists that the library takes. Everything wrong is said in words with its place.
+use crate::engine::Engine;
 use crate::faults::Found;
 use crate::obj;
 use geaidnosa::*;
@@ -177,6 +178,11 @@ impl Hall {
 
     pub fn triangles(&self) -> usize {
         self.uses.len()
+    }
+
+    /// Whether every material is opaque, also those that no triangle has: then the library's solid calls take the hall.
+    pub fn solid(&self) -> bool {
+        self.scene().is_solid()
     }
 
     /// How many triangles are panels.
@@ -368,9 +374,7 @@ fn judged_by_library(hall: &Hall) -> Result<(), Refusal> {
     let n = hall.axes.count();
     let (active, lights) = (vec![0; hall.axes.words()], vec![0.0; n]);
     let (mut volume, mut scratch) = (vec![0.0; 16 * n], vec![0.0; 16 * n]);
-    let (mut distances, mut places) = (vec![0.0; hall.triangles()], vec![0; hall.triangles()]);
-    let hits = HitScratch { distances: &mut distances, places: &mut places };
-    match bake(hall.input(&active, &lights), &mut volume, &mut scratch, hits, Progress::ZERO, 0) {
+    match Engine::new(hall).bake(&active, &lights, &mut volume, &mut scratch, Progress::ZERO, 0) {
         Err(Refusal::Allowance) => Ok(()),
         Err(other) => Err(other),
         Ok(_) => unreachable!("an allowance of 0 is refused"),

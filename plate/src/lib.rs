@@ -1,6 +1,7 @@
 //! `plate`: prepares a hall's plate. Reads the drawing and the lamps, bakes the light by the proved library, and shows what came out.
 pub mod baking;
 pub mod commands;
+pub mod engine;
 pub mod faults;
 pub mod files;
 pub mod hall;

@@ -1,6 +1,6 @@
 //! What falls on a surface: the volume's irradiance, and straight from lamps and sun by transmittance, which the volume does not have.
-use crate::baking::Scratch;
-use crate::hall::{vec, Face, Hall};
+use crate::engine::Engine;
+use crate::hall::{vec, Face};
 use crate::volume::{irradiance, Volume};
 use anyhow::Result;
 use geaidnosa::*;
@@ -10,7 +10,8 @@ const OFF: f32 = 1e-3;
 const SHORTEST: f32 = 1e-4;
 
 /// The irradiance straight from each lamp, colour·((n·l)/d²), and from the sun, colour·(n·l), each by what passes on the way there.
-pub fn direct(hall: &Hall, scratch: &mut Scratch, point: Vec3, normal: Vec3) -> Result<[f32; 3]> {
+pub fn direct(engine: &mut Engine, point: Vec3, normal: Vec3) -> Result<[f32; 3]> {
+    let hall = engine.hall;
     let from = vec::add(point, vec::scale(normal, OFF));
     let mut sum = [0.0f32; 3];
     for lamp in hall.lamps.chunks_exact(6) {
@@ -22,7 +23,7 @@ pub fn direct(hall: &Hall, scratch: &mut Scratch, point: Vec3, normal: Vec3) -> 
             continue;
         }
         let ray = Ray { origin: from, direction: vec::scale(way, 1.0 / distance), shortest: SHORTEST, longest: distance - SHORTEST };
-        let passes = transmittance(hall.scene(), ray, scratch.lent())?;
+        let passes = engine.transmittance(ray)?;
         (0..3).for_each(|c| sum[c] += lamp[3 + c] * (facing / squared) * passes);
     }
     let towards = vec::unit(hall.sun.direction);
@@ -30,17 +31,17 @@ pub fn direct(hall: &Hall, scratch: &mut Scratch, point: Vec3, normal: Vec3) -> 
     let colour: [f32; 3] = hall.sun.colour.into();
     if facing > 0.0 && colour != [0.0; 3] {
         let ray = Ray { origin: from, direction: towards, shortest: SHORTEST, longest: f32::INFINITY };
-        let passes = transmittance(hall.scene(), ray, scratch.lent())?;
+        let passes = engine.transmittance(ray)?;
         (0..3).for_each(|c| sum[c] += colour[c] * facing * passes);
     }
     Ok(sum)
 }
 
-/// The irradiance at a point: the volume's, raised to 0, and what comes straight where a hall is given.
-pub fn falling(volume: &Volume, straight: Option<&Hall>, scratch: &mut Scratch, point: Vec3, normal: Vec3) -> Result<[f32; 3]> {
+/// The irradiance at a point: the volume's, raised to 0, and what comes straight where a hall's engine is given.
+pub fn falling(volume: &Volume, straight: Option<&mut Engine>, point: Vec3, normal: Vec3) -> Result<[f32; 3]> {
     let mut sum = irradiance(&volume.coefficients(point)?, normal).map(|x| x.max(0.0));
-    if let Some(hall) = straight {
-        let more = direct(hall, scratch, point, normal)?;
+    if let Some(engine) = straight {
+        let more = direct(engine, point, normal)?;
         (0..3).for_each(|c| sum[c] += more[c]);
     }
     Ok(sum)

@@ -1,4 +1,5 @@
 //! Pictures of linear colours: exposed, made sRGB and written as PNG.
+use crate::engine::Engine;
 use crate::files;
 use crate::hall::{vec, Hall};
 use crate::volume::Volume;
@@ -201,13 +202,13 @@ pub fn view(volume: &Volume, hall: &Hall, camera: &Camera, width: usize, height:
     let rows: Result<Vec<Vec<[f32; 3]>>> = (0..height)
         .into_par_iter()
         .map(|row| {
-            let mut scratch = crate::baking::Scratch::new(hall);
+            let mut engine = Engine::new(hall);
             (0..width)
                 .map(|column| {
                     let across = (2.0 * (column as f32 + 0.5) / width as f32 - 1.0) * reach;
                     let upward = (1.0 - 2.0 * (row as f32 + 0.5) / height as f32) * reach * height as f32 / width as f32;
                     let way = vec::unit(vec::add(ahead, vec::add(vec::scale(right, across), vec::scale(up, upward))));
-                    seen(volume, hall, &mut scratch, camera.from, way)
+                    seen(volume, &mut engine, camera.from, way)
                 })
                 .collect()
         })
@@ -215,7 +216,8 @@ pub fn view(volume: &Volume, hall: &Hall, camera: &Camera, width: usize, height:
     Ok(Picture { width, height, pixels: rows?.into_iter().flatten().collect() })
 }
 
-fn seen(volume: &Volume, hall: &Hall, scratch: &mut crate::baking::Scratch, from: Vec3, way: Vec3) -> Result<[f32; 3]> {
+fn seen(volume: &Volume, engine: &mut Engine, from: Vec3, way: Vec3) -> Result<[f32; 3]> {
+    let hall = engine.hall;
     let mut sum = [0.0f32; 3];
     let (mut part, mut shortest) = (1.0f32, 1e-3f32);
     for _ in 0..16 {
@@ -231,7 +233,7 @@ fn seen(volume: &Volume, hall: &Hall, scratch: &mut crate::baking::Scratch, from
         let point = vec::add(from, vec::scale(way, hit.t));
         let material = hall.uses[hit.place] as usize;
         let numbers = &hall.numbers[7 * material..7 * material + 7];
-        let falls = crate::light::falling(volume, Some(hall), scratch, point, normal)?;
+        let falls = crate::light::falling(volume, Some(&mut *engine), point, normal)?;
         let base = hall.faces.iter().find_map(|face| on_face(face, point)).unwrap_or([numbers[0], numbers[1], numbers[2]]);
         let sends = crate::light::sent(base, falls);
         let passes = if hall.kinds[material] == TRANSLUCENT { numbers[6] } else { 0.0 };

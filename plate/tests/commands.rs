@@ -1,6 +1,6 @@
 //! Every command with good and bad input, through the program itself; and the numbers it writes held to the library's own bake.
 use geaidnosa::*;
-use plate::{baking, faults::Found, hall, part::Only, part::Part, volume::Volume};
+use plate::{baking, engine::Engine, faults::Found, hall, part::Only, part::Part, volume::Volume};
 use std::path::{Path, PathBuf};
 use std::process::{Command, Output};
 use std::sync::atomic::AtomicBool;
@@ -59,7 +59,7 @@ fn read(path: &Path) -> hall::Hall {
     hall.unwrap()
 }
 
-/// The bake as a program of one's own would do it: one call, no share, no part.
+/// The bake as a program of one's own would do it: one call, no share, no part. By the calls that take every hall, of solid walls too.
 fn unbroken(hall: &hall::Hall) -> (Volume, u64) {
     let (n, t) = (hall.axes.count(), hall.triangles());
     let (mut occupied, mut active) = (vec![0; hall.axes.words()], vec![0; hall.axes.words()]);
@@ -276,7 +276,7 @@ fn shares_of_machines_join_to_the_same_bits() {
     let (share, n) = (Only { share: 2, of: 3 }, hall.axes.count());
     let prepared = baking::prepare(&hall).unwrap().share(share);
     let (mut volume, mut scratch) = (vec![0.0; 16 * n], vec![0.0; 16 * n]);
-    let begun = bake(hall.input(&prepared.active, &prepared.light), &mut volume, &mut scratch, baking::Scratch::new(&hall).lent(), Progress::ZERO, hall.voxel_cost() * 40).unwrap();
+    let begun = Engine::new(&hall).bake(&prepared.active, &prepared.light, &mut volume, &mut scratch, Progress::ZERO, hall.voxel_cost() * 40).unwrap();
     assert!(begun.progress.next > 0 && begun.progress.next < n);
     let part = Part { shares: vec![begun.progress], only: Some(share), seconds: 0.0, volume };
     part.write(&at.join("z.part"), &hall).unwrap();
@@ -454,6 +454,15 @@ fn killed_bakes_go_on_to_the_same_bits() {
     println!("{killed} kills in {round} bakes, {saved} with a part file");
 }
 
+/// A part file as this library would have written it under another version's number.
+fn of_library(part: &[u8], library: u32) -> Vec<u8> {
+    let (now, then) = (format!("{{\"library\":{VERSION_NUMBER},"), format!("{{\"library\":{library},"));
+    let body = &part[part.iter().position(|b| *b == b'\n').unwrap() + 1..];
+    assert!(body.starts_with(now.as_bytes()));
+    let body = [then.as_bytes(), &body[now.len()..]].concat();
+    [format!("plate-part-2 {}\n", hall::sha256(&body)).as_bytes(), &body].concat()
+}
+
 #[test]
 fn stops_are_saved_and_changed_inputs_are_refused() {
     let (dir, path) = small();
@@ -522,13 +531,14 @@ fn stops_are_saved_and_changed_inputs_are_refused() {
     says(at, &["bake", "hall.toml"], 3, &["damaged"]);
     std::fs::write(&part, "").unwrap();
     says(at, &["bake", "hall.toml"], 3, &["no first line"]);
-    // sound, but of the library before masks were words
-    let (now, before) = (format!("{{\"library\":{VERSION_NUMBER},"), "{\"library\":1000,");
-    let body = &good[good.iter().position(|b| *b == b'\n').unwrap() + 1..];
-    assert!(body.starts_with(now.as_bytes()));
-    let old = [before.as_bytes(), &body[now.len()..]].concat();
-    std::fs::write(&part, [format!("plate-part-2 {}\n", hall::sha256(&old)).as_bytes(), &old].concat()).unwrap();
-    says(at, &["bake", "hall.toml"], 3, &["another version of the library", "--fresh"]);
+    // sound, but of a library that this one is not known to bake as, the last of them before masks were words
+    let mut old = Vec::new();
+    for library in [7000, 4000, 1000] {
+        old = of_library(&good, library);
+        std::fs::write(&part, &old).unwrap();
+        says(at, &["bake", "hall.toml"], 3, &["another version of the library", "--fresh"]);
+    }
+    let old = &old[old.iter().position(|b| *b == b'\n').unwrap() + 1..];
     // as the program wrote it before, and that under the mark of today
     let old = String::from_utf8_lossy(&old[..old.iter().position(|b| *b == b'\n').unwrap() + 1]).replace("\"next\":", "\"progress\":").into_bytes();
     for (mark, why) in [("plate-part-1", "begun by an earlier version of this program"), ("plate-part-2", "its head cannot be read")] {
@@ -675,6 +685,114 @@ fn lists_as_text() {
     assert_eq!(uses, hall.uses);
     assert_eq!((bits("light", 0).len(), bits("ambient", 0).len()), (6, 12));
     says(dir.path(), &["lists", "no.toml"], 3, &["no.toml"]);
+}
+
+/// The small hall with its net closed, in the sun: solid walls, and the transmission that the net still has is never read. And the same with a clear pane
+/// of a metre, five kilometres off, where no ray comes: hall.toml and paned.toml.
+fn walled() -> (tempfile::TempDir, [PathBuf; 2]) {
+    let (dir, path) = small();
+    edit(&path, "kind = \"translucent\"", "kind = \"opaque\"");
+    edit(&path, "colour = [0.0, 0.0, 0.0]", "colour = [2.0, 1.5, 1.0]");
+    let at = |name: &str| dir.path().join(name);
+    let text = |name: &str| std::fs::read_to_string(at(name)).unwrap();
+    std::fs::write(at("paned.mtl"), text("hall.mtl") + "newmtl pane\nKd 0.9 0.9 0.9\nd 0\n").unwrap();
+    let pane = "v -3000 -3000 -3000\nv -2999 -3000 -3000\nv -2999 -2999 -3000\nv -3000 -2999 -3000\nusemtl pane\nf 19 20 21 22\n";
+    std::fs::write(at("paned.obj"), text("hall.obj").replacen("mtllib hall.mtl", "mtllib paned.mtl", 1) + pane).unwrap();
+    std::fs::write(at("paned.toml"), text("hall.toml").replacen("obj = \"hall.obj\"", "obj = \"paned.obj\"", 1)).unwrap();
+    let paths = [path, at("paned.toml")];
+    (dir, paths)
+}
+
+#[test]
+fn solid_walls_are_the_other_calls_bits() {
+    let (dir, [path, paned_path]) = walled();
+    let at = dir.path();
+    let (hall, paned) = (read(&path), read(&paned_path));
+    assert!(hall.solid() && !paned.solid() && paned.triangles() == hall.triangles() + 2);
+    // by the calls that take every hall, with the pane and without
+    let (volume, rays) = unbroken(&hall);
+    let bytes = volume.bytes().unwrap();
+    let (other, others_rays) = unbroken(&paned);
+    assert_eq!((hall::sha256(&other.bytes().unwrap()), others_rays), (hall::sha256(&bytes), rays));
+    // by the solid ones alone
+    let n = hall.axes.count();
+    let (mut light, mut kept, mut solid, mut scratch) = (vec![0.0; n], vec![0.0; n], vec![0.0; 16 * n], vec![0.0; 16 * n]);
+    solid_sun(hall.axes, hall.corners, hall.scene(), hall.sun.direction, &volume.active, &mut light, &mut kept).unwrap();
+    let baked_solid = solid_bake(hall.input(&volume.active, &light), &mut solid, &mut scratch, Progress::ZERO, u64::MAX).unwrap();
+    let again = Volume { light, volume: solid, ..volume.clone() };
+    assert_eq!((hall::sha256(&again.bytes().unwrap()), baked_solid.rays), (hall::sha256(&bytes), rays));
+    // by the program, which takes the solid ones for the first hall and the others for the second
+    for (name, shares) in [("hall", "1"), ("hall", "3"), ("paned", "1"), ("paned", "2")] {
+        let (toml, out) = (format!("{name}.toml"), format!("{name}{shares}.vgrd"));
+        let said = says(at, &["bake", &toml, "-o", &out, "--shares", shares, "--threads", "2", "--allowance", "5000"], 0, &[]);
+        assert_eq!(rays_said(&said), rays, "{out}");
+        assert_eq!(hall::sha256(&std::fs::read(at.join(&out)).unwrap()), hall::sha256(&bytes), "{out}");
+    }
+    says(at, &["verify", "paned1.vgrd", "hall.toml"], 0, &["good"]);
+    says(at, &["verify", "hall1.vgrd", "paned.toml"], 0, &["good"]);
+    // what falls straight, in numbers and in pictures
+    std::fs::write(at.join("p.csv"), "x,y,z,nx,ny,nz\n3,1.5,4,0,1,0\n3,1.3,0.4,0,0,1\n3,1.3,0.1,0,0,1\n5.9,2.9,7.9,0,1,0\n3,1,7.9,0,0.5,1\n").unwrap();
+    let looked = |toml: &str| says(at, &["look", "hall1.vgrd", "p.csv", "--direct", toml], 0, &[]);
+    assert_eq!(looked("hall.toml"), looked("paned.toml"));
+    let pictured = |toml: &str| {
+        says(at, &["face", "hall1.vgrd", toml, "a", "--direct", "--size", "9", "--png", "f.png"], 0, &[]);
+        says(at, &["view", "hall1.vgrd", toml, "--from", "3,1.6,7", "--to", "3,1.3,0", "--size", "24", "--png", "v.png"], 0, &[]);
+        ["f.png", "v.png"].map(|name| std::fs::read(at.join(name)).unwrap())
+    };
+    assert_eq!(pictured("hall.toml"), pictured("paned.toml"));
+    // which it is stands in the summaries; a material counts though no face has it
+    let phrase = "solid walls: rays to the sun, the sky and the lamps end at their first hit";
+    says(at, &["check", "hall.toml"], 0, &[&format!("note: {phrase}")]);
+    says(at, &["plan", "hall.toml"], 0, &[&format!("  {phrase}\n")]);
+    says(at, &["check", "hall.toml", "--json"], 0, &["\"solid\":true"]);
+    says(at, &["check", "paned.toml", "--json"], 0, &["\"solid\":false"]);
+    for command in ["check", "plan"] {
+        assert!(!says(at, &[command, "paned.toml"], 0, &[]).contains("solid"), "{command}");
+    }
+    let text = std::fs::read_to_string(at.join("paned.obj")).unwrap();
+    std::fs::write(at.join("paned.obj"), text.replacen("\nusemtl pane\nf 19 20 21 22\n", "\n", 1)).unwrap();
+    let unused = read(&paned_path);
+    assert!(!unused.solid() && unused.triangles() == hall.triangles());
+    says(at, &["bake", "paned.toml", "-o", "unused.vgrd"], 0, &[]);
+    assert_eq!(std::fs::read(at.join("unused.vgrd")).unwrap(), bytes);
+    says(at, &["explain", "6"], 0, &["in a solid call above 0", "The solid calls take opaque materials alone"]);
+}
+
+#[test]
+fn a_part_of_solid_walls_says_nothing_of_its_calls() {
+    let (dir, [path, _]) = walled();
+    let (at, hall) = (dir.path(), read(&path));
+    let (volume, rays) = unbroken(&hall);
+    let (n, t, bytes) = (hall.axes.count(), hall.triangles(), volume.bytes().unwrap());
+    // one call of the same allowance, by the program's own way, which is the solid one, and by the other call
+    let baking::Outcome::Stopped { part, .. } = baked(&hall, None, 1, 1, 1) else { panic!("one call bakes all of it") };
+    let (mut other, mut scratch, mut distances, mut places) = (vec![0.0; 16 * n], vec![0.0; 16 * n], vec![0.0; t], vec![0; t]);
+    let mut by_hits = |volume_so_far: &mut [f32], progress: Progress, allowance: u64| {
+        let hits = HitScratch { distances: &mut distances, places: &mut places };
+        bake(hall.input(&volume.active, &volume.light), volume_so_far, &mut scratch, hits, progress, allowance).unwrap()
+    };
+    let begun = by_hits(&mut other, Progress::ZERO, hall.voxel_cost() * 40);
+    let [first, second] = [part.volume.clone(), other].map(|volume| Part { shares: vec![begun.progress], only: None, seconds: 0.0, volume });
+    assert_eq!(part.shares, [begun.progress]);
+    let files = [&first, &second].map(|part| {
+        part.write(&at.join("hall.vgrd.part"), &hall).unwrap();
+        std::fs::read(at.join("hall.vgrd.part")).unwrap()
+    });
+    assert!(files[0] == files[1]);
+    // begun by the other call, and also by the library before there were solid ones: gone on with by the program
+    for file in [files[1].clone(), of_library(&files[1], 5000)] {
+        std::fs::write(at.join("hall.vgrd.part"), file).unwrap();
+        let said = says(at, &["bake", "hall.toml", "--resume", "--threads", "1"], 0, &["going on from hall.vgrd.part"]);
+        let counted = said.lines().find(|line| line.contains("rays in all")).unwrap();
+        assert_eq!(rays_said(counted), rays);
+        assert!(std::fs::read(at.join("hall.vgrd")).unwrap() == bytes);
+        std::fs::remove_file(at.join("hall.vgrd")).unwrap();
+    }
+    // begun by the solid call, gone on with by the other one
+    let mut gone_on = first.volume.clone();
+    let ended = by_hits(&mut gone_on, first.shares[0], u64::MAX);
+    assert_eq!(ended.progress, Progress { next: n, rays });
+    assert!(gone_on.iter().map(|x| x.to_bits()).eq(volume.volume.iter().map(|x| x.to_bits())));
 }
 
 /// A floor with a curtain across its middle, at z = 3, that sends out blue and lets some light pass by its d; a red lamp behind it, at z = 1, and a green one before.
