@@ -668,6 +668,168 @@ static void check_counts(void) {
           geaidnosa_transmittance(many, 9 * 4096, them, 4096, kinds, M, numbers, 7 * M, up, d, 4096, p, 4096).transmittance == 1);
 }
 
+/* ---- solid walls: the hall with its glass bricked up, by the calls without hit scratch and by the others */
+
+static GeaidnosaTransmitted solid_passes(GeaidnosaRay ray) { return geaidnosa_solid_transmittance(points, 9 * T, uses, T, kinds, M, numbers, 7 * M, ray); }
+
+static GeaidnosaSunned solid_sun(GeaidnosaVec3 direction, const uint64_t *mask, float *l, float *s) {
+    return geaidnosa_solid_sun(axes, corners, points, 9 * T, uses, T, kinds, M, numbers, 7 * M, direction, mask, active_words, l, N, s, N);
+}
+
+static GeaidnosaBakeAnswer solid_bake(float *v, float *s, GeaidnosaProgress progress, uint64_t allowance) {
+    return geaidnosa_solid_bake(axes, corners, points, 9 * T, uses, T, kinds, M, numbers, 7 * M, light, ambient, sky, SKY, lamps, lamp_numbers, active, active_words, lights, N, v, 16 * N, s,
+                                16 * N, progress, allowance);
+}
+
+static uint32_t solid_sun_refusal(void) { return solid_sun(light.direction, active, lights, lights_scratch).refusal; }
+
+static uint32_t solid_bake_refusal(void) { return solid_bake(volume, scratch, begin, UINT64_MAX).refusal; }
+
+static int same_answer(GeaidnosaBakeAnswer a, GeaidnosaBakeAnswer b) { return a.refusal == b.refusal && is_progress(a.progress, b.progress.next, b.progress.rays) && a.rays == b.rays; }
+
+/* numbers that look like chance and are the same in every run, from 0 to 1 */
+static float chance(void) {
+    static uint64_t seed = 1;
+    seed = seed * 6364136223846793005u + 1442695040888963407u;
+    return (float)(seed >> 40) / 16777216;
+}
+
+static void check_solid_rays(void) {
+    int dark = 0, open = 0, good = 1;
+    for (int k = 0; k < 4096; k++) {
+        float r[7];
+        for (int i = 0; i < 7; i++) r[i] = chance();
+        const GeaidnosaRay ray = {{W * r[0], H * r[1], D * r[2]}, {2 * r[3] - 1, 2 * r[4] - 1, 2 * r[5] - 1}, 1e-4f, k % 3 ? INFINITY : 3 * r[6]};
+        GeaidnosaTransmitted a = passes(ray), b = solid_passes(ray);
+        good = good && a.refusal == 0 && b.refusal == 0 && !memcmp(&a.transmittance, &b.transmittance, sizeof a.transmittance);
+        dark += b.transmittance == 0;
+        open += b.transmittance == 1;
+    }
+    check("solid_transmittance: 4,096 rays, the same bits, some 0 and all others 1.0", good && dark > 500 && open > 500 && dark + open == 4096);
+    const GeaidnosaRay along = {{1, 1, 1}, {0, 0, 3}, 0, 1};
+    check("solid_transmittance: refuses 8, all zeros", solid_passes(along).refusal == 8 && solid_passes(along).transmittance == 0);
+    check("solid_transmittance: 9·T−1 numbers, refuses 3", geaidnosa_solid_transmittance(points, 9 * T - 1, uses, T, kinds, M, numbers, 7 * M, along).refusal == 3);
+    static float many[9 * 4097];
+    static uint32_t them[4097];
+    const GeaidnosaRay up = {{1, 1, 1}, {0, 0, 1}, 0, 1};
+    check("solid_transmittance: 4,097 triangles, refuses 4; 4,096 without area, 1.0; none, 1.0",
+          geaidnosa_solid_transmittance(many, 9 * 4097, them, 4097, kinds, M, numbers, 7 * M, up).refusal == 4 &&
+              geaidnosa_solid_transmittance(many, 9 * 4096, them, 4096, kinds, M, numbers, 7 * M, up).transmittance == 1 &&
+              geaidnosa_solid_transmittance(many, 0, them, 0, kinds, M, numbers, 7 * M, up).transmittance == 1);
+    printf("   %d rays end at a wall\n", dark);
+}
+
+/* Leaves the hall's lights in the list of that name. */
+static void check_solid_sun(void) {
+    static float l[N], s[N], nans[N];
+    memset(l, 0xff, sizeof l);
+    memset(s, 0xff, sizeof s);
+    memset(nans, 0xff, sizeof nans);
+    const GeaidnosaSunned a = sun(light.direction, active), b = solid_sun(light.direction, active, l, s);
+    check("solid_sun: the same rays, light and scratch bit for bit", a.refusal == 0 && b.refusal == 0 && a.rays == b.rays && !memcmp(l, lights, sizeof l) && !memcmp(s, lights_scratch, sizeof s));
+    const uint64_t none[WORDS] = {0};
+    memset(s, 0xff, sizeof s);
+    const GeaidnosaSunned still = solid_sun(light.direction, none, l, s);
+    int ones = still.refusal == 0 && still.rays == 0 && !memcmp(s, nans, sizeof s);
+    for (int i = 0; i < N; i++) ones = ones && l[i] == 1;
+    check("solid_sun: no voxel active, all 1.0, scratch as it was", ones);
+    memset(l, 0xff, sizeof l);
+    const GeaidnosaSunned refused = solid_sun(at(0, 0, 0), active, l, s);
+    check("solid_sun: no direction, refuses 7 and writes nothing", refused.refusal == 7 && refused.rays == 0 && !memcmp(l, nans, sizeof l) && !memcmp(s, nans, sizeof s));
+    check("solid_sun: an unused bit of the mask set, each in turn, refuses 13 and writes nothing", refuses_unused(active, solid_sun_refusal));
+    check("solid_sun: a word too few and one too many, refuses 3 and writes nothing", refuses_word_counts(&active_words, solid_sun_refusal));
+    check("solid_sun: a scratch of N−1, refuses 3",
+          geaidnosa_solid_sun(axes, corners, points, 9 * T, uses, T, kinds, M, numbers, 7 * M, light.direction, active, WORDS, l, N, s, N - 1).refusal == 3);
+    printf("   light sum %016llx\n", (unsigned long long)sum_of(lights, sizeof lights));
+}
+
+/* A bake by the other call, one by the solid call and one by both in turn, in calls of one allowance: at each step the same answer and the same lists. */
+static int alternates(uint64_t allowance, uint64_t rays) {
+    static float v[3][16 * N], s[3][16 * N];
+    GeaidnosaProgress progress = begin;
+    int good = 1, calls = 0;
+    memset(v, 0xff, sizeof v);
+    memset(s, 0xff, sizeof s);
+    while (good && progress.next < N && calls <= N) {
+        const GeaidnosaBakeAnswer a = bake(v[0], s[0], progress, allowance), b = solid_bake(v[1], s[1], progress, allowance);
+        const GeaidnosaBakeAnswer c = (calls % 2 ? bake : solid_bake)(v[2], s[2], progress, allowance);
+        good = a.refusal == 0 && same_answer(a, b) && same_answer(a, c);
+        for (int k = 1; k < 3; k++) good = good && !memcmp(v[k], v[0], sizeof v[0]) && !memcmp(s[k], s[0], sizeof s[0]);
+        progress = a.progress;
+        calls++;
+    }
+    return good && calls > 1 && is_progress(progress, N, rays) && !memcmp(v[0], volume, sizeof volume) && !memcmp(s[0], scratch, sizeof scratch);
+}
+
+static void check_solid_bake(void) {
+    static float v[16 * N], s[16 * N];
+    const char *const with[2] = {"no lamp", "one lamp"};
+    char line[160];
+    for (int lamp = 0; lamp < 2; lamp++) {
+        lamp_numbers = 6 * (size_t)lamp;
+        const GeaidnosaBakeAnswer a = bake(volume, scratch, begin, UINT64_MAX), b = solid_bake(v, s, begin, UINT64_MAX);
+        snprintf(line, sizeof line, "solid_bake: %s, unbroken, the same answer, volume and scratch bit for bit", with[lamp]);
+        check(line, a.refusal == 0 && is_progress(a.progress, N, a.rays) && same_answer(a, b) && !memcmp(v, volume, sizeof v) && !memcmp(s, scratch, sizeof s));
+        snprintf(line, sizeof line, "solid_bake: %s, the two calls in turn, the same at each step and at the end", with[lamp]);
+        check(line, alternates(384 + 64 * (uint64_t)lamp, a.rays) && alternates(5000, a.rays));
+        printf("   rays %llu, volume sum %016llx, scratch sum %016llx\n", (unsigned long long)a.rays, (unsigned long long)sum_of(volume, sizeof volume),
+               (unsigned long long)sum_of(scratch, sizeof scratch));
+        const GeaidnosaProgress wrong[5] = {from(N + 1, a.rays), from(SIZE_MAX, UINT64_MAX), from(N, 0), from(N, a.rays + 448 * N), from(1, UINT64_MAX)};
+        int good = 1;
+        for (int k = 0; k < 5; k++) good = good && solid_bake(volume, scratch, wrong[k], UINT64_MAX).refusal == 9 && same_answer(solid_bake(volume, scratch, wrong[k], 0), bake(volume, scratch, wrong[k], 0));
+        good = good && solid_bake(volume, scratch, begin, 383).refusal == 10 && same_answer(solid_bake(volume, scratch, from(N, a.rays), 500), bake(volume, scratch, from(N, a.rays), 500));
+        snprintf(line, sizeof line, "solid_bake: %s, a record outside its bounds refuses 9, 383 rays 10, a finished bake stays, and nothing is written", with[lamp]);
+        check(line, good && !memcmp(v, volume, sizeof v) && !memcmp(s, scratch, sizeof s));
+    }
+    check("solid_bake: an unused bit of the mask set, each in turn, refuses 13 and writes nothing", refuses_unused(active, solid_bake_refusal));
+    check("solid_bake: a word too few and one too many, refuses 3 and writes nothing", refuses_word_counts(&active_words, solid_bake_refusal));
+    check("solid_bake: a volume and a scratch of 16·N−1, refuses 3",
+          geaidnosa_solid_bake(axes, corners, points, 9 * T, uses, T, kinds, M, numbers, 7 * M, light, ambient, sky, SKY, lamps, 0, active, WORDS, lights, N, v, 16 * N - 1, s, 16 * N, begin, 384).refusal == 3 &&
+              geaidnosa_solid_bake(axes, corners, points, 9 * T, uses, T, kinds, M, numbers, 7 * M, light, ambient, sky, SKY, lamps, 0, active, WORDS, lights, N, v, 16 * N, s, 16 * N - 1, begin, 384).refusal == 3);
+    lamp_numbers = 0;
+}
+
+/* with a kind at a place of a list that has one material more than the triangles use, each of the three refuses 6, all zeros, and writes nothing; so also where
+ * the ray, the direction and the record are bad too */
+static int refuses_kind(uint8_t kind, size_t place) {
+    uint8_t more_kinds[M + 1] = {0};
+    float more_numbers[7 * (M + 1)] = {0};
+    const GeaidnosaRay up = {{1, 1, 1}, {0, 0, 1}, 0, 1}, bad = {{1, 1, 1}, {0, 0, 3}, 0, 1};
+    const uint64_t before = written_sum();
+    int good = 1;
+    memcpy(more_numbers, numbers, sizeof numbers);
+    more_kinds[place] = kind;
+    for (int worse = 0; worse < 2; worse++) {
+        const GeaidnosaTransmitted t = geaidnosa_solid_transmittance(points, 9 * T, uses, T, more_kinds, M + 1, more_numbers, 7 * (M + 1), worse ? bad : up);
+        const GeaidnosaSunned s = geaidnosa_solid_sun(axes, corners, points, 9 * T, uses, T, more_kinds, M + 1, more_numbers, 7 * (M + 1), worse ? at(0, 0, 0) : light.direction, active, WORDS,
+                                                      lights, N, lights_scratch, N);
+        const GeaidnosaProgress progress = worse ? from(N + 1, 7) : begin;
+        const GeaidnosaBakeAnswer b = geaidnosa_solid_bake(axes, corners, points, 9 * T, uses, T, more_kinds, M + 1, more_numbers, 7 * (M + 1), light, ambient, sky, SKY, lamps, 0, active, WORDS, lights,
+                                                           N, volume, 16 * N, scratch, 16 * N, progress, worse ? 0 : UINT64_MAX);
+        good = good && t.refusal == 6 && t.transmittance == 0 && s.refusal == 6 && s.rays == 0 && b.refusal == 6 && is_progress(b.progress, progress.next, progress.rays) && b.rays == 0;
+    }
+    return good && written_sum() == before;
+}
+
+static void check_solid(void) {
+    kinds[1] = 0;
+    check_solid_rays();
+    check_solid_sun();
+    check_solid_bake();
+    check("solid calls: a kind 1 first, and last where no triangle uses it, refuses 6 and writes nothing", refuses_kind(1, 0) && refuses_kind(1, M));
+    check("solid calls: a kind 2 first, and last where no triangle uses it, refuses 6 and writes nothing", refuses_kind(2, 0) && refuses_kind(2, M));
+    int good = 1;
+    for (int kind = 3; kind < 256; kind++)
+        for (size_t place = 0; place <= M; place++) good = good && refuses_kind((uint8_t)kind, place);
+    check("solid calls: every kind above 2 at every place, refuses 6 and writes nothing", good);
+    const float x = points[9];
+    points[9] = NAN;
+    kinds[1] = 1;
+    const GeaidnosaRay up = {{1, 1, 1}, {0, 0, 1}, 0, 1};
+    check("solid calls: a point NaN beside a kind 1, refuses 5", solid_passes(up).refusal == 5 && solid_sun_refusal() == 5 && solid_bake_refusal() == 5);
+    points[9] = x;
+}
+
 int main(void) {
     build();
     check("version: the header's and the archive's", geaidnosa_version() == GEAIDNOSA_VERSION_NUMBER);
@@ -684,6 +846,7 @@ int main(void) {
     check_join(check_bake());
     check_lookups();
     check_file(o, a);
+    check_solid();
     printf("%d failed\n", failures);
     return failures != 0;
 }

@@ -7,7 +7,7 @@
 
 #include "geaidnosa.h"
 
-enum { LIMIT = GEAIDNOSA_AXIS_LIMIT, T = 2, M = 1, SKY = 1728, SLAB = 5, CALLS = 14 };
+enum { LIMIT = GEAIDNOSA_AXIS_LIMIT, T = 2, M = 1, SKY = 1728, SLAB = 5, CALLS = 16 };
 
 static int failures = 0;
 static char name[64];
@@ -196,6 +196,15 @@ static GeaidnosaBakeAnswer bake(const Grid *g, GeaidnosaAxes a, const uint64_t *
                           16 * g->n, distances, T, places, T, progress, allowance);
 }
 
+static GeaidnosaSunned solid_sun(const Grid *g, GeaidnosaAxes a, float *l, float *s) {
+    return geaidnosa_solid_sun(a, g->corners, g->points, 9 * T, uses, T, kinds, M, numbers, 7 * M, sun.direction, g->active, g->words, l, g->n, s, g->n);
+}
+
+static GeaidnosaBakeAnswer solid_bake(const Grid *g, GeaidnosaAxes a, float *v, float *s, GeaidnosaProgress progress, uint64_t allowance) {
+    return geaidnosa_solid_bake(a, g->corners, g->points, 9 * T, uses, T, kinds, M, numbers, 7 * M, sun, ambient, sky, SKY, numbers, 0, g->active, g->words, g->light, g->n, v, 16 * g->n, s,
+                                16 * g->n, progress, allowance);
+}
+
 /* Every call that takes axes, with a grid's lists and other axes: how many refuse 1, with zeros in the rest of the answer. */
 static int refusing_one(const Grid *g, GeaidnosaAxes a) {
     const float position[3] = {0.5f, 0.5f, 0.5f};
@@ -209,6 +218,10 @@ static int refusing_one(const Grid *g, GeaidnosaAxes a) {
     count += s.refusal == 1 && s.rays == 0;
     const GeaidnosaBakeAnswer b = bake(g, a, g->active, g->volume, g->scratch, begin, UINT64_MAX);
     count += b.refusal == 1 && b.rays == 0 && b.progress.next == 0 && b.progress.rays == 0;
+    const GeaidnosaSunned solid_s = solid_sun(g, a, g->light, g->light_scratch);
+    count += solid_s.refusal == 1 && solid_s.rays == 0;
+    const GeaidnosaBakeAnswer solid_b = solid_bake(g, a, g->volume, g->scratch, begin, UINT64_MAX);
+    count += solid_b.refusal == 1 && solid_b.rays == 0 && solid_b.progress.next == 0 && solid_b.progress.rays == 0;
     count += geaidnosa_join(a, g->active, g->words, g->scratch, 16 * g->n, g->volume, 16 * g->n) == 1;
     count += geaidnosa_light_blur(a, g->light, g->n, g->light_scratch, g->n) == 1;
     count += geaidnosa_coefficient_blur(a, g->volume, 16 * g->n, g->scratch, 16 * g->n) == 1;
@@ -284,6 +297,13 @@ static void check_bake(Grid *g, uint64_t active) {
     }
     check("bake: an allowance of 400, the same volume, scratch and rays",
           calls > 1 && progress.next == g->n && progress.rays == rays && !memcmp(v, g->volume, 64 * g->n) && !memcmp(s, g->scratch, 64 * g->n));
+    /* one call by the one, and on from there by the other */
+    memset(v, 0xff, 64 * g->n);
+    memset(s, 0xff, 64 * g->n);
+    b = bake(g, g->axes, g->active, v, s, begin, 400);
+    b = solid_bake(g, g->axes, v, s, b.progress, UINT64_MAX);
+    check("solid_bake: begun by the other call, the same volume, scratch and rays",
+          b.refusal == 0 && b.progress.next == g->n && b.progress.rays == rays && !memcmp(v, g->volume, 64 * g->n) && !memcmp(s, g->scratch, 64 * g->n));
     const GeaidnosaProgress past = {g->n + 1, rays};
     b = bake(g, g->axes, g->active, v, s, past, 2000);
     check("bake: next above the count, refuses 9", b.refusal == 9 && b.progress.next == g->n + 1);
@@ -389,6 +409,9 @@ static void check_grid(Grid *g) {
     check("sun: a ray for each active voxel, 1.0 at the others", good);
     check("sun: the light is the squared mean of scratch", same_mean(g, g->light, g->light_scratch, 1, 1));
     float *light = list_of(g->n, sizeof(float)), *scratch = list_of(g->n, sizeof(float));
+    const GeaidnosaSunned solid_s = solid_sun(g, g->axes, light, scratch);
+    check("solid_sun: the same rays, light and scratch",
+          solid_s.refusal == 0 && solid_s.rays == active && !memcmp(light, g->light, 4 * g->n) && !memcmp(scratch, g->light_scratch, 4 * g->n));
     for (size_t i = 0; i < g->n; i++) light[i] = (float)(i % 1009);
     good = geaidnosa_light_blur(g->axes, light, g->n, scratch, g->n) == 0 && same_mean(g, light, scratch, 1, 1);
     for (size_t i = 0; i < g->n; i++) good = good && scratch[i] == (float)(i % 1009);

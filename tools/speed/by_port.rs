@@ -1,5 +1,5 @@
 //! The measured calls by the port.
-use crate::hall::{Hall, Panes, AMBIENT, AXES, COLOUR, CORNERS, DIRECTION, KINDS, MATERIALS, NUMBERS, PANE_KINDS, PANE_NUMBERS, VOXELS};
+use crate::hall::{Hall, Panes, AMBIENT, AXES, COLOUR, CORNERS, DIRECTION, MATERIALS, NUMBERS, PANE_KINDS, PANE_NUMBERS, VOXELS};
 use crate::port::{self, Ambient, Axes, CoefficientsAt, Corners, Light, LightAt, Progress, Ray, RayHit, Transmitted, Triangle, Vec3};
 use crate::{bits, measure, met, Lists, MET, POSITIONS, RAYS, SHORTEST};
 
@@ -66,19 +66,28 @@ impl State {
     }
 
     /// The bake, so many rays a call.
-    fn bake(&mut self, hall: &Hall, lists: &Lists, few: &[u64], corners: Corners, allowance: u64) {
+    fn bake(&mut self, hall: &Hall, lists: &Lists, few: &[u64], corners: Corners, solid: bool, allowance: u64) {
         let light = Light { direction: vec3(&DIRECTION), colour: vec3(&COLOUR) };
         let ambient = Ambient { c: [0, 3, 6, 9].map(|i| vec3(&AMBIENT[i..])) };
         let triangles = hall.triangles();
         let mut progress = Progress { next: 0, rays: 0 };
         while progress.next < VOXELS && self.refusal == 0 {
-            let answer = unsafe {
-                port::geaidnosa_bake(
-                    GRID, corners, hall.points.as_ptr(), 9 * triangles, hall.uses.as_ptr(), triangles, KINDS.as_ptr(), MATERIALS, NUMBERS.as_ptr(),
-                    7 * MATERIALS, light, ambient, hall.sky.as_ptr(), hall.sky.len(), hall.sky.as_ptr(), 0, few.as_ptr(), WORDS, lists.lights.as_ptr(), VOXELS,
-                    self.volume.as_mut_ptr(), 16 * VOXELS, self.volume_scratch.as_mut_ptr(), 16 * VOXELS, self.distances.as_mut_ptr(), triangles,
-                    self.places.as_mut_ptr(), triangles, progress, allowance,
-                )
+            let answer = match solid {
+                false => unsafe {
+                    port::geaidnosa_bake(
+                        GRID, corners, hall.points.as_ptr(), 9 * triangles, hall.uses.as_ptr(), triangles, hall.kinds.as_ptr(), MATERIALS, NUMBERS.as_ptr(),
+                        7 * MATERIALS, light, ambient, hall.sky.as_ptr(), hall.sky.len(), hall.sky.as_ptr(), 0, few.as_ptr(), WORDS, lists.lights.as_ptr(), VOXELS,
+                        self.volume.as_mut_ptr(), 16 * VOXELS, self.volume_scratch.as_mut_ptr(), 16 * VOXELS, self.distances.as_mut_ptr(), triangles,
+                        self.places.as_mut_ptr(), triangles, progress, allowance,
+                    )
+                },
+                true => unsafe {
+                    port::geaidnosa_solid_bake(
+                        GRID, corners, hall.points.as_ptr(), 9 * triangles, hall.uses.as_ptr(), triangles, hall.kinds.as_ptr(), MATERIALS, NUMBERS.as_ptr(),
+                        7 * MATERIALS, light, ambient, hall.sky.as_ptr(), hall.sky.len(), hall.sky.as_ptr(), 0, few.as_ptr(), WORDS, lists.lights.as_ptr(), VOXELS,
+                        self.volume.as_mut_ptr(), 16 * VOXELS, self.volume_scratch.as_mut_ptr(), 16 * VOXELS, progress, allowance,
+                    )
+                },
             };
             self.refusal = answer.refusal;
             progress = answer.progress;
@@ -92,7 +101,7 @@ pub fn answer(call: &str, turns: Option<usize>, hall: &Hall, lists: &Lists) -> V
     let rays: Vec<Ray> = lists.lines.iter().map(ray).collect();
     let positions: Vec<Vec3> = lists.positions.iter().map(|p| vec3(p)).collect();
     let triangles: Vec<Triangle> = hall.points.chunks(9).map(|p| Triangle { p0: vec3(p), p1: vec3(&p[3..]), p2: vec3(&p[6..]) }).collect();
-    let (points, uses, kinds, numbers) = (hall.points.as_ptr(), hall.uses.as_ptr(), KINDS.as_ptr(), NUMBERS.as_ptr());
+    let (points, uses, kinds, numbers) = (hall.points.as_ptr(), hall.uses.as_ptr(), hall.kinds.as_ptr(), NUMBERS.as_ptr());
     let mut state = State::new(hall.triangles());
     let count = hall.triangles();
     let s = &mut state;
@@ -134,6 +143,14 @@ pub fn answer(call: &str, turns: Option<usize>, hall: &Hall, lists: &Lists) -> V
             });
             s.passed.iter().map(|p| p.transmittance.to_bits()).collect()
         }
+        "solid transmittance" => {
+            measure(turns, s, |s| s.passed.clear(), |s| {
+                for ray in &rays {
+                    s.passed.push(unsafe { port::geaidnosa_solid_transmittance(points, 9 * count, uses, count, kinds, MATERIALS, numbers, 7 * MATERIALS, *ray) });
+                }
+            });
+            s.passed.iter().map(|p| p.transmittance.to_bits()).collect()
+        }
         "masks" => {
             measure(turns, s, still, |s| {
                 s.refusal = unsafe {
@@ -167,9 +184,21 @@ pub fn answer(call: &str, turns: Option<usize>, hall: &Hall, lists: &Lists) -> V
             });
             bits(&s.lights)
         }
-        "bake" | "bake in parts" => {
-            let allowance = if call == "bake" { u64::MAX } else { 2000 };
-            measure(turns, s, still, |s| s.bake(hall, lists, &few, corners, allowance));
+        "solid sun" => {
+            measure(turns, s, still, |s| {
+                s.refusal = unsafe {
+                    port::geaidnosa_solid_sun(
+                        GRID, corners, points, 9 * count, uses, count, kinds, MATERIALS, numbers, 7 * MATERIALS, vec3(&DIRECTION),
+                        active.as_ptr(), WORDS, s.lights.as_mut_ptr(), VOXELS, s.lights_scratch.as_mut_ptr(), VOXELS,
+                    )
+                    .refusal
+                };
+            });
+            bits(&s.lights)
+        }
+        "bake" | "bake in parts" | "solid bake" => {
+            let (solid, allowance) = (call == "solid bake", if call == "bake in parts" { 2000 } else { u64::MAX });
+            measure(turns, s, still, |s| s.bake(hall, lists, &few, corners, solid, allowance));
             bits(&s.volume)
         }
         "light at" => {

@@ -1,5 +1,5 @@
 //! The measured calls by the Rust that the port comes from. Its ray tracer stands ready, as the port's lists do.
-use crate::hall::{Hall, Panes, AMBIENT, AXES, CORNERS, KINDS, NUMBERS, PANE_KINDS, PANE_NUMBERS, SCENE_LIGHT, VOXELS};
+use crate::hall::{Hall, Panes, AMBIENT, AXES, CORNERS, NUMBERS, PANE_KINDS, PANE_NUMBERS, SCENE_LIGHT, VOXELS};
 use crate::math::Vec3x4;
 use crate::panels::counted;
 use crate::raytracer::{ray_triangle_intersect, Hit, RayTracer};
@@ -19,7 +19,7 @@ fn four(p: &[Vec3A]) -> Vec3x4 {
 }
 
 fn scene(hall: &Hall) -> Scene {
-    Scene::new(&hall.points, &hall.uses, &KINDS, &NUMBERS, SCENE_LIGHT, AMBIENT, &hall.sky, &[])
+    Scene::new(&hall.points, &hall.uses, &hall.kinds, &NUMBERS, SCENE_LIGHT, AMBIENT, &hall.sky, &[])
 }
 
 fn grid() -> VoxelGrid {
@@ -83,7 +83,8 @@ pub fn answer(call: &str, turns: Option<usize>, hall: &Hall, lists: &Lists) -> V
         s.grid.set_light_intensity_data(lists.lights.clone());
         s.grid.set_all_gi_sh4(packed(&lists.volume));
     };
-    match call {
+    // it has one way with rays, which answers the solid calls too
+    match call.strip_prefix("solid ").unwrap_or(call) {
         "meet" => {
             measure(turns, s, |s| s.met.clear(), |s| {
                 for (origin, direction) in &rays[..MET] {

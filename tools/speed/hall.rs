@@ -1,11 +1,11 @@
-//! The scene that both sides are measured on: a closed hall of 12·n·n + 60 triangles in 16×16×16 voxels, with rays and positions in it. The environment's
-//! SPEED_SPLIT is n, 6 where it is not set: 492 triangles.
+//! The scene that both sides are measured on: a closed hall of 12·n·n + 12·b triangles in 16×16×16 voxels, with rays and positions in it. The environment's
+//! SPEED_SPLIT is n, 6 where it is not set, and SPEED_BOXES is b, 5 where it is not set: 492 triangles. Where SPEED_SOLID is set, and not empty, its glass is
+//! plaster and every material is opaque.
 
 pub const AXES: [usize; 3] = [16, 16, 16];
 pub const VOXELS: usize = 16 * 16 * 16;
 pub const CORNERS: [f32; 6] = [0.0, 0.0, 0.0, 16.0, 12.0, 8.0];
 pub const MATERIALS: usize = 4;
-pub const KINDS: [u8; MATERIALS] = [0, 1, 0, 0];
 /// Base colour, emissive and transmission: plaster, glass, lamp, soot.
 pub const NUMBERS: [f32; 7 * MATERIALS] = [
     0.8, 0.7, 0.6, 0.0, 0.0, 0.0, 0.0, //
@@ -21,7 +21,16 @@ pub const AMBIENT: [f32; 12] = [0.2, 0.25, 0.3, 0.01, 0.02, 0.03, 0.05, 0.05, 0.
 pub struct Hall {
     pub points: Vec<f32>,
     pub uses: Vec<u32>,
+    pub kinds: [u8; MATERIALS],
     pub sky: Vec<f32>,
+}
+
+/// As many boxes stand in the hall, or hang below its roof, as there is room for.
+const MOST_BOXES: usize = 22;
+
+/// A whole number of the environment.
+fn number(name: &str, else_this: usize) -> usize {
+    std::env::var(name).map_or(else_this, |n| n.parse().unwrap_or_else(|_| panic!("{name} is a whole number")))
 }
 
 pub struct Line {
@@ -45,17 +54,26 @@ impl Chance {
 }
 
 impl Hall {
-    /// Six sides of n×n quads, every fifth of the roof's of glass, and five boxes in the room, one of them a lamp and one black.
+    /// Six sides of n×n quads, every fifth of the roof's of glass; five boxes in the room, one of them a lamp and one black, and above them in rows of six those
+    /// past the fifth, every fourth black.
     pub fn new() -> Self {
-        let n: usize = std::env::var("SPEED_SPLIT").map_or(6, |n| n.parse().expect("SPEED_SPLIT is a whole number"));
-        let mut hall = Hall { points: vec![], uses: vec![], sky: (0..1728).map(|i| 0.5 + (i % 7) as f32 * 0.125).collect() };
-        hall.cuboid([0.6, 0.5, 0.4], [15.3, 11.4, 7.6], n, |side, quad| if side == 5 && quad % 5 == 2 { 1 } else { 0 });
-        for (place, material) in [0, 0, 2, 3, 0].into_iter().enumerate() {
+        let (n, boxes) = (number("SPEED_SPLIT", 6), number("SPEED_BOXES", 5));
+        let solid = std::env::var("SPEED_SOLID").map_or(false, |word| !word.is_empty());
+        assert!(boxes <= MOST_BOXES, "SPEED_BOXES is {boxes}, and {MOST_BOXES} have room");
+        let (glass, kinds) = if solid { (0, [0; MATERIALS]) } else { (1, [0, 1, 0, 0]) };
+        let mut hall = Hall { points: vec![], uses: vec![], kinds, sky: (0..1728).map(|i| 0.5 + (i % 7) as f32 * 0.125).collect() };
+        hall.cuboid([0.6, 0.5, 0.4], [15.3, 11.4, 7.6], n, |side, quad| if side == 5 && quad % 5 == 2 { glass } else { 0 });
+        for (place, material) in [0, 0, 2, 3, 0].into_iter().enumerate().take(boxes) {
             let x = 1.7 + 2.6 * place as f32;
             let y = 2.0 + 1.3 * place as f32;
             hall.cuboid([x, y, 0.9], [x + 1.1, y + 1.4, 2.1 + 0.6 * place as f32], 1, |_, _| material);
         }
-        assert!(hall.triangles() == 12 * n * n + 60 && hall.points.len() == 9 * hall.triangles());
+        for place in 0..boxes.saturating_sub(5) {
+            let (x, y) = (1.6 + 2.2 * (place % 6) as f32, 1.3 + 3.4 * (place / 6) as f32);
+            let z = 4.9 + 0.3 * (place % 5) as f32;
+            hall.cuboid([x, y, z], [x + 1.2, y + 1.5, z + 0.8], 1, |_, _| if place % 4 == 3 { 3 } else { 0 });
+        }
+        assert!(hall.triangles() == 12 * n * n + 12 * boxes && hall.points.len() == 9 * hall.triangles());
         hall
     }
 
