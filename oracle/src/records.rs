@@ -8,7 +8,7 @@
 //! Beside its bytes a record says how many comparisons its program makes of it, counted here from what was recorded: one that the lists fit
 //! (not for a triangle, which has none), one for each word or group of words held to the answer, one for each list, and one where hit scratch
 //! must stand as it was. A record that `through_both` lets pass is put through C-22's call as well, and each of its answers is held once more,
-//! but not that the lists fit, and no hit scratch. The records of the solid calls are laid out as the others, with no hit scratch in them.
+//! of the rays that a bake fires their count, but not that the lists fit, and no hit scratch. The records of the solid calls are laid out as the others, with no hit scratch in them.
 use crate::answers::{self, as_handed_in, bake_answer, bake_call, baked, solid_answer, solid_baked};
 use crate::calls::{bits, bytes, halves, Answer, Bake, Call, Grid, Lists, Progress, Ray, RayCall, Scratch};
 use crate::table::{self, AXIS};
@@ -402,7 +402,8 @@ pub fn fired(bake: &Bake) -> Record {
         w.word(ray.kind);
         w.floats(&[ray.origin.x, ray.origin.y, ray.origin.z, ray.direction.x, ray.direction.y, ray.direction.z, ray.shortest, ray.longest]);
     }
-    // the bake's own count, each ray, and their number
-    w.held(3 + figures.rays.len() as u64, table::refusal(&Call::Bake(Box::new(bake.clone()))));
+    w.both = through_both(&bake.lists, &bake.hits);
+    // that the lists fit, each ray, their number, and the count that the bake reports; that count once more by the other engine
+    w.held(3 + figures.rays.len() as u64 + w.both as u64, table::refusal(&Call::Bake(Box::new(bake.clone()))));
     w.record()
 }

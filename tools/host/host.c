@@ -816,12 +816,10 @@ static void check_solid(void) {
     check_solid_rays();
     check_solid_sun();
     check_solid_bake();
-    check("solid calls: a kind 1 first, and last where no triangle uses it, refuses 6 and writes nothing", refuses_kind(1, 0) && refuses_kind(1, M));
-    check("solid calls: a kind 2 first, and last where no triangle uses it, refuses 6 and writes nothing", refuses_kind(2, 0) && refuses_kind(2, M));
     int good = 1;
-    for (int kind = 3; kind < 256; kind++)
+    for (int kind = 1; kind < 256; kind++)
         for (size_t place = 0; place <= M; place++) good = good && refuses_kind((uint8_t)kind, place);
-    check("solid calls: every kind above 2 at every place, refuses 6 and writes nothing", good);
+    check("solid calls: every kind above 0 at every place, the last where no triangle uses it, refuses 6 and writes nothing", good);
     const float x = points[9];
     points[9] = NAN;
     kinds[1] = 1;

@@ -12,8 +12,8 @@ use borrow.Author.Tests.{eq-eqb}
 use Rattle.names.specs.Refusals.{RefusedBy, refused-by}
 use Rattle.names.specs.Scene.{otherKind}
 use Rattle.spread.specs.declared.Progress.{Progress}
-use Rattle.spread.specs.Spread.{Stage, Called, unbroken}
-use Rattle.spread.specs.Refusing.{call-refusing, unbroken-refusing}
+use Rattle.spread.specs.Spread.{Stage, Called, run, unbroken}
+use Rattle.spread.specs.Refusing.{call-refusing, run-refusing, unbroken-refusing}
 use Rattle.intake.specs.Intake.{BakeInput, solidOf, voxelCount, triangleCount, bakeRows, bakeRefusal, GoodProgress}
 use Rattle.intake.specs.IntakeLaws.{fits, none-refused, bake-refusal-same}
 use Rattle.demand.specs.Bake.{bakeOf, bakeCall}
@@ -83,6 +83,12 @@ bake-engines-agree b s a d d' p p' r r' v v' x x' o h k f g =
       volumes = f .volume ∙ ap (λ (c : Called Float). c .stage .volume) e ∙ sym (g .volume);
       scratches = f .scratch ∙ ap (λ (c : Called Float). c .stage .scratch) e ∙ sym (g .scratch);
     }
+
+-- and of runs of calls: each call's refusal and rays, and what the last one leaves
+pub runs-engines-agree : (b : BakeInput) → otherKind (b .scene .kinds) ≡ false → triangleCount b ≤ b .distances → triangleCount b ≤ b .places
+    → (allowances : List ℕ) (s : Stage Float) → run (bakeOf (solidOf b)) allowances s ≡ run (bakeOf b) allowances s
+runs-engines-agree b o h k allowances s =
+    run-refusing (bakeOf b) (bakeRefusal (solidOf b)) (λ s a. bake-refusal-same b s a o h k) allowances s
 
 -- and of whole bakes: both end as one unbroken bake, its progress with all rays, volume and scratch
 pub unbroken-engines-agree : (b : BakeInput) (scratch : List Float) → unbroken (bakeOf (solidOf b)) scratch ≡ unbroken (bakeOf b) scratch

@@ -2,7 +2,6 @@
 -- with one lamp accepted at 448, and refused 10 at 447. Its mask is the word 7: with a bit of another voxel set, 15, it is refused 13, and with a word
 -- more or none 3. A progress whose rays do not fit what the mask says is refused 9.
 use mathlib.Core.Path.{_≡_, refl}
-use mathlib.Core.Bool.{Bool, true, false}
 use mathlib.Core.List.{List, [], _∷_, map}
 use Prim.Native.Nat.{ℕ}
 use lib.ListN.{replicate}
@@ -10,7 +9,7 @@ use lib.Ieee as Ieee
 use lib.Ieee.{Float, ofBits, ofInt}
 use Rattle.names.specs.Bits.{lit, zero32, one32, inf32}
 use Rattle.names.specs.Refusals.{firstOf}
-use Rattle.names.specs.Scene.{sceneOf, otherKind}
+use Rattle.names.specs.Scene.{Scene, sceneOf, otherKind}
 use Rattle.lists.specs.Any.{any}
 use Rattle.lists.specs.Fold.{fold, tab}
 use Rattle.spread.specs.Spread.{progressOf, atZero, Stage, stage}
@@ -20,7 +19,7 @@ use Rattle.grid.specs.Grid.{edgesOf}
 use Rattle.lists.specs.Some.{some}
 use Rattle.limits.specs.Limits.{within, upTo, outsideV, badAxes, badCorners, badEdges, wrongShare, wrongScene, tooMany, badPoints, badKinds, badFrom, badUses, badMaterials, badDirection, badLight, badAmbient, badSky, lampAt, badLamp, badLamps, badLights, badCoefficients}
 use Rattle.words.specs.Words.{entriesOf, unusedSet}
-use Rattle.intake.specs.Intake.{BakeInput, inputFor, inputOf, wrongLengths, wrongBakeLists, badLighting, badProgress, badVolume, badContents, bakeRows, bakeRefusal}
+use Rattle.intake.specs.Intake.{BakeInput, inputOf, solidInput, wrongLengths, wrongBakeLists, badLighting, badProgress, badVolume, badContents, bakeRows, bakeRefusal}
 
 abbrev pub threeOf : List ℕ → List Float → BakeInput
 threeOf active lamps =
@@ -89,20 +88,28 @@ pub progress-judged : (map (λ (r : ℕ). bakeRefusal three (under 1 r) 384) (63
 unfolding bakeRefusal bakeRows firstOf some within upTo outsideV badAxes badCorners badEdges wrongShare wrongScene tooMany badPoints badKinds badFrom badUses badMaterials badDirection badLight badAmbient badSky unusedSet badLights badCoefficients wrongLengths wrongBakeLists badLighting badLamp badLamps lampAt any badProgress entriesOf tab fold badVolume badContents edgesOf dotV ofBits ofInt Ieee.add Ieee.sub Ieee.mul Ieee.div Ieee.neg Ieee.le Ieee.lt Ieee.eq
 progress-judged = (refl, refl, refl, refl, refl, refl, refl, refl, refl)
 
--- the same grid about one triangle, without hit scratch: opaque it is accepted for solid walls, and refused 3 by the other engine. Of another kind it is refused 6:
--- before a bad direction's 7, a bad record's 9 and an allowance's 10, after a bad point's 5 and a short list's 3
-abbrev pub threeAbout : Bool → ℕ → Float → Vec3 → BakeInput
-threeAbout solid kind x direction =
-    inputFor solid (three .axes) (three .corners)
-    (sceneOf (x ∷ zero32 ∷ zero32 ∷ one32 ∷ zero32 ∷ zero32 ∷ zero32 ∷ one32 ∷ zero32 ∷ []) (0 ∷ []) (kind ∷ [])
-    (one32 ∷ one32 ∷ one32 ∷ zero32 ∷ zero32 ∷ zero32 ∷ one32 ∷ []))
-    (record { direction = direction; colour = vec one32 one32 one32 }) (three .ambient) (three .sky) [] (three .active) (three .lights) 0 0
+-- the same grid about one triangle: with hit scratch for it the bake takes all three kinds, and refuses 3 without. For solid walls, without hit scratch, it takes
+-- opaque alone. Another kind is refused 6: before a bad direction's 7, a bad record's 9 and an allowance's 10, after a bad point's 5 and a short list's 3
+abbrev pub wallOf : ℕ → Float → Scene
+wallOf kind x =
+    sceneOf (x ∷ zero32 ∷ zero32 ∷ one32 ∷ zero32 ∷ zero32 ∷ zero32 ∷ one32 ∷ zero32 ∷ []) (0 ∷ []) (kind ∷ [])
+    (one32 ∷ one32 ∷ one32 ∷ zero32 ∷ zero32 ∷ zero32 ∷ one32 ∷ [])
 
-pub solid-judged : (map (λ (kind : ℕ). bakeRefusal (threeAbout true kind zero32 (vec zero32 zero32 one32)) begun 384) (0 ∷ 1 ∷ 2 ∷ 3 ∷ []) ≡ 0 ∷ 6 ∷ 6 ∷ 6 ∷ [])
-    × (bakeRefusal (threeAbout false 0 zero32 (vec zero32 zero32 one32)) begun 384 ≡ 3)
-    × (bakeRefusal (threeAbout true 1 zero32 (vec zero32 zero32 zero32)) begun 384 ≡ 6)
-    × (bakeRefusal (threeAbout true 1 zero32 (vec zero32 zero32 one32)) (under 4 192) 383 ≡ 6)
-    × (bakeRefusal (threeAbout true 1 inf32 (vec zero32 zero32 one32)) begun 384 ≡ 5)
-    × (bakeRefusal (threeAbout true 1 zero32 (vec zero32 zero32 one32)) (stage atZero [] []) 384 ≡ 3)
+abbrev pub threeAbout : ℕ → ℕ → BakeInput
+threeAbout kind hits =
+    inputOf (three .axes) (three .corners) (wallOf kind zero32) (three .light) (three .ambient) (three .sky) [] (three .active) (three .lights) hits hits
+
+abbrev pub solidAbout : ℕ → Float → Vec3 → BakeInput
+solidAbout kind x direction =
+    solidInput (three .axes) (three .corners) (wallOf kind x) (record { direction = direction; colour = vec one32 one32 one32 }) (three .ambient) (three .sky) []
+    (three .active) (three .lights)
+
+pub solid-judged : (map (λ (kind : ℕ). bakeRefusal (solidAbout kind zero32 (vec zero32 zero32 one32)) begun 384) (0 ∷ 1 ∷ 2 ∷ 3 ∷ []) ≡ 0 ∷ 6 ∷ 6 ∷ 6 ∷ [])
+    × (map (λ (kind : ℕ). bakeRefusal (threeAbout kind 1) begun 384) (0 ∷ 1 ∷ 2 ∷ 3 ∷ []) ≡ 0 ∷ 0 ∷ 0 ∷ 6 ∷ [])
+    × (bakeRefusal (threeAbout 0 0) begun 384 ≡ 3)
+    × (bakeRefusal (solidAbout 1 zero32 (vec zero32 zero32 zero32)) begun 384 ≡ 6)
+    × (bakeRefusal (solidAbout 1 zero32 (vec zero32 zero32 one32)) (under 4 192) 383 ≡ 6)
+    × (bakeRefusal (solidAbout 1 inf32 (vec zero32 zero32 one32)) begun 384 ≡ 5)
+    × (bakeRefusal (solidAbout 1 zero32 (vec zero32 zero32 one32)) (stage atZero [] []) 384 ≡ 3)
 unfolding bakeRefusal bakeRows firstOf some within upTo outsideV badAxes badCorners badEdges wrongShare wrongScene tooMany badPoints badKinds badFrom badUses badMaterials otherKind badDirection badLight badAmbient badSky unusedSet badLights badCoefficients wrongLengths wrongBakeLists badLighting badLamp badLamps lampAt any badProgress entriesOf tab fold badVolume badContents edgesOf dotV ofBits ofInt Ieee.add Ieee.sub Ieee.mul Ieee.div Ieee.neg Ieee.le Ieee.lt Ieee.eq
-solid-judged = (refl, refl, refl, refl, refl, refl)
+solid-judged = (refl, refl, refl, refl, refl, refl, refl)

@@ -303,10 +303,18 @@ pub solid-same : (solid : Bool) (uses kinds : List ℕ) (numbers : List Float) �
 solid-same true uses kinds numbers e = rw e (or-false (badMaterials uses kinds numbers))
 solid-same false uses kinds numbers e = refl
 
--- nor is hit scratch that is long enough refused by either
+-- hit scratch passes exactly when both lists are as long as the triangles are many; for solid walls nothing is asked of it
+pub hits-row : (distancesLength placesLength t : ℕ) → (shortHits false distancesLength placesLength t ≡ false) ↔ ((t ≤ distancesLength) × (t ≤ placesLength))
+hits-row distancesLength placesLength t =
+    let parts = either (tooShort distancesLength t) (tooShort placesLength t) in (
+      λ e. let p = parts .0 e in (ltb-false distancesLength t (p .0), ltb-false placesLength t (p .1)),
+      λ h. parts .1 (le-ltb distancesLength t (h .0), le-ltb placesLength t (h .1)),
+    )
+
+-- so that hit scratch that is long enough is refused by neither engine
 pub long-hits : (solid : Bool) (distancesLength placesLength t : ℕ) → t ≤ distancesLength → t ≤ placesLength → shortHits solid distancesLength placesLength t ≡ false
 long-hits true distancesLength placesLength t h k = refl
-long-hits false distancesLength placesLength t h k = or-in _ _ (le-ltb distancesLength t h, le-ltb placesLength t k)
+long-hits false distancesLength placesLength t h k = hits-row distancesLength placesLength t .1 (h, k)
 
 -- 3 and 6 passed: there is room for hits
 pub room : (solid : Bool) (s : Scene) (distancesLength placesLength : ℕ) → shortHits solid distancesLength placesLength (length (s .uses)) ≡ false
@@ -316,10 +324,9 @@ room true s distancesLength placesLength e f =
     let z = solid-room s (or-out (badMaterials (s .uses) (s .kinds) (s .numbers)) (otherKind (s .kinds)) f .1) in
     (omega (arith, z), omega (arith, z))
 room false s distancesLength placesLength e f =
-    let t = length (s .uses) in
-    let p = or-out (tooShort distancesLength t) (tooShort placesLength t) e in
+    let p = hits-row distancesLength placesLength (length (s .uses)) .0 e in
     let m = room-most s in
-    (omega (arith, m, ltb-false distancesLength t (p .0)), omega (arith, m, ltb-false placesLength t (p .1)))
+    (omega (arith, m, p .0), omega (arith, m, p .1))
 
 -- ---- 3, 4 and 6 passed: the lists of a scene fit
 

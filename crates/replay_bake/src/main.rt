@@ -252,10 +252,29 @@ fn calls(
     tally
 }
 
-// The rays that the port's own functions make, one by one, and their number, which the bake reports too.
+// The rays that the port's own functions make, one by one, and their number; once, since both engines make the same.
+fn listed(
+    s: &[u8],
+    t: Tally,
+    solid: bool,
+    points: &[f32],
+    uses: &[u32],
+    kinds: &[u8],
+    numbers: &[f32],
+    lamps: &[f32],
+    active: &[u64],
+) -> Tally {
+    if solid {
+        return t;
+    }
+    replay_fired::listed(s, t, points, uses, kinds, numbers, lamps, active)
+}
+
+// The rays that a bake fires, and their number, which the bake reports too, by the one engine or the other.
 fn rays(
     s: &[u8],
     t: Tally,
+    solid: bool,
     points: &[f32],
     uses: &[u32],
     kinds: &[u8],
@@ -269,10 +288,10 @@ fn rays(
     distances: &mut [f32],
     places: &mut [usize],
 ) -> Tally {
-    let u = replay_fired::listed(s, t, points, uses, kinds, numbers, lamps, active);
+    let u = listed(s, t, solid, points, uses, kinds, numbers, lamps, active);
     let r = answered(
         s,
-        false,
+        solid,
         Progress { next: 0, rays: 0 },
         u64::MAX,
         points,
@@ -320,6 +339,7 @@ fn stocked(
         return rays(
             s,
             t,
+            solid,
             points,
             uses,
             kinds,
@@ -388,7 +408,7 @@ fn asked(
         distances,
         places,
     );
-    if (kind == CALLS) & replay::through_both(kinds, uses.len(), distances.len(), places.len()) {
+    if (kind != SOLID) & replay::through_both(kinds, uses.len(), distances.len(), places.len()) {
         return stocked(
             s,
             u,

@@ -2,7 +2,7 @@
 -- it is refused.
 use mathlib.Core.Path.{_≡_, refl}
 use mathlib.Core.Bool.{true, false}
-use mathlib.Core.List.{[], _∷_}
+use mathlib.Core.List.{[], _∷_, map}
 use Prim.Native.Nat.{ℕ}
 use lib.Ieee.{Float, ofBits, ofFields, odd, neg, le, lt, eq, add, sub, mul, div, ofInt, round, sum, units, size, climb, span}
 use Rattle.names.specs.Bits.{zero32, one32, inf32}
@@ -39,17 +39,18 @@ pub sun-bit-refused : sunRefusal false oneVoxel unitBox emptyScene upward (3 ∷
 unfolding sunRefusal wrongSun oneVoxel unitBox upward firstOf badAxes badCorners badEdges edgesOf wrongScene wrongShare tooMany badPoints badKinds badFrom badUses badMaterials badDirection unusedSet any some outsideV within dotV ofBits ofFields odd neg le lt eq add sub mul div ofInt round sum units size climb span
 sun-bit-refused = refl
 
--- one triangle is accepted between solid walls without hit scratch, and refused 3 by the other engine. Of another kind than opaque it is refused 6: before a bad
--- direction's 7 and an unused bit's 13, after a bad point's 5
+-- one triangle is accepted between solid walls without hit scratch, and refused 3 by the other engine, which with it takes all three kinds. Of another kind than
+-- opaque it is refused 6 between solid walls: before a bad direction's 7 and an unused bit's 13, after a bad point's 5
 abbrev pub oneWall : ℕ → Float → Scene
 oneWall kind x =
     sceneOf (x ∷ zero32 ∷ zero32 ∷ one32 ∷ zero32 ∷ zero32 ∷ zero32 ∷ one32 ∷ zero32 ∷ []) (0 ∷ []) (kind ∷ [])
     (one32 ∷ one32 ∷ one32 ∷ zero32 ∷ zero32 ∷ zero32 ∷ zero32 ∷ [])
 
-pub solid-sun-accepted : (sunRefusal true oneVoxel unitBox (oneWall 0 zero32) upward (1 ∷ []) 1 1 0 0 ≡ 0)
+pub solid-sun-accepted : (map (λ (kind : ℕ). sunRefusal true oneVoxel unitBox (oneWall kind zero32) upward (1 ∷ []) 1 1 0 0) (0 ∷ 1 ∷ 2 ∷ 3 ∷ []) ≡ 0 ∷ 6 ∷ 6 ∷ 6 ∷ [])
+    × (map (λ (kind : ℕ). sunRefusal false oneVoxel unitBox (oneWall kind zero32) upward (1 ∷ []) 1 1 1 1) (0 ∷ 1 ∷ 2 ∷ 3 ∷ []) ≡ 0 ∷ 0 ∷ 0 ∷ 6 ∷ [])
     × (sunRefusal false oneVoxel unitBox (oneWall 0 zero32) upward (1 ∷ []) 1 1 0 0 ≡ 3)
     × (sunRefusal true oneVoxel unitBox (oneWall 1 zero32) upward (3 ∷ []) 1 1 0 0 ≡ 6)
     × (sunRefusal true oneVoxel unitBox (oneWall 2 zero32) (vec zero32 zero32 zero32) (1 ∷ []) 1 1 0 0 ≡ 6)
     × (sunRefusal true oneVoxel unitBox (oneWall 1 inf32) upward (1 ∷ []) 1 1 0 0 ≡ 5)
 unfolding sunRefusal wrongSun oneVoxel unitBox upward firstOf badAxes badCorners badEdges edgesOf wrongScene wrongShare tooMany badPoints badKinds badFrom badUses badMaterials otherKind badDirection unusedSet any some outsideV within upTo dotV ofBits ofFields odd neg le lt eq add sub mul div ofInt round sum units size climb span
-solid-sun-accepted = (refl, refl, refl, refl, refl)
+solid-sun-accepted = (refl, refl, refl, refl, refl, refl)
