@@ -57,20 +57,59 @@ fn lists_held(
     )
 }
 
+// Where each list of numbers that no call writes ends in the one that holds them: points, numbers, sky, lamps, lights.
+struct Cuts {
+    points: usize,
+    numbers: usize,
+    sky: usize,
+    lamps: usize,
+    lights: usize,
+}
+
+fn cut(s: &[u8]) -> Cuts {
+    let points = replay::small(s, FROM);
+    let numbers = replay::further(points, replay::small(s, replay::nth(s, FROM, 3)));
+    let sky = replay::further(numbers, replay::small(s, replay::nth(s, FROM, 4)));
+    let lamps = replay::further(sky, replay::small(s, replay::nth(s, FROM, 5)));
+    let lights = replay::further(lamps, replay::small(s, replay::nth(s, FROM, 7)));
+    Cuts {
+        points,
+        numbers,
+        sky,
+        lamps,
+        lights,
+    }
+}
+
+// A part of a list, empty where there is none.
+fn part(l: &[f32], from: usize, to: usize) -> &[f32] {
+    if to <= l.len() {
+        if from <= to {
+            return &l[from..to];
+        }
+    }
+    &l[..0]
+}
+
+// Reads a record's list into a part.
+fn read(s: &[u8], at: usize, l: &mut [f32], from: usize, to: usize) {
+    if to <= l.len() {
+        if from <= to {
+            replay::floats(s, at, &mut l[from..to]);
+        }
+    }
+}
+
 // A call with the record's lists, by the one engine or the other.
 fn answered(
     s: &[u8],
     solid: bool,
     begun: Progress,
     allowance: u64,
-    points: &[f32],
+    floats: &[f32],
     uses: &[u32],
     kinds: &[u8],
-    numbers: &[f32],
-    sky: &[f32],
-    lamps: &[f32],
     active: &[u64],
-    lights: &[f32],
     volume: &mut [f32],
     scratch: &mut [f32],
     distances: &mut [f32],
@@ -80,6 +119,12 @@ fn answered(
     let corners = replay_values::corners(s, 7);
     let sunlight = replay_values::light(s, 13);
     let sh = replay_values::ambient(s, 19);
+    let at = cut(s);
+    let points = part(floats, 0, at.points);
+    let numbers = part(floats, at.points, at.numbers);
+    let sky = part(floats, at.numbers, at.sky);
+    let lamps = part(floats, at.sky, at.lamps);
+    let lights = part(floats, at.lamps, at.lights);
     if solid {
         return bake::solid_bake(
             axes,
@@ -127,14 +172,10 @@ fn one(
     t: Tally,
     solid: bool,
     at: usize,
-    points: &[f32],
+    floats: &[f32],
     uses: &[u32],
     kinds: &[u8],
-    numbers: &[f32],
-    sky: &[f32],
-    lamps: &[f32],
     active: &[u64],
-    lights: &[f32],
     volume: &mut [f32],
     scratch: &mut [f32],
     distances: &mut [f32],
@@ -146,14 +187,10 @@ fn one(
         solid,
         progress(s, at),
         allowance,
-        points,
+        floats,
         uses,
         kinds,
-        numbers,
-        sky,
-        lamps,
         active,
-        lights,
         volume,
         scratch,
         distances,
@@ -169,14 +206,10 @@ fn fresh(
     t: Tally,
     solid: bool,
     at: usize,
-    points: &[f32],
+    floats: &[f32],
     uses: &[u32],
     kinds: &[u8],
-    numbers: &[f32],
-    sky: &[f32],
-    lamps: &[f32],
     active: &[u64],
-    lights: &[f32],
     volume: &mut [f32],
     scratch: &mut [f32],
     distances: &mut [f32],
@@ -189,14 +222,10 @@ fn fresh(
         t,
         solid,
         at,
-        points,
+        floats,
         uses,
         kinds,
-        numbers,
-        sky,
-        lamps,
         active,
-        lights,
         volume,
         scratch,
         distances,
@@ -209,14 +238,10 @@ fn calls(
     s: &[u8],
     t: Tally,
     solid: bool,
-    points: &[f32],
+    floats: &[f32],
     uses: &[u32],
     kinds: &[u8],
-    numbers: &[f32],
-    sky: &[f32],
-    lamps: &[f32],
     active: &[u64],
-    lights: &[f32],
     volume: &mut [f32],
     scratch: &mut [f32],
     distances: &mut [f32],
@@ -233,14 +258,10 @@ fn calls(
             tally,
             solid,
             at,
-            points,
+            floats,
             uses,
             kinds,
-            numbers,
-            sky,
-            lamps,
             active,
-            lights,
             volume,
             scratch,
             distances,
@@ -257,16 +278,18 @@ fn listed(
     s: &[u8],
     t: Tally,
     solid: bool,
-    points: &[f32],
+    floats: &[f32],
     uses: &[u32],
     kinds: &[u8],
-    numbers: &[f32],
-    lamps: &[f32],
     active: &[u64],
 ) -> Tally {
     if solid {
         return t;
     }
+    let at = cut(s);
+    let points = part(floats, 0, at.points);
+    let numbers = part(floats, at.points, at.numbers);
+    let lamps = part(floats, at.sky, at.lamps);
     replay_fired::listed(s, t, points, uses, kinds, numbers, lamps, active)
 }
 
@@ -275,33 +298,25 @@ fn rays(
     s: &[u8],
     t: Tally,
     solid: bool,
-    points: &[f32],
+    floats: &[f32],
     uses: &[u32],
     kinds: &[u8],
-    numbers: &[f32],
-    sky: &[f32],
-    lamps: &[f32],
     active: &[u64],
-    lights: &[f32],
     volume: &mut [f32],
     scratch: &mut [f32],
     distances: &mut [f32],
     places: &mut [usize],
 ) -> Tally {
-    let u = listed(s, t, solid, points, uses, kinds, numbers, lamps, active);
+    let u = listed(s, t, solid, floats, uses, kinds, active);
     let r = answered(
         s,
         solid,
         Progress { next: 0, rays: 0 },
         u64::MAX,
-        points,
+        floats,
         uses,
         kinds,
-        numbers,
-        sky,
-        lamps,
         active,
-        lights,
         volume,
         scratch,
         distances,
@@ -321,14 +336,10 @@ fn stocked(
     s: &[u8],
     t: Tally,
     solid: bool,
-    points: &[f32],
+    floats: &[f32],
     uses: &[u32],
     kinds: &[u8],
-    numbers: &[f32],
-    sky: &[f32],
-    lamps: &[f32],
     active: &[u64],
-    lights: &[f32],
     volume: &mut [f32],
     scratch: &mut [f32],
     distances: &mut [f32],
@@ -340,14 +351,10 @@ fn stocked(
             s,
             t,
             solid,
-            points,
+            floats,
             uses,
             kinds,
-            numbers,
-            sky,
-            lamps,
             active,
-            lights,
             volume,
             scratch,
             distances,
@@ -358,14 +365,10 @@ fn stocked(
         s,
         t,
         solid,
-        points,
+        floats,
         uses,
         kinds,
-        numbers,
-        sky,
-        lamps,
         active,
-        lights,
         volume,
         scratch,
         distances,
@@ -377,14 +380,10 @@ fn stocked(
 fn asked(
     s: &[u8],
     t: Tally,
-    points: &[f32],
+    floats: &[f32],
     uses: &[u32],
     kinds: &[u8],
-    numbers: &[f32],
-    sky: &[f32],
-    lamps: &[f32],
     active: &[u64],
-    lights: &[f32],
     volume: &mut [f32],
     scratch: &mut [f32],
     distances: &mut [f32],
@@ -395,14 +394,10 @@ fn asked(
         s,
         t,
         kind == SOLID,
-        points,
+        floats,
         uses,
         kinds,
-        numbers,
-        sky,
-        lamps,
         active,
-        lights,
         volume,
         scratch,
         distances,
@@ -413,14 +408,10 @@ fn asked(
             s,
             u,
             true,
-            points,
+            floats,
             uses,
             kinds,
-            numbers,
-            sky,
-            lamps,
             active,
-            lights,
             volume,
             scratch,
             distances,
@@ -430,81 +421,29 @@ fn asked(
     u
 }
 
-fn fill(s: &[u8], sky: &mut [f32], lamps: &mut [f32], active: &mut [u64], lights: &mut [f32]) {
-    replay::floats(s, replay::nth(s, FROM, 4), sky);
-    replay::floats(s, replay::nth(s, FROM, 5), lamps);
-    replay::mask(s, replay::nth(s, FROM, 6), active);
-    replay::floats(s, replay::nth(s, FROM, 7), lights);
+// Reads the lists of numbers that no call writes.
+fn gather(s: &[u8], floats: &mut [f32]) {
+    let at = cut(s);
+    read(s, FROM, floats, 0, at.points);
+    read(s, replay::nth(s, FROM, 3), floats, at.points, at.numbers);
+    read(s, replay::nth(s, FROM, 4), floats, at.numbers, at.sky);
+    read(s, replay::nth(s, FROM, 5), floats, at.sky, at.lamps);
+    read(s, replay::nth(s, FROM, 7), floats, at.lamps, at.lights);
 }
 
 fn filled(
     s: &[u8],
     t: Tally,
-    points: &[f32],
-    uses: &[u32],
-    kinds: &[u8],
-    numbers: &[f32],
-    sky: &mut [f32],
-    lamps: &mut [f32],
-    active: &mut [u64],
-    lights: &mut [f32],
-    volume: &mut [f32],
-    scratch: &mut [f32],
-    distances: &mut [f32],
-    places: &mut [usize],
-) -> Tally {
-    fill(s, sky, lamps, active, lights);
-    asked(
-        s,
-        t,
-        points,
-        uses,
-        kinds,
-        numbers,
-        sky,
-        lamps,
-        active,
-        lights,
-        volume,
-        scratch,
-        distances,
-        places,
-    )
-}
-
-fn baked(
-    s: &[u8],
-    t: Tally,
-    points: &mut [f32],
+    floats: &mut [f32],
     uses: &mut [u32],
     kinds: &mut [u8],
-    numbers: &mut [f32],
-    sky: &mut [f32],
-    lamps: &mut [f32],
     active: &mut [u64],
-    lights: &mut [f32],
-    volume: &mut [f32],
-    scratch: &mut [f32],
-    distances: &mut [f32],
-    places: &mut [usize],
 ) -> Tally {
-    replay::scene(s, FROM, points, uses, kinds, numbers);
-    filled(
-        s,
-        t,
-        points,
-        uses,
-        kinds,
-        numbers,
-        sky,
-        lamps,
-        active,
-        lights,
-        volume,
-        scratch,
-        distances,
-        places,
-    )
+    gather(s, floats);
+    replay::words(s, replay::nth(s, FROM, 1), uses);
+    replay::bytes(s, replay::nth(s, FROM, 2), kinds);
+    replay::mask(s, replay::nth(s, FROM, 6), active);
+    sized(s, t, floats, uses, kinds, active)
 }
 
 fn fits(s: &[u8]) -> bool {
@@ -516,7 +455,8 @@ fn fits(s: &[u8]) -> bool {
         & replay::fits(s, replay::nth(s, FROM, 4), 1740)
         & replay::fits(s, replay::nth(s, FROM, 5), 80)
         & replay::fits(s, replay::nth(s, FROM, 6), 82240)
-        & lists_fit(s, 82000, 526400)
+        & replay::fits(s, replay::nth(s, FROM, 7), 82000)
+        & volumes_fit(s, 526400)
         & replay::fits(s, replay::nth(s, FROM, 10), 4100)
         & replay::fits(s, replay::nth(s, FROM, 11), 8200)
 }
@@ -525,48 +465,73 @@ fn known(kind: u32) -> bool {
     (kind == CALLS) | (kind == SOLID) | (kind == RAYS)
 }
 
-fn lists_fit(s: &[u8], lights: usize, volume: usize) -> bool {
-    replay::fits(s, replay::nth(s, FROM, 7), lights)
-        & replay::fits(s, replay::nth(s, FROM, 8), volume)
-        & replay::fits(s, replay::nth(s, FROM, 9), volume)
+fn volumes_fit(s: &[u8], most: usize) -> bool {
+    replay::fits(s, replay::nth(s, FROM, 8), most) & replay::fits(s, replay::nth(s, FROM, 9), most)
 }
 
-// Thirteen lamps, more than any call accepts.
-fn room_for_lamps() -> [f32; 80] {
-    [0.0f32; 80]
+// Most volumes are small, and are given small arrays.
+fn sized(s: &[u8], t: Tally, floats: &[f32], uses: &[u32], kinds: &[u8], active: &[u64]) -> Tally {
+    if volumes_fit(s, 8320) {
+        return narrow(s, t, floats, uses, kinds, active);
+    }
+    wide(s, t, floats, uses, kinds, active)
 }
 
-// The arrays are lent in four steps.
-fn fourth(
+fn wide(s: &[u8], t: Tally, floats: &[f32], uses: &[u32], kinds: &[u8], active: &[u64]) -> Tally {
+    let mut volume = replay::room_for_wide_volume();
+    let mut scratch = replay::room_for_wide_volume();
+    let h = replay::fit(s, replay::nth(s, FROM, 8), 526400);
+    let i = replay::fit(s, replay::nth(s, FROM, 9), 526400);
+    hit(
+        s,
+        t,
+        floats,
+        uses,
+        kinds,
+        active,
+        &mut volume[..h],
+        &mut scratch[..i],
+    )
+}
+
+fn narrow(s: &[u8], t: Tally, floats: &[f32], uses: &[u32], kinds: &[u8], active: &[u64]) -> Tally {
+    let mut volume = replay::room_for_volume();
+    let mut scratch = replay::room_for_volume();
+    let h = replay::fit(s, replay::nth(s, FROM, 8), 8320);
+    let i = replay::fit(s, replay::nth(s, FROM, 9), 8320);
+    hit(
+        s,
+        t,
+        floats,
+        uses,
+        kinds,
+        active,
+        &mut volume[..h],
+        &mut scratch[..i],
+    )
+}
+
+fn hit(
     s: &[u8],
     t: Tally,
-    points: &mut [f32],
-    uses: &mut [u32],
-    kinds: &mut [u8],
-    numbers: &mut [f32],
-    sky: &mut [f32],
-    active: &mut [u64],
-    lights: &mut [f32],
+    floats: &[f32],
+    uses: &[u32],
+    kinds: &[u8],
+    active: &[u64],
     volume: &mut [f32],
     scratch: &mut [f32],
 ) -> Tally {
-    let mut lamps = room_for_lamps();
     let mut distances = replay::room_for_distances();
     let mut places = replay::room_for_places();
-    let i = replay::fit(s, replay::nth(s, FROM, 5), 80);
     let j = replay::fit(s, replay::nth(s, FROM, 10), 4100);
     let k = replay::pairs(s, replay::nth(s, FROM, 11), 4100);
-    baked(
+    asked(
         s,
         t,
-        points,
+        floats,
         uses,
         kinds,
-        numbers,
-        sky,
-        &mut lamps[..i],
         active,
-        lights,
         volume,
         scratch,
         &mut distances[..j],
@@ -574,112 +539,28 @@ fn fourth(
     )
 }
 
-fn third(
-    s: &[u8],
-    t: Tally,
-    points: &mut [f32],
-    uses: &mut [u32],
-    kinds: &mut [u8],
-    numbers: &mut [f32],
-    sky: &mut [f32],
-    active: &mut [u64],
-) -> Tally {
-    if lists_fit(s, 520, 8320) {
-        return narrow(s, t, points, uses, kinds, numbers, sky, active);
-    }
-    wide(s, t, points, uses, kinds, numbers, sky, active)
-}
-
-fn wide(
-    s: &[u8],
-    t: Tally,
-    points: &mut [f32],
-    uses: &mut [u32],
-    kinds: &mut [u8],
-    numbers: &mut [f32],
-    sky: &mut [f32],
-    active: &mut [u64],
-) -> Tally {
-    let mut lights = replay::room_for_wide_light();
-    let mut volume = replay::room_for_wide_volume();
-    let mut scratch = replay::room_for_wide_volume();
-    let g = replay::fit(s, replay::nth(s, FROM, 7), 82000);
-    let h = replay::fit(s, replay::nth(s, FROM, 8), 526400);
-    let i = replay::fit(s, replay::nth(s, FROM, 9), 526400);
-    fourth(
-        s,
-        t,
-        points,
-        uses,
-        kinds,
-        numbers,
-        sky,
-        active,
-        &mut lights[..g],
-        &mut volume[..h],
-        &mut scratch[..i],
-    )
-}
-
-fn narrow(
-    s: &[u8],
-    t: Tally,
-    points: &mut [f32],
-    uses: &mut [u32],
-    kinds: &mut [u8],
-    numbers: &mut [f32],
-    sky: &mut [f32],
-    active: &mut [u64],
-) -> Tally {
-    let mut lights = replay::room_for_light();
-    let mut volume = replay::room_for_volume();
-    let mut scratch = replay::room_for_volume();
-    let g = replay::fit(s, replay::nth(s, FROM, 7), 520);
-    let h = replay::fit(s, replay::nth(s, FROM, 8), 8320);
-    let i = replay::fit(s, replay::nth(s, FROM, 9), 8320);
-    fourth(
-        s,
-        t,
-        points,
-        uses,
-        kinds,
-        numbers,
-        sky,
-        active,
-        &mut lights[..g],
-        &mut volume[..h],
-        &mut scratch[..i],
-    )
-}
-
-fn second(s: &[u8], t: Tally, points: &mut [f32], uses: &mut [u32], kinds: &mut [u8]) -> Tally {
-    let mut numbers = replay::room_for_numbers();
-    let mut sky = replay::room_for_sky();
-    let mut active = replay::room_for_mask();
-    let d = replay::fit(s, replay::nth(s, FROM, 3), 1820);
-    let e = replay::fit(s, replay::nth(s, FROM, 4), 1740);
-    let f = replay::mask_words(s, replay::nth(s, FROM, 6), 1285);
-    third(
-        s,
-        t,
-        points,
-        uses,
-        kinds,
-        &mut numbers[..d],
-        &mut sky[..e],
-        &mut active[..f],
-    )
+// Room for 36,900 numbers of points, 1,820 of materials, 1,740 of the sky, 80 of lamps, which is thirteen and more than any call accepts, and 82,000 lights.
+fn room_for_floats() -> [f32; 122540] {
+    [0.0f32; 122540]
 }
 
 fn record(s: &[u8], t: Tally) -> Tally {
-    let mut points = replay::room_for_points();
+    let mut floats = room_for_floats();
     let mut uses = replay::room_for_uses();
     let mut kinds = replay::room_for_kinds();
+    let mut active = replay::room_for_mask();
     let u = replay::held(t, fits(s));
-    let a = replay::fit(s, FROM, 36900);
     let b = replay::fit(s, replay::nth(s, FROM, 1), 4100);
     let c = replay::fit(s, replay::nth(s, FROM, 2), 260);
-    second(s, u, &mut points[..a], &mut uses[..b], &mut kinds[..c])
+    let f = replay::mask_words(s, replay::nth(s, FROM, 6), 1285);
+    filled(
+        s,
+        u,
+        &mut floats,
+        &mut uses[..b],
+        &mut kinds[..c],
+        &mut active[..f],
+    )
 }
 
 // Reads one record and judges it.

@@ -7,11 +7,11 @@ use Rattle.replay_bake.proofs.calls.Statement.{statement}
 use Rattle.replay_bake.proofs.calls.Tie as tie
 
 abbrev Inv-loop : tie.InvT-loop
-Inv-loop s solid points uses kinds numbers sky lamps active lights volume₀ scratch₀ distances₀ places₀ from n tally₀ at₀ i₀ volume scratch distances places tally at i =
+Inv-loop s solid floats uses kinds active volume₀ scratch₀ distances₀ places₀ from n tally₀ at₀ i₀ volume scratch distances places tally at i =
     (i ≤ n) × (length volume ≡ length volume₀) × (length scratch ≡ length scratch₀) × (length distances ≡ length distances₀) × (length places ≡ length places₀)
 
 abbrev μ-loop : tie.MeasureT-loop
-μ-loop s solid points uses kinds numbers sky lamps active lights volume₀ scratch₀ distances₀ places₀ from n tally₀ at₀ i₀ volume scratch distances places tally at i =
+μ-loop s solid floats uses kinds active volume₀ scratch₀ distances₀ places₀ from n tally₀ at₀ i₀ volume scratch distances places tally at i =
     n - i
 
 nth-requires : tie.Need-nth-requires Inv-loop μ-loop
