@@ -53,6 +53,7 @@ module _ (origin direction low high low′ high′ : Float) where
           either true = refl
           either false = refl
       below false p q = absurd (false≢true q)
+
       above : (b : Bool) → lt high origin ≡ b → ((b && not (lt direction zero32)) || (lt origin low && not (lt zero32 direction))) ≡ true
           → ((lt high′ origin && not (lt direction zero32)) || (lt origin low′ && not (lt zero32 direction))) ≡ true
       above false p q = below (lt origin low) refl q

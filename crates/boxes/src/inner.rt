@@ -28,7 +28,10 @@ pub fn padded(t: Triangle) -> Bounds
         y: BOX_PADDING,
         z: BOX_PADDING,
     };
-    let low = vectors::sub(vectors::smaller(vectors::smaller(t.p0, t.p1), t.p2), padding);
+    let low = vectors::sub(
+        vectors::smaller(vectors::smaller(t.p0, t.p1), t.p2),
+        padding,
+    );
     let high = vectors::add(vectors::larger(vectors::larger(t.p0, t.p1), t.p2), padding);
     Bounds { low, high }
 }
