@@ -1,42 +1,39 @@
+-- `tree::inner::any_missed` meets its contract. The invariant: whether one of all triangles was missed is whether one of those left at p was.
+use mathlib.Core.Path.{_≡_, refl, sym, _∙_}
+use Prim.Native.Nat.{_≤_, _-_}
+use native.Mathlib.Nat.{sub-zero}
+use native.Mathlib.Omega.{arith}
+use Rattle.lists.specs.Any.{any, any-found, any-next, any-end}
+use Rattle.tree.specs.Test.{missed}
 use Rattle.tree.proofs.inner.any_missed.Statement.{statement}
 use Rattle.tree.proofs.inner.any_missed.Tie as tie
-use Rattle.tree.proofs.inner.any_missed.Reads as reads
-use Rattle.tree.proofs.inner.any_missed.Lts as lts
-use Rattle.tree.proofs.inner.is_missed.Reads as is-missed-reads
 
 abbrev Inv-loop : tie.InvT-loop
-Inv-loop points seen t p₀ p = ?
+Inv-loop points seen t p₀ p = (p ≤ t) × (any (missed points seen) t 0 ≡ any (missed points seen) (t - p) p)
 
 abbrev μ-loop : tie.MeasureT-loop
-μ-loop points seen t p₀ p = ?
+μ-loop points seen t p₀ p = t - p
 
--- src/inner.rt:167:5
 loop-holds : tie.Need-loop-holds Inv-loop μ-loop
-loop-holds c = ?
+loop-holds c = (omega arith, rw sub-zero refl)
 
--- src/inner.rt:168:12
 is-missed-requires : tie.Need-is-missed-requires Inv-loop μ-loop
-is-missed-requires c κs = ?
+is-missed-requires c κs = omega arith
 
--- src/inner.rt:169:13
 returns : tie.Need-returns Inv-loop μ-loop
-returns c = ?
+returns c = sym (c .before .before .before .loop .inv .1 ∙ any-found _ _ _ (c .before .before .loop-test .taken) (sym (c .before .is-missed .ensures) ∙ c .if1 .taken))
 
--- src/inner.rt:171:9
 add-p : tie.Need-add-p Inv-loop μ-loop
-add-p c = ?
+add-p c = omega arith
 
--- src/inner.rt:167:5
 loop-less : tie.Need-loop-less Inv-loop μ-loop
-loop-less c = ?
+loop-less c = omega arith
 
--- src/inner.rt:167:5
 loop-again : tie.Need-loop-again Inv-loop μ-loop
-loop-again c = ?
+loop-again c = (omega arith, c .before .before .before .loop .inv .1 ∙ any-next _ _ _ (c .before .before .loop-test .taken) (sym (c .before .is-missed .ensures) ∙ c .if1 .left))
 
--- src/inner.rt:161:1
 returns-2 : tie.Need-returns-2 Inv-loop μ-loop
-returns-2 c = ?
+returns-2 c = sym (c .before .loop .inv .1 ∙ any-end _ _ _ (c .loop-test .left))
 
 pub any-missed-spec : {M : Type 1} → statement M
 any-missed-spec =

@@ -1,102 +1,89 @@
+-- `tree::inner::bad_pair` meets its contract: the code is the definition, test for test, and then marks as it does.
+use mathlib.Core.Path.{refl, sym, _∙_}
+use mathlib.Core.Bool.{false≢true}
+use native.Mathlib.Omega.{arith}
+use borrow.Author.Tests.{lt-ltb, le-ltb, eq-eqb, ne-eqb}
+use lib.ListN.{length-set}
+use Rattle.tree.specs.Tree.{leftAt, rightAt}
+use Rattle.tree.specs.Test.{badPair, markPair}
+use Rattle.tree.specs.Facts.{half-out}
 use borrow.Author.Needs.{needs}
 use Rattle.tree.proofs.inner.bad_pair.Statement.{statement}
 use Rattle.tree.proofs.inner.bad_pair.Tie as tie
-use Rattle.tree.proofs.inner.bad_pair.Reads as reads
-use Rattle.tree.proofs.inner.bad_pair.Lts as lts
-use Rattle.tree.proofs.inner.bad_half.Reads as bad-half-reads
-use Rattle.tree.proofs.inner.word_at.Reads as word-at-reads
 
--- src/inner.rt:83:31
 mul-word-at : tie.Need-mul-word-at
 mul-word-at c = search needs
 
--- src/inner.rt:83:31
 add-word-at : tie.Need-add-word-at
 add-word-at c = search needs
 
--- src/inner.rt:83:9
 word-at-requires : tie.Need-word-at-requires
 word-at-requires c κs = search needs
 
--- src/inner.rt:84:32
 mul-word-at-2 : tie.Need-mul-word-at-2
 mul-word-at-2 c = search needs
 
--- src/inner.rt:84:32
 add-word-at-2 : tie.Need-add-word-at-2
 add-word-at-2 c = search needs
 
--- src/inner.rt:84:9
 word-at-requires-2 : tie.Need-word-at-requires-2
 word-at-requires-2 c κs = search needs
 
--- src/inner.rt:85:8
 bad-half-requires : tie.Need-bad-half-requires
 bad-half-requires c κs = search needs
 
--- src/inner.rt:86:9
 same-length : tie.Need-same-length
 same-length c = search needs
 
--- src/inner.rt:86:9
 returns : tie.Need-returns
-returns c = ?
+unfolding badPair leftAt rightAt
+returns c = (rw (← c .before .before .before .word-at2 .ensures .0, ← c .before .before .before .before .word-at .ensures .0, ← c .before .bad-half .ensures, c .if1 .taken), λ e. absurd (false≢true (sym e)))
 
--- src/inner.rt:88:8
 bad-half-requires-2 : tie.Need-bad-half-requires-2
 bad-half-requires-2 c κs = search needs
 
--- src/inner.rt:89:9
 same-length-2 : tie.Need-same-length-2
 same-length-2 c = search needs
 
--- src/inner.rt:89:9
 returns-2 : tie.Need-returns-2
-returns-2 c = ?
+unfolding badPair leftAt rightAt
+returns-2 c = (rw (← c .before .before .before .before .before .before .word-at2 .ensures .0, ← c .before .before .before .before .before .before .before .word-at .ensures .0, ← c .before .before .before .before .bad-half .ensures, c .before .before .before .if1 .left, ← c .before .bad-half2 .ensures, c .if2 .taken), λ e. absurd (false≢true (sym e)))
 
--- src/inner.rt:92:9
 same-length-3 : tie.Need-same-length-3
 same-length-3 c = search needs
 
--- src/inner.rt:92:9
 returns-3 : tie.Need-returns-3
-returns-3 c = ?
+unfolding badPair leftAt rightAt
+returns-3 c = (rw (← c .before .before .before .before .before .before .before .word-at2 .ensures .0, ← c .before .before .before .before .before .before .before .before .word-at .ensures .0, ← c .before .before .before .before .before .bad-half .ensures, c .before .before .before .before .if1 .left, ← c .before .before .bad-half2 .ensures, c .before .if2 .left, eq-eqb _ _ (c .if3 .taken)), λ e. absurd (false≢true (sym e)))
 
--- src/inner.rt:94:13
 slice-read-d : tie.Need-slice-read-d
 slice-read-d c = search needs
 
--- src/inner.rt:96:9
 same-length-4 : tie.Need-same-length-4
 same-length-4 c = search needs
 
--- src/inner.rt:96:9
 returns-4 : tie.Need-returns-4
-returns-4 c = ?
+unfolding badPair leftAt rightAt
+returns-4 c = (rw (← c .before .before .before .before .before .before .before .before .before .word-at2 .ensures .0, ← c .before .before .before .before .before .before .before .before .before .before .word-at .ensures .0, ← c .before .before .before .before .before .before .before .bad-half .ensures, c .before .before .before .before .before .before .if1 .left, ← c .before .before .before .before .bad-half2 .ensures, c .before .before .before .if2 .left, ne-eqb _ _ (c .before .before .if3 .left), lt-ltb _ _ (c .if4 .taken)), λ e. absurd (false≢true (sym e)))
 
--- src/inner.rt:98:20
 add-depths : tie.Need-add-depths
 add-depths c = search needs
 
--- src/inner.rt:98:5
 slice-write-depths : tie.Need-slice-write-depths
-slice-write-depths c = ?
+slice-write-depths c = omega (arith, half-out _ _ _ _ _ (sym (c .before .before .before .before .before .before .before .bad-half .ensures) ∙ c .before .before .before .before .before .before .if1 .left) .within)
 
--- src/inner.rt:99:21
 add-depths-2 : tie.Need-add-depths-2
 add-depths-2 c = search needs
 
--- src/inner.rt:99:5
 slice-write-depths-2 : tie.Need-slice-write-depths-2
-slice-write-depths-2 c = ?
+slice-write-depths-2 c = rw length-set (omega (arith, half-out _ _ _ _ _ (sym (c .before .before .before .before .bad-half2 .ensures) ∙ c .before .before .before .if2 .left) .within))
 
--- src/inner.rt:78:1
 same-length-5 : tie.Need-same-length-5
 same-length-5 c = search needs
 
--- src/inner.rt:78:1
 returns-5 : tie.Need-returns-5
-returns-5 c = ?
+unfolding badPair leftAt rightAt markPair
+returns-5 c = (rw (← c .before .before .before .before .before .before .before .before .before .word-at2 .ensures .0, ← c .before .before .before .before .before .before .before .before .before .before .word-at .ensures .0, ← c .before .before .before .before .before .before .before .bad-half .ensures, c .before .before .before .before .before .before .if1 .left, ← c .before .before .before .before .bad-half2 .ensures, c .before .before .before .if2 .left, ne-eqb _ _ (c .before .before .if3 .left), le-ltb _ _ (c .if4 .left)), λ e. rw (← c .before .before .before .before .before .before .before .before .before .word-at2 .ensures .0, ← c .before .before .before .before .before .before .before .before .before .before .word-at .ensures .0) refl)
 
 pub bad-pair-spec : {M : Type 1} → statement M
 bad-pair-spec =

@@ -1,44 +1,39 @@
+-- `tree::inner::bad_place` meets its contract: the code is the definition, test for test; a present triangle has a place in the list.
+use mathlib.Core.Path.{sym, _∙_}
+use native.Mathlib.Omega.{arith}
+use borrow.Author.Tests.{eq-eqb, ne-eqb}
+use Rattle.tree.specs.Test.{badPlace}
+use Rattle.tree.specs.Facts.{present-within}
 use borrow.Author.Needs.{needs}
 use Rattle.tree.proofs.inner.bad_place.Statement.{statement}
 use Rattle.tree.proofs.inner.bad_place.Tie as tie
-use Rattle.tree.proofs.inner.bad_place.Reads as reads
-use Rattle.tree.proofs.inner.bad_place.Lts as lts
-use Rattle.boxes.proofs.inner.is_inside.Reads as is-inside-reads
-use Rattle.boxes.proofs.inner.padded.Reads as padded-reads
-use Rattle.tree.proofs.inner.present.Reads as present-reads
-use Rattle.triangle.proofs.inner.at.Reads as at-reads
 
--- src/inner.rt:150:8
 present-requires : tie.Need-present-requires
 present-requires c κs = search needs
 
--- src/inner.rt:151:9
 returns : tie.Need-returns
-returns c = ?
+unfolding badPlace
+returns c = rw (← c .before .present .ensures, c .if1 .left)
 
--- src/inner.rt:153:8
 shared-slice-read-if2 : tie.Need-shared-slice-read-if2
-shared-slice-read-if2 c = ?
+shared-slice-read-if2 c = omega (arith, present-within _ _ (sym (c .before .before .present .ensures) ∙ c .before .if1 .taken))
 
--- src/inner.rt:154:9
 returns-2 : tie.Need-returns-2
-returns-2 c = ?
+unfolding badPlace
+returns-2 c = rw (← c .before .before .before .present .ensures, c .before .before .if1 .taken, ne-eqb _ _ (c .if2 .taken))
 
--- src/inner.rt:156:36
 at-requires : tie.Need-at-requires
-at-requires c κs = ?
+at-requires c κs = omega (arith, present-within _ _ (sym (c .before .before .before .present .ensures) ∙ c .before .before .if1 .taken))
 
--- src/inner.rt:156:9
 padded-requires : tie.Need-padded-requires
 padded-requires c κs = search needs
 
--- src/inner.rt:157:6
 is-inside-requires : tie.Need-is-inside-requires
 is-inside-requires c κs = search needs
 
--- src/inner.rt:146:1
 returns-3 : tie.Need-returns-3
-returns-3 c = ?
+unfolding badPlace
+returns-3 c = rw (← c .before .before .before .before .before .before .present .ensures, c .before .before .before .before .before .if1 .taken, eq-eqb _ _ (c .before .before .before .if2 .left), ← c .before .before .at .ensures, ← c .before .padded .ensures, ← c .is-inside .ensures)
 
 pub bad-place-spec : {M : Type 1} → statement M
 bad-place-spec =
