@@ -47,6 +47,27 @@ none-any f m n = go (any f m 0) refl
     go false p = p
     go true p = let s = any-out f m 0 p in absurd (false≢true (sym (n (s .0) (omega (arith, s .2))) ∙ s .3))
 
+-- ---- the lists
+
+pub record GoodLists (boxes : List Float) (nodes : List ℕ) : Type 0 where
+  pub nodesFit : length nodes ≡ boxCount nodes * 3
+  pub boxesFit : length boxes ≡ boxCount nodes * 6
+
+pub lists-out : (boxes : List Float) (nodes : List ℕ) → wrongLists boxes nodes ≡ false → GoodLists boxes nodes
+unfolding wrongLists
+lists-out boxes nodes e =
+    let a = eqb (length nodes) (boxCount nodes * 3) in
+    let b = eqb (length boxes) (boxCount nodes * 6) in
+    let p = neither (not a) (not b) e in
+    record {
+      nodesFit = eqb-true (length nodes) (boxCount nodes * 3) (not-false a (p .0));
+      boxesFit = eqb-true (length boxes) (boxCount nodes * 6) (not-false b (p .1));
+    }
+
+pub lists-in : (boxes : List Float) (nodes : List ℕ) → GoodLists boxes nodes → wrongLists boxes nodes ≡ false
+unfolding wrongLists
+lists-in boxes nodes g = rw (eq-eqb (length nodes) (boxCount nodes * 3) (g .nodesFit), eq-eqb (length boxes) (boxCount nodes * 6) (g .boxesFit)) refl
+
 -- ---- a present triangle
 
 pub present-within : (points : List Float) (p : ℕ) → presentAt points p ≡ true → p < length points / 9

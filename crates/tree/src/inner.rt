@@ -45,7 +45,14 @@ fn wrong_lists(boxes: usize, nodes: usize, n: usize) -> bool
 }
 
 // Whether some box is bad; where none is, the triangles of all leaves are marked.
-fn any_bad(points: &[f32], boxes: &[f32], nodes: &[u32], order: &[u32], depths: &mut [u8], seen: &mut [u8]) -> bool
+fn any_bad(
+    points: &[f32],
+    boxes: &[f32],
+    nodes: &[u32],
+    order: &[u32],
+    depths: &mut [u8],
+    seen: &mut [u8],
+) -> bool
     requires { ⌜ Fit (now points) (now boxes) (now nodes) (now depths) (now seen) ⌝ }
     ensures { λ r. ⌜ (r ≡ any (badBoxAt (now (points .entry)) (now (boxes .entry)) (now (nodes .entry)) (now (order .entry)) (now (depths .entry)) (now (seen .entry))) (boxCount (now (nodes .entry))) 0) × (r ≡ false → now (seen .exit) ≡ seenTo (now (nodes .entry)) (now (order .entry)) (now (seen .entry)) (boxCount (now (nodes .entry)))) ⌝ }
 {
@@ -61,7 +68,15 @@ fn any_bad(points: &[f32], boxes: &[f32], nodes: &[u32], order: &[u32], depths: 
 }
 
 // Whether box i is bad; where it is not, its halves or its triangles are marked.
-fn bad_box(points: &[f32], boxes: &[f32], nodes: &[u32], order: &[u32], i: usize, depths: &mut [u8], seen: &mut [u8]) -> bool
+fn bad_box(
+    points: &[f32],
+    boxes: &[f32],
+    nodes: &[u32],
+    order: &[u32],
+    i: usize,
+    depths: &mut [u8],
+    seen: &mut [u8],
+) -> bool
     requires { ⌜ Fit (now points) (now boxes) (now nodes) (now depths) (now seen) × (i < boxCount (now nodes)) ⌝ }
     ensures { λ r. ⌜ (r ≡ badBox (now (points .entry)) (now (boxes .entry)) (now (nodes .entry)) (now (order .entry)) i (now (depths .entry)) (now (seen .entry))) × (r ≡ false → now (depths .exit) ≡ markBox (now (nodes .entry)) i (now (depths .entry))) × (r ≡ false → now (seen .exit) ≡ seeBox (now (nodes .entry)) (now (order .entry)) i (now (seen .entry))) ⌝ }
 {
@@ -120,7 +135,14 @@ fn bad_half(boxes: &[f32], n: usize, depths: &[u8], i: usize, half: usize) -> bo
 }
 
 // Whether the run of leaf i goes past the order or a triangle in it is bad; where not, its triangles are marked.
-fn bad_run(points: &[f32], boxes: &[f32], nodes: &[u32], order: &[u32], i: usize, seen: &mut [u8]) -> bool
+fn bad_run(
+    points: &[f32],
+    boxes: &[f32],
+    nodes: &[u32],
+    order: &[u32],
+    i: usize,
+    seen: &mut [u8],
+) -> bool
     requires { ⌜ (length (now nodes) ≡ boxCount (now nodes) * 3) × (length (now boxes) ≡ boxCount (now nodes) * 6) × (length (now points) / 9 ≤ length (now seen)) × (i < boxCount (now nodes)) ⌝ }
     ensures { λ r. ⌜ (r ≡ badRun (now (points .entry)) (now (boxes .entry)) (now (nodes .entry)) (now (order .entry)) i (now (seen .entry))) × (r ≡ false → now (seen .exit) ≡ seeRun (now (nodes .entry)) (now (order .entry)) i (countAt (now (nodes .entry)) i) (now (seen .entry))) ⌝ }
 {

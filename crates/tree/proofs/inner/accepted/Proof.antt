@@ -1,55 +1,72 @@
+-- `tree::inner::accepted` meets its contract: the tests in the definition's order; the marks start as the definition's do.
+use mathlib.Core.Path.{_≡_, refl, sym, ap, _∙_}
+use mathlib.Core.Bool.{Bool, true, false, not, _||_}
+use mathlib.Core.List.{List}
+use Prim.Native.Nat.{ℕ, _/_}
+use native.Mathlib.Omega.{arith}
+use borrow.Author.Tests.{lt-ltb, le-ltb}
+use lib.Dec.{ltb}
+use lib.ListN.{length}
+use lib.Ieee.{Float}
+use Rattle.lists.specs.Any.{any}
+use Rattle.tree.specs.Tree.{boxCount}
+use Rattle.tree.specs.Test.{seenTo, badBoxAt, missed, wrongLists, boxLimit, firstDepths, noneSeen, acceptedBy}
+use Rattle.tree.specs.Facts.{lists-out}
 use borrow.Author.Needs.{needs}
 use Rattle.tree.proofs.inner.accepted.Statement.{statement}
 use Rattle.tree.proofs.inner.accepted.Tie as tie
-use Rattle.tree.proofs.inner.accepted.Reads as reads
-use Rattle.tree.proofs.inner.accepted.Lts as lts
-use Rattle.tree.proofs.inner.any_bad.Reads as any-bad-reads
-use Rattle.tree.proofs.inner.any_missed.Reads as any-missed-reads
-use Rattle.tree.proofs.inner.wrong_lists.Reads as wrong-lists-reads
 
--- src/inner.rt:25:9
+-- what the definition says once the lists fit
+judged : (points boxes : List Float) (nodes order : List ℕ) (b m : Bool) → ltb boxLimit (boxCount nodes) ≡ false → wrongLists boxes nodes ≡ false
+    → any (badBoxAt points boxes nodes order firstDepths noneSeen) (boxCount nodes) 0 ≡ b
+    → any (missed points (seenTo nodes order noneSeen (boxCount nodes))) (length points / 9) 0 ≡ m
+    → not (b || m) ≡ acceptedBy points boxes nodes order
+unfolding acceptedBy
+judged points boxes nodes order b m e f g h = rw (e, f, g, h) refl
+
 returns : tie.Need-returns
-returns c = ?
+unfolding acceptedBy
+returns c = rw (lt-ltb _ _ (c .if1 .taken))
 
--- src/inner.rt:27:8
 wrong-lists-requires : tie.Need-wrong-lists-requires
 wrong-lists-requires c κs = search needs
 
--- src/inner.rt:28:9
 returns-2 : tie.Need-returns-2
-returns-2 c = ?
+unfolding acceptedBy wrongLists
+returns-2 c = rw (le-ltb _ _ (c .before .before .if1 .left), sym (c .before .wrong-lists .ensures) ∙ c .if2 .taken)
 
--- src/inner.rt:32:5
 array-write-depths : tie.Need-array-write-depths
 array-write-depths c = search needs
 
--- src/inner.rt:33:45
 slice-aggregate-any-bad : tie.Need-slice-aggregate-any-bad
 slice-aggregate-any-bad c = search needs
 
--- src/inner.rt:33:58
 slice-aggregate-any-bad-2 : tie.Need-slice-aggregate-any-bad-2
 slice-aggregate-any-bad-2 c = search needs
 
--- src/inner.rt:33:8
 any-bad-requires : tie.Need-any-bad-requires
-any-bad-requires c κs = ?
+unfolding wrongLists
+any-bad-requires c κs =
+    let a = c .before .before .before .before .before .before .before .before .before .args in
+    let l = lists-out (a .boxes .now) (a .nodes .now) (sym (c .before .before .before .wrong-lists .ensures) ∙ c .before .before .if2 .left) in
+    record { nodesFit = l .nodesFit; boxesFit = l .boxesFit; depthsFit = c .before .before .before .before .if1 .left; seenFit = c .before .before .before .before .before .before .before .before .before .pre }
 
--- src/inner.rt:34:9
 returns-3 : tie.Need-returns-3
-returns-3 c = ?
+unfolding wrongLists firstDepths noneSeen
+returns-3 c = judged _ _ _ _ true _ (le-ltb _ _ (c .before .before .before .before .before .before .before .before .if1 .left)) (sym (c .before .before .before .before .before .before .before .wrong-lists .ensures) ∙ c .before .before .before .before .before .before .if2 .left) (sym (c .before .before .before .any-bad .ensures .0) ∙ c .if3 .taken) refl
 
--- src/inner.rt:36:25
 slice-aggregate-any-missed : tie.Need-slice-aggregate-any-missed
 slice-aggregate-any-missed c = search needs
 
--- src/inner.rt:36:6
 any-missed-requires : tie.Need-any-missed-requires
 any-missed-requires c κs = search needs
 
--- src/inner.rt:19:1
 returns-4 : tie.Need-returns-4
-returns-4 c = ?
+unfolding wrongLists firstDepths noneSeen
+returns-4 c =
+    let p = c .before .before .before .before .before .before .before .before .before .before .before .before .before .before .before .args .points .now in
+    let m = c .any-missed .ensures ∙ ap (λ (s : List ℕ). any (missed p s) (length p / 9) 0) (c .before .before .before .before .before .any-bad .ensures .1 (c .before .before .if3 .left)) in
+    judged _ _ _ _ false _ (le-ltb _ _ (c .before .before .before .before .before .before .before .before .before .before .if1 .left)) (sym (c .before .before .before .before .before .before .before .before .before .wrong-lists .ensures) ∙ c .before .before .before .before .before .before .before .before .if2 .left) (sym (c .before .before .before .before .before .any-bad .ensures .0) ∙ c .before .before .if3 .left) (sym m)
 
 pub accepted-spec : {M : Type 1} → statement M
 accepted-spec =
