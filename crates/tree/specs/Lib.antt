@@ -4,4 +4,7 @@ pub mod Test
 pub mod Sums
 pub mod Facts
 pub mod MarkLaws
+pub mod FoundLaws
+pub mod HeldLaws
+pub mod CountLaws
 pub mod TreeLaws

@@ -3,12 +3,13 @@
 use mathlib.Core.Path.{_≡_, refl, sym, ap, _∙_}
 use mathlib.Core.Bool.{Bool, true, false, cond}
 use mathlib.Core.List.{List}
-use Prim.Native.Nat.{ℕ, zero, suc, _+_, _≤_, _<_}
+use Prim.Native.Nat.{ℕ, zero, suc, _+_, _/_, _≤_, _<_}
 use native.Mathlib.Omega.{arith}
 use borrow.Author.Tests.{eqb-true, eqb-false}
 use lib.Dec.{eqb}
 use lib.ListN.{length, getD, set, length-set}
 use lib.Seq.{getD-set-same, getD-set-other}
+use lib.Ieee.{Float}
 use Rattle.tree.specs.Tree.{boxCount, countAt, innerAt, leftAt, rightAt, placeAt, one, parentsTo, runTo, standsTo}
 use Rattle.tree.specs.Test.{markPair, depthsTo, seeRun, seenTo}
 
@@ -78,3 +79,18 @@ module _ (nodes order : List ℕ) where
           → Shows t (cond b (seenTo nodes order seen m) (seeRun nodes order m (countAt nodes m) (seenTo nodes order seen m))) (λ p. standsTo nodes order m p + cond b 0 (runTo nodes order m (countAt nodes m) p))
       by true r = shows-same _ _ (λ p. omega arith) r
       by false r = run-shows m (seenTo nodes order seen m) (standsTo nodes order m) r (countAt nodes m)
+
+-- the marks before the first box
+pub record Start (points : List Float) (nodes depths seen : List ℕ) : Type 0 where
+  pub depthsLong : boxCount nodes ≤ length depths
+  pub depthsStart : (j : ℕ) → getD depths j 0 ≡ one (eqb 0 j)
+  pub seenLong : length points / 9 ≤ length seen
+  pub seenStart : (p : ℕ) → getD seen p 0 ≡ 0
+
+module _ (points : List Float) (nodes order depths seen : List ℕ) (s : Start points nodes depths seen) where
+  -- and after m of them
+  pub depths-after : (m : ℕ) → Shows (boxCount nodes) (depthsTo nodes depths m) (λ j. one (eqb 0 j) + parentsTo nodes m j)
+  depths-after = depths-show nodes depths (record { long = s .depthsLong; unmarked = λ p h z. s .depthsStart p ∙ z; uncounted = λ p h z. sym (s .depthsStart p) ∙ z })
+
+  pub seen-after : (m : ℕ) → Shows (length points / 9) (seenTo nodes order seen m) (standsTo nodes order m)
+  seen-after = seen-shows nodes order seen (record { long = s .seenLong; unmarked = λ p h z. s .seenStart p; uncounted = λ p h z. refl })
