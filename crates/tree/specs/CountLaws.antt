@@ -14,10 +14,10 @@ use Rattle.tree.specs.Sums.{one-most, one-self, one-other, positive, sum
 use Rattle.tree.specs.Facts.{present-within}
 
 module _ (points boxes : List Float) (nodes order : List ℕ) (t : Accepted points boxes nodes order) where
-  inner : ℕ → ℕ
+  abbrev inner : ℕ → ℕ
   inner i = one (innerAt nodes i)
 
-  leaf : ℕ → ℕ
+  abbrev leaf : ℕ → ℕ
   leaf i = one (not (innerAt nodes i))
 
   -- ---- inner boxes and their halves
@@ -36,6 +36,7 @@ module _ (points boxes : List Float) (nodes order : List ℕ) (t : Accepted poin
       none : (m : ℕ) → sumTo (λ j. 0) m ≡ 0
       none zero = refl
       none (suc m) = let a = none m in omega arith
+
       by : (b : Bool) → innerAt nodes i ≡ b → sumTo (λ j. cond b (one (eqb (leftAt nodes i) j) + one (eqb (rightAt nodes i) j)) 0) (boxCount nodes) ≡ one b + one b
       by true q =
           let a = sum-plus (λ j. one (eqb (leftAt nodes i) j)) (λ j. one (eqb (rightAt nodes i) j)) (boxCount nodes) in
@@ -71,6 +72,7 @@ module _ (points boxes : List Float) (nodes order : List ℕ) (t : Accepted poin
     where
       p : ℕ
       p = placeAt nodes order i 0
+
       by : (b : Bool) → presentAt points p ≡ b → presentAt points p ≡ true
       by true e = e
       by false e =
@@ -92,7 +94,7 @@ module _ (points boxes : List Float) (nodes order : List ℕ) (t : Accepted poin
           let some = positive (countAt nodes i) (eqb-false (countAt nodes i) 0 q) in
           let f = placeAt nodes order i 0 in
           let hit = sum-hit f (length points / 9) (present-within points f (present i h q)) in
-          let less = sum-less (λ p. one (eqb f p)) (runTo nodes order i (countAt nodes i)) (length points / 9) (λ p _. sum-more (λ k. one (eqb (placeAt nodes order i k) p)) 1 (countAt nodes i) some) in
+          let less = sum-less (λ p. one (eqb f p)) (runTo nodes order i (countAt nodes i)) (length points / 9) (λ p _. omega (arith, sum-more (λ k. one (eqb (placeAt nodes order i k) p)) 1 (countAt nodes i) some)) in
           omega arith
 
   -- no triangle stands twice

@@ -27,7 +27,6 @@ stands-none nodes order p = refl
 
 module _ (points boxes : List Float) (nodes order depths seen : List ℕ) (start : Start points nodes depths seen)
     (good : (i : ℕ) → i < boxCount nodes → GoodBox points boxes nodes order i (depthsTo nodes depths i) (seenTo nodes order seen i)) where
-
   -- ---- parents
 
   -- no box has two, and the first has none
@@ -38,14 +37,17 @@ module _ (points boxes : List Float) (nodes order depths seen : List ℕ) (start
     where
       c : ℕ → Type 0
       c x = one (eqb 0 x) + parentsTo nodes m x ≡ 0
+
       free : (x : ℕ) → GoodHalf boxes (boxCount nodes) (depthsTo nodes depths m) m x → x ≡ j → c j
       free x g e = subst c e (depths-after points nodes order depths seen start m .uncounted x (g .within) (g .orphan))
+
       pair : GoodPair boxes nodes m (depthsTo nodes depths m) → one (eqb 0 j) + parentsTo nodes m j ≤ 1 → (a b : Bool) → eqb (leftAt nodes m) j ≡ a → eqb (rightAt nodes m) j ≡ b
           → one (eqb 0 j) + (parentsTo nodes m j + (one (eqb (leftAt nodes m) j) + one (eqb (rightAt nodes m) j))) ≤ 1
       pair g r true true e f = absurd (g .apart (eqb-true (leftAt nodes m) j e ∙ sym (eqb-true (rightAt nodes m) j f)))
       pair g r true false e f = let z = free (leftAt nodes m) (g .left) (eqb-true (leftAt nodes m) j e) in omega (arith, ap one e, ap one f)
       pair g r false true e f = let z = free (rightAt nodes m) (g .right) (eqb-true (rightAt nodes m) j f) in omega (arith, ap one e, ap one f)
       pair g r false false e f = omega (arith, ap one e, ap one f)
+
       by : (b : Bool) → innerAt nodes m ≡ b → one (eqb 0 j) + parentsTo nodes m j ≤ 1
           → one (eqb 0 j) + (parentsTo nodes m j + cond b (one (eqb (leftAt nodes m) j) + one (eqb (rightAt nodes m) j)) 0) ≤ 1
       by true q r = pair (good m (omega arith) .pair q) r (eqb (leftAt nodes m) j) (eqb (rightAt nodes m) j) refl refl
@@ -70,6 +72,7 @@ module _ (points boxes : List Float) (nodes order depths seen : List ℕ) (start
     where
       other : (x : ℕ) → getD (depthsTo nodes depths m) x 0 ≡ 0 → j ≡ x → ⊥
       other x z q = omega (arith, ap (λ (y : ℕ). getD (depthsTo nodes depths m) y 0) q)
+
       by : (b : Bool) → innerAt nodes m ≡ b → getD (cond b (markPair nodes m (depthsTo nodes depths m)) (depthsTo nodes depths m)) j 0 ≡ suc v
       by true q =
           let g = good m h .pair q in
@@ -104,8 +107,7 @@ module _ (points boxes : List Float) (nodes order depths seen : List ℕ) (start
       let long = depths-after points nodes order depths seen start i .long in
       let hl = g .left .within in
       let hr = g .right .within in
-      let same : depthsTo nodes depths (suc i) ≡ set (set D (leftAt nodes i) w) (rightAt nodes i) w = rw q refl in
-      (
+      let same : depthsTo nodes depths (suc i) ≡ set (set D (leftAt nodes i) w) (rightAt nodes i) w = rw q refl in (
         ap (λ (l : List ℕ). getD l (leftAt nodes i) 0) same ∙ getD-set-other (set D (leftAt nodes i) w) (rightAt nodes i) (leftAt nodes i) w 0 (g .apart) ∙ getD-set-same D (leftAt nodes i) w 0 (omega arith) ∙ v,
         ap (λ (l : List ℕ). getD l (rightAt nodes i) 0) same ∙ getD-set-same (set D (leftAt nodes i) w) (rightAt nodes i) w 0 (omega (arith, length-set D (leftAt nodes i) w)) ∙ v,
       )
@@ -158,8 +160,10 @@ module _ (points boxes : List Float) (nodes order depths seen : List ℕ) (start
     where
       c : ℕ → Type 0
       c x = standsTo nodes order i x + runTo nodes order i k x ≡ 0
+
       g : GoodPlace points (boundsAt boxes i) (seeRun nodes order i k (seenTo nodes order seen i)) (placeAt nodes order i k)
       g = good i h .run q .places k (omega arith)
+
       by : (b : Bool) → eqb (placeAt nodes order i k) p ≡ b → standsTo nodes order i p + runTo nodes order i k p ≤ one (presentAt points p)
           → standsTo nodes order i p + (runTo nodes order i k p + one (eqb (placeAt nodes order i k) p)) ≤ one (presentAt points p)
       by true e s =
@@ -214,9 +218,11 @@ module _ (points boxes : List Float) (nodes order depths seen : List ℕ) (start
           let some = positive (standsTo nodes order (boxCount nodes) p)
           (λ z. met p e (seen-after points nodes order depths seen start (boxCount nodes) .unmarked p (present-within points p e) z)) in
           omega (arith, stands-most (boxCount nodes) (omega arith) p, ap one e)
+
       nowhere : boxCount nodes ≡ 0 → (p : ℕ) → (b : Bool) → presentAt points p ≡ b → presentAt points p ≡ false
       nowhere e p false q = q
       nowhere e p true q = absurd (omega (arith, once p q, ap (λ (m : ℕ). standsTo nodes order m p) e, stands-none nodes order p))
+
       empty : ((p : ℕ) → presentAt points p ≡ false) → (m : ℕ) → boxCount nodes ≡ m → boxCount nodes ≡ 0
       empty none zero e = e
       empty none (suc m) e = let s = last-present m e in absurd (false≢true (sym (none (s .0)) ∙ s .1))

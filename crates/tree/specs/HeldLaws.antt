@@ -25,7 +25,6 @@ unfolding parentsTo
 parents-next nodes m j = refl
 
 module _ (points boxes : List Float) (nodes order depths seen : List ℕ) (start : Start points nodes depths seen) (t : Accepted points boxes nodes order) where
-
   -- ---- a box is reached
 
   -- who comes later is no parent
@@ -48,6 +47,7 @@ module _ (points boxes : List Float) (nodes order depths seen : List ℕ) (start
     where
       n : one (eqb 0 i) + parentsTo nodes i i ≡ 0
       n = depths-after points nodes order depths seen start i .uncounted i h z
+
       first : (x : ℕ) → i ≡ x → ⊥
       first zero e = omega (arith, n, ap (λ (y : ℕ). one (eqb 0 y)) e)
       first (suc x) e = omega (arith, n, t .oneParent i (omega arith) h, parents-late i (boxCount nodes) (omega arith) (omega arith))
@@ -68,8 +68,10 @@ module _ (points boxes : List Float) (nodes order depths seen : List ℕ) (start
     where
       D : List ℕ
       D = depthsTo nodes depths m
+
       w : ℕ
       w = getD D m 0 + 1
+
       -- a half of box m has the mark after m's
       half : (x : ℕ) → ((d : ℕ) → Deep nodes m d → Deep nodes x (suc d)) → ((j d : ℕ) → getD D j 0 ≡ suc d → Deep nodes j d) → w ≡ suc d → Deep nodes x d
       half x down r z = go (getD D m 0) refl
@@ -77,6 +79,7 @@ module _ (points boxes : List Float) (nodes order depths seen : List ℕ) (start
           go : (y : ℕ) → getD D m 0 ≡ y → Deep nodes x d
           go zero q = absurd (reached m (omega arith) q)
           go (suc v) q = let k : suc v ≡ d = omega arith in subst (Deep nodes x) k (down v (r m v q))
+
       pair : innerAt nodes m ≡ true → getD (set (set D (leftAt nodes m) w) (rightAt nodes m) w) j 0 ≡ suc d → ((j d : ℕ) → getD D j 0 ≡ suc d → Deep nodes j d)
           → (a b : Bool) → eqb (leftAt nodes m) j ≡ a → eqb (rightAt nodes m) j ≡ b → Deep nodes j d
       pair q z r a true f g =
@@ -98,6 +101,7 @@ module _ (points boxes : List Float) (nodes order depths seen : List ℕ) (start
           let o = getD-set-other (set D (leftAt nodes m) w) (rightAt nodes m) j w 0 (λ (k : j ≡ rightAt nodes m). eqb-false (rightAt nodes m) j g (sym k)) in
           let u = getD-set-other D (leftAt nodes m) j w 0 (λ (k : j ≡ leftAt nodes m). eqb-false (leftAt nodes m) j f (sym k)) in
           r j d (sym u ∙ sym o ∙ z)
+
       by : (b : Bool) → innerAt nodes m ≡ b → getD (cond b (markPair nodes m D) D) j 0 ≡ suc d → ((j d : ℕ) → getD D j 0 ≡ suc d → Deep nodes j d) → Deep nodes j d
       by true q z r = pair q z r (eqb (leftAt nodes m) j) (eqb (rightAt nodes m) j) refl refl
       by false q z r = r j d z

@@ -39,6 +39,7 @@ shows-set {m} marks c q v pos s =
     fresh : (p : ℕ) → p < m → c p + one (eqb q p) ≡ 0 → (b : Bool) → eqb q p ≡ b → getD (set marks q v) p 0 ≡ 0
     fresh p h z true e = absurd (omega (arith, ap one e))
     fresh p h z false e = getD-set-other marks q p v 0 (λ (x : p ≡ q). eqb-false q p e (sym x)) ∙ s .unmarked p h (omega arith)
+
     stale : (p : ℕ) → p < m → getD (set marks q v) p 0 ≡ 0 → (b : Bool) → eqb q p ≡ b → c p + one (eqb q p) ≡ 0
     stale p h z true e =
         let x = eqb-true q p e in

@@ -23,12 +23,15 @@ use Rattle.tree.specs.CountLaws.{few-boxes}
 
 -- ---- the first marks
 
-zeros : (m i : ℕ) → getD (replicate m 0) i 0 ≡ 0
+abbrev blank : ℕ → List ℕ
+blank m = replicate m 0
+
+zeros : (m i : ℕ) → getD (blank m) i 0 ≡ 0
 zeros zero i = refl
 zeros (suc m) zero = refl
 zeros (suc m) (suc i) = zeros m i
 
-first-mark : (m j : ℕ) → getD (set (replicate (suc m) 0) 0 1) j 0 ≡ one (eqb 0 j)
+first-mark : (m j : ℕ) → getD (set (blank (suc m)) 0 1) j 0 ≡ one (eqb 0 j)
 first-mark m zero = refl
 first-mark m (suc j) = zeros m j ∙ sym (one-other 0 (suc j) (λ (e : 0 ≡ suc j). omega arith))
 
@@ -36,19 +39,19 @@ starts : (points : List Float) (nodes : List ℕ) → boxCount nodes ≤ boxLimi
 unfolding firstDepths noneSeen
 starts points nodes h k =
     record {
-      depthsLong = rw (length-set (replicate boxLimit 0) 0 1, length-replicate boxLimit 0) h;
+      depthsLong = rw (length-set (blank boxLimit) 0 1, length-replicate {A = ℕ} boxLimit 0) h;
       depthsStart = first-mark 8190;
-      seenLong = rw (length-replicate triangleLimit 0) k;
+      seenLong = rw (length-replicate {A = ℕ} triangleLimit 0) k;
       seenStart = zeros triangleLimit;
     }
 
 -- ---- the law
 
 module _ (points boxes : List Float) (nodes order : List ℕ) (few : length points / 9 ≤ triangleLimit) where
-  bad : ℕ → Bool
+  abbrev bad : ℕ → Bool
   bad = badBoxAt points boxes nodes order firstDepths noneSeen
 
-  lost : ℕ → Bool
+  abbrev lost : ℕ → Bool
   lost = missed points (seenTo nodes order noneSeen (boxCount nodes))
 
   out : acceptedBy points boxes nodes order ≡ true → Accepted points boxes nodes order
