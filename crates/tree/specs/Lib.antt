@@ -8,3 +8,4 @@ pub mod FoundLaws
 pub mod HeldLaws
 pub mod CountLaws
 pub mod TreeLaws
+pub mod TreeFigures
