@@ -1,7 +1,6 @@
 -- What lying inside means: what lies inside a box that is passed over is itself passed over; inside what is inside is inside; and beside NaN nothing is.
-use mathlib.Core.Path.{_≡_, refl, sym, _∙_}
+use mathlib.Core.Path.{_≡_, refl}
 use mathlib.Core.Bool.{Bool, true, false, not, _&&_, _||_, and-eq-true-iff, false≢true}
-use mathlib.Core.Logic.{_⊎_, inl, inr}
 use lib.Ieee.{Float, lt, le, isNan}
 use Rattle.names.specs.Bits.{zero32}
 use Rattle.floats.specs.OrderLaws.{le-numbers, le-transitive, lt-le-transitive, le-lt-transitive}

@@ -3,22 +3,22 @@
 use mathlib.Core.Path.{_≡_, refl, sym, ap, _∙_, subst}
 use mathlib.Core.Bool.{Bool, true, false, cond, false≢true}
 use mathlib.Core.List.{List}
-use mathlib.Core.Logic.{_⊎_, inl, inr, ⊎-elim, _↔_}
-use Prim.Native.Nat.{ℕ, zero, suc, _+_, _*_, _/_, _≤_, _<_}
+use mathlib.Core.Logic.{⊎-elim}
+use Prim.Native.Nat.{ℕ, zero, suc, _+_, _≤_, _<_}
 use native.Mathlib.Nat.{eq-or-lt-of-le}
 use native.Mathlib.Omega.{arith}
 use borrow.Author.Tests.{eqb-true, eqb-false}
 use lib.Dec.{eqb}
-use lib.ListN.{length, getD, set, length-set}
+use lib.ListN.{getD, set, length-set}
 use lib.Seq.{getD-set-same, getD-set-other}
 use lib.Ieee.{Float}
 use Rattle.names.specs.Numbers.{depthLimit}
-use Rattle.boxes.specs.Boxes.{boundsAt, paddedOf, insideOf}
-use Rattle.tree.specs.Tree.{boxCount, countAt, innerAt, leftAt, rightAt, firstAt, placeAt, presentAt, sumTo, one, halvesOf, parentsTo, runTo, leafOf, standsTo, Deep, root, left, right, Accepted}
+use Rattle.boxes.specs.Boxes.{boundsAt}
+use Rattle.tree.specs.Tree.{boxCount, countAt, innerAt, leftAt, rightAt, placeAt, presentAt, one, halvesOf, parentsTo, runTo, standsTo, Deep, root, left, right, Accepted}
 use Rattle.tree.specs.Test.{markPair, depthsTo, seeRun, seenTo}
-use Rattle.tree.specs.Sums.{one-most, one-self, one-other, positive, sum-more}
-use Rattle.tree.specs.Facts.{present-within, GoodBox, GoodPair, GoodHalf, GoodRun, GoodPlace, GoodLists}
-use Rattle.tree.specs.MarkLaws.{Shows, run-shows, Start, depths-after, seen-after}
+use Rattle.tree.specs.SumLaws.{one-most, one-other, positive, sum-more}
+use Rattle.tree.specs.TestLaws.{present-within, GoodBox, GoodPair, GoodHalf, GoodPlace, GoodLists}
+use Rattle.tree.specs.MarkLaws.{run-shows, Start, depths-after, seen-after}
 
 -- before the first box no triangle stands
 stands-none : (nodes order : List ℕ) (p : ℕ) → standsTo nodes order 0 p ≡ 0
@@ -112,12 +112,12 @@ module _ (points boxes : List Float) (nodes order depths seen : List ℕ) (start
         ap (λ (l : List ℕ). getD l (rightAt nodes i) 0) same ∙ getD-set-same (set D (leftAt nodes i) w) (rightAt nodes i) w 0 (omega (arith, length-set D (leftAt nodes i) w)) ∙ v,
       )
 
-  record Marked (i d : ℕ) : Type 0 where
-    within : i < boxCount nodes
-    mark : getD (depthsTo nodes depths (boxCount nodes)) i 0 ≡ suc d
-    shallow : d ≤ depthLimit
+  pub record Marked (i d : ℕ) : Type 0 where
+    pub within : i < boxCount nodes
+    pub mark : getD (depthsTo nodes depths (boxCount nodes)) i 0 ≡ suc d
+    pub shallow : d ≤ depthLimit
 
-  deep-marked : {i d : ℕ} → 0 < boxCount nodes → Deep nodes i d → Marked i d
+  pub deep-marked : {i d : ℕ} → 0 < boxCount nodes → Deep nodes i d → Marked i d
   unfolding depthsTo
   deep-marked pos root =
       record {

@@ -1,24 +1,25 @@
 -- Of an accepted tree the test finds no box bad and no triangle missed: before box i all its parents were passed, since children follow; whoever is marked there
 -- already would have a second parent, or stand twice; and a mark is a box's depth plus 1. Assumes nothing.
 use mathlib.Core.Path.{_≡_, refl, sym, ap, _∙_, subst}
-use mathlib.Core.Bool.{Bool, true, false, cond, false≢true}
+use mathlib.Core.Bool.{Bool, true, false, cond}
 use mathlib.Core.List.{List}
-use mathlib.Core.Logic.{_⊎_, inl, inr, ⊎-elim}
-use Prim.Native.Nat.{ℕ, zero, suc, _+_, _*_, _/_, _≤_, _<_}
+use mathlib.Core.Logic.{⊎-elim}
+use Prim.Native.Nat.{ℕ, zero, suc, _+_, _≤_, _<_}
 use native.Mathlib.Nat.{eq-or-lt-of-le}
 use native.Mathlib.Omega.{arith}
 use borrow.Author.Tests.{eqb-true, eqb-false, eq-eqb}
 use lib.Dec.{eqb}
-use lib.ListN.{length, getD, set, length-set}
+use lib.ListN.{getD, set, length-set}
 use lib.Seq.{getD-set-same, getD-set-other}
 use lib.Ieee.{Float}
 use Rattle.names.specs.Numbers.{depthLimit}
 use Rattle.boxes.specs.Boxes.{boundsAt}
-use Rattle.tree.specs.Tree.{boxCount, countAt, innerAt, leftAt, rightAt, placeAt, presentAt, sumTo, one, halvesOf, parentsTo, runTo, leafOf, standsTo, Deep, root, left, right, Accepted}
+use Rattle.tree.specs.Tree.{boxCount, countAt, innerAt, leftAt, rightAt, placeAt, presentAt, one, halvesOf, parentsTo, standsTo, Deep, root, left, right, Accepted}
 use Rattle.tree.specs.Test.{markPair, depthsTo, seeRun, seenTo}
-use Rattle.tree.specs.Sums.{one-self, one-other, positive, sum-more}
-use Rattle.tree.specs.Facts.{present-within, GoodBox, GoodPair, GoodHalf, GoodRun, GoodPlace}
-use Rattle.tree.specs.MarkLaws.{Shows, run-shows, Start, depths-after, seen-after}
+use Rattle.tree.specs.SumLaws.{one-self, one-other, sum-more}
+use Rattle.tree.specs.TestLaws.{present-within, GoodBox, GoodPair, GoodRun, GoodPlace}
+use Rattle.tree.specs.AcceptedLaws.{stands-here, leaf-present}
+use Rattle.tree.specs.MarkLaws.{run-shows, Start, depths-after, seen-after}
 
 parents-next : (nodes : List ℕ) (m j : ℕ) → parentsTo nodes (suc m) j ≡ parentsTo nodes m j + halvesOf nodes j m
 unfolding parentsTo
@@ -42,7 +43,7 @@ module _ (points boxes : List Float) (nodes order depths seen : List ℕ) (start
               omega (arith, one-other (leftAt nodes m) i (λ (e : leftAt nodes m ≡ i). omega arith), one-other (rightAt nodes m) i (λ (e : rightAt nodes m ≡ i). omega arith))
           by false q = refl
 
-  reached : (i : ℕ) → i < boxCount nodes → getD (depthsTo nodes depths i) i 0 ≡ 0 → ⊥
+  pub reached : (i : ℕ) → i < boxCount nodes → getD (depthsTo nodes depths i) i 0 ≡ 0 → ⊥
   reached i h z = first i refl
     where
       n : one (eqb 0 i) + parentsTo nodes i i ≡ 0
@@ -54,7 +55,7 @@ module _ (points boxes : List Float) (nodes order depths seen : List ℕ) (start
 
   -- ---- a mark is a depth plus 1
 
-  sound : (m : ℕ) → m ≤ boxCount nodes → (j d : ℕ) → getD (depthsTo nodes depths m) j 0 ≡ suc d → Deep nodes j d
+  pub sound : (m : ℕ) → m ≤ boxCount nodes → (j d : ℕ) → getD (depthsTo nodes depths m) j 0 ≡ suc d → Deep nodes j d
   unfolding depthsTo markPair
   sound zero h j d e = by (eqb 0 j) refl
     where
@@ -152,29 +153,17 @@ module _ (points boxes : List Float) (nodes order depths seen : List ℕ) (start
 
   -- ---- the triangles of a leaf
 
-  -- how often the k th triangle of leaf i stands, at least: before, and here
-  stands-here : (i k : ℕ) → i < boxCount nodes → innerAt nodes i ≡ false → k < countAt nodes i
-      → standsTo nodes order i (placeAt nodes order i k) + runTo nodes order i k (placeAt nodes order i k) + 1 ≤ standsTo nodes order (boxCount nodes) (placeAt nodes order i k)
-  unfolding standsTo runTo
-  stands-here i k h q l =
-      let p = placeAt nodes order i k in
-      let more : standsTo nodes order (suc i) p ≤ standsTo nodes order (boxCount nodes) p = sum-more (leafOf nodes order p) (suc i) (boxCount nodes) h in
-      let here : leafOf nodes order p i ≡ runTo nodes order i (countAt nodes i) p = rw q refl in
-      let run : runTo nodes order i (suc k) p ≤ runTo nodes order i (countAt nodes i) p = sum-more (λ j. one (eqb (placeAt nodes order i j) p)) (suc k) (countAt nodes i) l in
-      let self = one-self p in
-      omega arith
-
   good-run : (i : ℕ) → i < boxCount nodes → innerAt nodes i ≡ false → GoodRun points boxes nodes order i (seenTo nodes order seen i)
-  good-run i h q = record { fits = t .runFits i h q; places = λ k l. by k l (presentAt points (placeAt nodes order i k)) refl }
+  good-run i h q = record { fits = t .runFits i h q; places = place }
     where
-      by : (k : ℕ) → k < countAt nodes i → (b : Bool) → presentAt points (placeAt nodes order i k) ≡ b
-          → GoodPlace points (boundsAt boxes i) (seeRun nodes order i k (seenTo nodes order seen i)) (placeAt nodes order i k)
-      by k l false e = absurd (omega (arith, stands-here i k h q l, t .othersNowhere (placeAt nodes order i k) e))
-      by k l true e =
+      place : (k : ℕ) → k < countAt nodes i → GoodPlace points (boundsAt boxes i) (seeRun nodes order i k (seenTo nodes order seen i)) (placeAt nodes order i k)
+      place k l =
+          let p = placeAt nodes order i k in
+          let e = leaf-present points boxes nodes order t i k h q l in
           let s = run-shows nodes order i (seenTo nodes order seen i) (standsTo nodes order i) (seen-after points nodes order depths seen start i) k in
           record {
             present = e;
-            unseen = s .unmarked (placeAt nodes order i k) (present-within points (placeAt nodes order i k) e) (omega (arith, stands-here i k h q l, t .standsOnce (placeAt nodes order i k) e));
+            unseen = s .unmarked p (present-within points p e) (omega (arith, stands-here points boxes nodes order t i k h q l, t .standsOnce p e));
             inside = t .insideLeaf i k h q l;
           }
 

@@ -7,10 +7,11 @@ use Prim.Native.Nat.{ℕ, zero, suc, _+_, _/_, _≤_, _<_}
 use native.Mathlib.Omega.{arith}
 use borrow.Author.Tests.{eqb-true, eqb-false}
 use lib.Dec.{eqb}
-use lib.ListN.{length, getD, set, length-set}
+use lib.ListN.{length, getD, set, replicate, length-set}
 use lib.Seq.{getD-set-same, getD-set-other}
 use lib.Ieee.{Float}
 use Rattle.tree.specs.Tree.{boxCount, countAt, innerAt, leftAt, rightAt, placeAt, one, parentsTo, runTo, standsTo}
+use Rattle.tree.specs.SumLaws.{one-other}
 use Rattle.tree.specs.Test.{markPair, depthsTo, seeRun, seenTo}
 
 -- of the first m marks those are 0 whose count is 0
@@ -95,3 +96,16 @@ module _ (points : List Float) (nodes order depths seen : List ℕ) (s : Start p
 
   pub seen-after : (m : ℕ) → Shows (length points / 9) (seenTo nodes order seen m) (standsTo nodes order m)
   seen-after = seen-shows nodes order seen (record { long = s .seenLong; unmarked = λ p h z. s .seenStart p; uncounted = λ p h z. refl })
+
+-- such marks: zeros, but for a 1 at the first box
+abbrev pub blank : ℕ → List ℕ
+blank m = replicate m 0
+
+pub zeros : (m i : ℕ) → getD (blank m) i 0 ≡ 0
+zeros zero i = refl
+zeros (suc m) zero = refl
+zeros (suc m) (suc i) = zeros m i
+
+pub first-mark : (m j : ℕ) → getD (set (blank (suc m)) 0 1) j 0 ≡ one (eqb 0 j)
+first-mark m zero = refl
+first-mark m (suc j) = zeros m j ∙ sym (one-other 0 (suc j) (λ (e : 0 ≡ suc j). omega arith))

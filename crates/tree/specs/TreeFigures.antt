@@ -45,8 +45,8 @@ halves = boxFrom minusOne half32 ++ boxFrom half32 two32
 
 -- ---- accepted
 
--- one leaf, in either order; an infinite root; an inner box with two leaves, one before the other or after; what the order holds past the runs is not asked; no box over no triangle,
--- and over one that is absent
+-- one leaf, in either order, whose third number is not asked; an infinite box; an inner box with two leaves, either one first; what the order holds past the runs is
+-- not asked; no box over no triangle, and over one that is absent
 pub accepted-trees :
     acceptedBy two both (2 ∷ 0 ∷ 7 ∷ []) (0 ∷ 1 ∷ [])
     ∷ acceptedBy two both (2 ∷ 0 ∷ 7 ∷ []) (1 ∷ 0 ∷ [])
@@ -62,10 +62,10 @@ accepted-trees = refl
 
 -- ---- not accepted
 
--- each differs from an accepted one in one thing: a triangle is missing; one stands twice, in a leaf and in two; an absent one stands in a leaf, and a place past the list; a run
--- goes past the order; a bound is NaN, of a leaf and of the first box; a leaf's box does not hold the padded triangle; a half does not lie inside; a box has two parents, in
--- two boxes and as both halves of one; a box stands before its parent; a half is past the list; a box has no parent; the first box is its own half; a list is too long; no box over
--- a triangle, and a leaf of nothing
+-- each is refused for one thing: a triangle is missing; one stands twice, in one leaf and in two; an absent one stands in a leaf, and a place past the list; a run goes
+-- past the order; a bound is NaN, of a leaf and of an inner box; a leaf's box holds a triangle and not its padding; a half does not lie inside; a box has two parents, and is
+-- both halves of one; it stands before its parent; a half is past the list; a box has no parent; the first is its own half; nodes or boxes are left over; no box stands
+-- over a triangle, and one over none
 pub refused-trees :
     acceptedBy two both (1 ∷ 0 ∷ 0 ∷ []) (0 ∷ 1 ∷ [])
     ∷ acceptedBy two both (3 ∷ 0 ∷ 0 ∷ []) (0 ∷ 1 ∷ 0 ∷ [])

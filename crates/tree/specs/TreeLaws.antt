@@ -1,39 +1,25 @@
 -- The test accepts a tree exactly when it is accepted. Assumes nothing.
-use mathlib.Core.Path.{_≡_, refl, sym, ap, _∙_}
-use mathlib.Core.Bool.{Bool, true, false, not, _&&_, _||_, and-eq-true-iff, false≢true}
+use mathlib.Core.Path.{_≡_, refl, sym, _∙_}
+use mathlib.Core.Bool.{Bool, true, false, _&&_, _||_, false≢true}
 use mathlib.Core.List.{List}
 use mathlib.Core.Logic.{_↔_}
-use Prim.Native.Nat.{ℕ, zero, suc, _-_, _*_, _/_, _≤_, _<_}
+use Prim.Native.Nat.{ℕ, _-_, _/_, _≤_}
 use native.Mathlib.Omega.{arith}
-use borrow.Author.Tests.{ltb-false, le-ltb, eqb-true, eqb-false, eq-eqb, ne-eqb, not-true}
+use borrow.Author.Tests.{ltb-false, le-ltb, eq-eqb, ne-eqb, not-true}
 use lib.Dec.{eqb, ltb}
-use lib.ListN.{length, getD, set, replicate, length-set, length-replicate, getD-replicate, List·getD-eq-default}
-use lib.Seq.{getD-set-same, getD-set-other}
+use lib.ListN.{length, getD, length-set, length-replicate}
 use lib.Ieee.{Float}
 use Rattle.names.specs.Numbers.{triangleLimit}
 use Rattle.lists.specs.Any.{any}
-use Rattle.tree.specs.Tree.{boxCount, presentAt, one, Accepted}
+use Rattle.tree.specs.Tree.{boxCount, presentAt, Accepted}
 use Rattle.tree.specs.Test.{boxLimit, seenTo, badBoxAt, missed, wrongLists, firstDepths, noneSeen, acceptedBy}
-use Rattle.tree.specs.Sums.{one-other}
-use Rattle.tree.specs.Facts.{neither, any-none, none-any, lists-out, lists-in, present-within, box-out, box-in}
-use Rattle.tree.specs.MarkLaws.{Start}
+use Rattle.tree.specs.TestLaws.{neither, any-none, none-any, lists-out, lists-in, present-within, box-out, box-in}
+use Rattle.tree.specs.MarkLaws.{Start, blank, zeros, first-mark}
 use Rattle.tree.specs.FoundLaws.{found-accepted}
 use Rattle.tree.specs.HeldLaws.{held-good, held-met}
-use Rattle.tree.specs.CountLaws.{few-boxes}
+use Rattle.tree.specs.AcceptedLaws.{few-boxes}
 
 -- ---- the first marks
-
-abbrev blank : ℕ → List ℕ
-blank m = replicate m 0
-
-zeros : (m i : ℕ) → getD (blank m) i 0 ≡ 0
-zeros zero i = refl
-zeros (suc m) zero = refl
-zeros (suc m) (suc i) = zeros m i
-
-first-mark : (m j : ℕ) → getD (set (blank (suc m)) 0 1) j 0 ≡ one (eqb 0 j)
-first-mark m zero = refl
-first-mark m (suc j) = zeros m j ∙ sym (one-other 0 (suc j) (λ (e : 0 ≡ suc j). omega arith))
 
 starts : (points : List Float) (nodes : List ℕ) → boxCount nodes ≤ boxLimit → length points / 9 ≤ triangleLimit → Start points nodes firstDepths noneSeen
 unfolding firstDepths noneSeen

@@ -7,8 +7,8 @@ ghost use Prim.Native.Nat.{_+_, _*_, _/_, _≤_, _<_};
 ghost use lib.ListN.{length, getD};
 ghost use Rattle.names.specs.Numbers.{triangleLimit};
 ghost use Rattle.lists.specs.Any.{any};
-ghost use Rattle.tree.specs.Tree.{boxCount, countAt, innerAt, leftAt, rightAt, firstAt, presentAt};
-ghost use Rattle.tree.specs.Test.{markPair, markBox, seeRun, seeBox, seenTo, badHalf, badPair, badPlace, badRun, badBox, badBoxAt, missed, wrongLists, acceptedBy, Fit};
+ghost use Rattle.tree.specs.Tree.{boxCount, countAt, presentAt};
+ghost use Rattle.tree.specs.Test.{boxLimit, markPair, markBox, seeRun, seeBox, seenTo, badHalf, badPair, badPlace, badRun, badBox, badBoxAt, missed, acceptedBy, Fit};
 use boxes::Bounds;
 use names::DEPTH_LIMIT;
 use names::TRIANGLE_LIMIT;
@@ -38,7 +38,7 @@ pub fn accepted(points: &[f32], boxes: &[f32], nodes: &[u32], order: &[u32]) -> 
 
 // Whether the lists do not fit n boxes.
 fn wrong_lists(boxes: usize, nodes: usize, n: usize) -> bool
-    requires { ⌜ n ≤ 8191 ⌝ }
+    requires { ⌜ n ≤ boxLimit ⌝ }
     ensures { λ r. ⌜ r ≡ not (eqb nodes (n * 3)) || not (eqb boxes (n * 6)) ⌝ }
 {
     (nodes != n * 3) | (boxes != n * 6)

@@ -3,7 +3,6 @@ use mathlib.Core.Path.{_≡_, refl, sym, ap, _∙_}
 use mathlib.Core.Bool.{Bool, true, false, not, _||_}
 use mathlib.Core.List.{List}
 use Prim.Native.Nat.{ℕ, _/_}
-use native.Mathlib.Omega.{arith}
 use borrow.Author.Tests.{lt-ltb, le-ltb}
 use lib.Dec.{ltb}
 use lib.ListN.{length}
@@ -11,7 +10,7 @@ use lib.Ieee.{Float}
 use Rattle.lists.specs.Any.{any}
 use Rattle.tree.specs.Tree.{boxCount}
 use Rattle.tree.specs.Test.{seenTo, badBoxAt, missed, wrongLists, boxLimit, firstDepths, noneSeen, acceptedBy}
-use Rattle.tree.specs.Facts.{lists-out}
+use Rattle.tree.specs.TestLaws.{lists-out}
 use borrow.Author.Needs.{needs}
 use Rattle.tree.proofs.inner.accepted.Statement.{statement}
 use Rattle.tree.proofs.inner.accepted.Tie as tie

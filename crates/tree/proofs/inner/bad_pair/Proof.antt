@@ -6,7 +6,7 @@ use borrow.Author.Tests.{lt-ltb, le-ltb, eq-eqb, ne-eqb}
 use lib.ListN.{length-set}
 use Rattle.tree.specs.Tree.{leftAt, rightAt}
 use Rattle.tree.specs.Test.{badPair, markPair}
-use Rattle.tree.specs.Facts.{half-out}
+use Rattle.tree.specs.TestLaws.{half-out}
 use borrow.Author.Needs.{needs}
 use Rattle.tree.proofs.inner.bad_pair.Statement.{statement}
 use Rattle.tree.proofs.inner.bad_pair.Tie as tie

@@ -3,7 +3,7 @@ use mathlib.Core.Path.{sym, _∙_}
 use native.Mathlib.Omega.{arith}
 use borrow.Author.Tests.{eq-eqb, ne-eqb}
 use Rattle.tree.specs.Test.{badPlace}
-use Rattle.tree.specs.Facts.{present-within}
+use Rattle.tree.specs.TestLaws.{present-within}
 use borrow.Author.Needs.{needs}
 use Rattle.tree.proofs.inner.bad_place.Statement.{statement}
 use Rattle.tree.proofs.inner.bad_place.Tie as tie

@@ -14,7 +14,7 @@ use Rattle.boxes.specs.declared.Bounds.{Bounds}
 use Rattle.boxes.specs.Boxes.{boundsAt}
 use Rattle.tree.specs.Tree.{countAt, leftAt, placeAt}
 use Rattle.tree.specs.Test.{seeRun, badPlace, badPlaceAt, badRun}
-use Rattle.tree.specs.Facts.{place-out, present-within}
+use Rattle.tree.specs.TestLaws.{place-out, present-within}
 use Rattle.tree.proofs.inner.bad_run.Statement.{statement}
 use Rattle.tree.proofs.inner.bad_run.Tie as tie
 

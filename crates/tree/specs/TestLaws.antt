@@ -1,6 +1,6 @@
 -- What each test says where it finds nothing bad, and that it finds nothing bad where that holds. Assumes nothing.
 use mathlib.Core.Path.{_≡_, refl, sym, ap, _∙_}
-use mathlib.Core.Bool.{Bool, true, false, cond, not, _&&_, _||_, and-eq-true-iff, false≢true}
+use mathlib.Core.Bool.{Bool, true, false, cond, not, _||_, and-eq-true-iff, false≢true}
 use mathlib.Core.List.{List}
 use Prim.Native.Nat.{ℕ, _+_, _*_, _/_, _≤_, _<_}
 use native.Mathlib.Omega.{arith}
@@ -15,7 +15,7 @@ use Rattle.triangle.specs.Places.{triangleAt}
 use Rattle.boxes.specs.declared.Bounds.{Bounds}
 use Rattle.boxes.specs.Boxes.{boundsAt, paddedOf, insideOf}
 use Rattle.tree.specs.Tree.{boxCount, countAt, innerAt, leftAt, rightAt, firstAt, placeAt, presentAt}
-use Rattle.tree.specs.Test.{seeRun, badHalf, badPair, badPlace, badPlaceAt, badRun, badBox, missed, wrongLists}
+use Rattle.tree.specs.Test.{seeRun, badHalf, badPair, badPlace, badPlaceAt, badRun, badBox, wrongLists}
 
 -- ---- none of two, none of many
 
@@ -25,13 +25,6 @@ neither false b h = (refl, h)
 
 pub none-of : (a b : Bool) → a ≡ false → b ≡ false → (a || b) ≡ false
 none-of a b h k = rw (h, k) refl
-
-pub second-of : (a b : Bool) → b ≡ true → (a || b) ≡ true
-second-of true b h = refl
-second-of false b h = h
-
-not-true-false : (b : Bool) → b ≡ true → not b ≡ false
-not-true-false b h = rw h refl
 
 pub any-none : (f : ℕ → Bool) (m : ℕ) → any f m 0 ≡ false → (i : ℕ) → i < m → f i ≡ false
 any-none f m e i h = go (f i) refl

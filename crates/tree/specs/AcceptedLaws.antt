@@ -1,5 +1,5 @@
--- How many boxes an accepted tree has: every box but the first is a half of one inner box, and every leaf holds a triangle of its own; so there are fewer than twice
--- as many boxes as triangles. Assumes nothing.
+-- What follows of an accepted tree: the triangles of a leaf are present; no bound is NaN; the first box has no parent; and there are fewer than twice as many boxes as
+-- triangles, since every box but the first is a half of one inner box, and every leaf holds a triangle of its own. Assumes nothing.
 use mathlib.Core.Path.{_≡_, refl, sym, ap, _∙_}
 use mathlib.Core.Bool.{Bool, true, false, cond, not}
 use mathlib.Core.List.{List}
@@ -9,11 +9,47 @@ use borrow.Author.Tests.{eqb-false}
 use lib.Dec.{eqb}
 use lib.ListN.{length}
 use lib.Ieee.{Float}
+use Rattle.triangle.specs.Places.{triangleAt}
+use Rattle.boxes.specs.Boxes.{boundsAt, paddedOf}
+use Rattle.boxes.specs.BoxLaws.{NumbersOf, inside-numbers}
 use Rattle.tree.specs.Tree.{boxCount, countAt, innerAt, leftAt, rightAt, placeAt, presentAt, sumTo, one, halvesOf, parentsTo, runTo, leafOf, standsTo, Accepted}
-use Rattle.tree.specs.Sums.{one-most, one-self, one-other, positive, sum-more, sum-less, sum-same, sum-plus, sum-ones, sum-swap, sum-hit}
-use Rattle.tree.specs.Facts.{present-within}
+use Rattle.tree.specs.SumLaws.{one-self, one-other, positive, sum-more, sum-less, sum-same, sum-plus, sum-ones, sum-swap, sum-hit}
+use Rattle.tree.specs.TestLaws.{present-within}
 
 module _ (points boxes : List Float) (nodes order : List ℕ) (t : Accepted points boxes nodes order) where
+  -- ---- the triangles of a leaf
+
+  -- how often the k th triangle of leaf i stands, at least: before, and here
+  pub stands-here : (i k : ℕ) → i < boxCount nodes → innerAt nodes i ≡ false → k < countAt nodes i
+      → standsTo nodes order i (placeAt nodes order i k) + runTo nodes order i k (placeAt nodes order i k) + 1 ≤ standsTo nodes order (boxCount nodes) (placeAt nodes order i k)
+  unfolding standsTo runTo
+  stands-here i k h q l =
+      let p = placeAt nodes order i k in
+      let more : standsTo nodes order (suc i) p ≤ standsTo nodes order (boxCount nodes) p = sum-more (leafOf nodes order p) (suc i) (boxCount nodes) h in
+      let here : leafOf nodes order p i ≡ runTo nodes order i (countAt nodes i) p = rw q refl in
+      let run : runTo nodes order i (suc k) p ≤ runTo nodes order i (countAt nodes i) p = sum-more (λ j. one (eqb (placeAt nodes order i j) p)) (suc k) (countAt nodes i) l in
+      let self = one-self p in
+      omega arith
+
+  -- it is present, so that its place is within the scene's list
+  pub leaf-present : (i k : ℕ) → i < boxCount nodes → innerAt nodes i ≡ false → k < countAt nodes i → presentAt points (placeAt nodes order i k) ≡ true
+  leaf-present i k h q l = by (presentAt points (placeAt nodes order i k)) refl
+    where
+      by : (b : Bool) → presentAt points (placeAt nodes order i k) ≡ b → presentAt points (placeAt nodes order i k) ≡ true
+      by true e = e
+      by false e = absurd (omega (arith, stands-here i k h q l, t .othersNowhere (placeAt nodes order i k) e))
+
+  -- ---- no bound of a box is NaN
+
+  pub bounds-numbers : (i : ℕ) → i < boxCount nodes → NumbersOf (boundsAt boxes i)
+  bounds-numbers i h = by (innerAt nodes i) refl
+    where
+      by : (b : Bool) → innerAt nodes i ≡ b → NumbersOf (boundsAt boxes i)
+      by true q = inside-numbers (boundsAt boxes (leftAt nodes i)) (boundsAt boxes i) (t .insideAbove i h q .0) .1
+      by false q =
+          inside-numbers (paddedOf (triangleAt points (placeAt nodes order i 0))) (boundsAt boxes i)
+          (t .insideLeaf i 0 h q (positive (countAt nodes i) (eqb-false (countAt nodes i) 0 q))) .1
+
   abbrev inner : ℕ → ℕ
   inner i = one (innerAt nodes i)
 
@@ -46,7 +82,7 @@ module _ (points boxes : List Float) (nodes order : List ℕ) (t : Accepted poin
       by false q = none (boxCount nodes)
 
   -- the first box has no parent, since children follow
-  rootless : (m : ℕ) → m ≤ boxCount nodes → parentsTo nodes m 0 ≡ 0
+  pub rootless : (m : ℕ) → m ≤ boxCount nodes → parentsTo nodes m 0 ≡ 0
   unfolding parentsTo
   rootless zero h = refl
   rootless (suc m) h = let a = rootless m (omega arith) in let b = by (innerAt nodes m) refl in omega arith
@@ -65,24 +101,6 @@ module _ (points boxes : List Float) (nodes order : List ℕ) (t : Accepted poin
 
   -- ---- leaves and their triangles
 
-  -- a leaf's first triangle is present
-  present : (i : ℕ) → i < boxCount nodes → innerAt nodes i ≡ false → presentAt points (placeAt nodes order i 0) ≡ true
-  unfolding runTo standsTo
-  present i h q = by (presentAt points (placeAt nodes order i 0)) refl
-    where
-      p : ℕ
-      p = placeAt nodes order i 0
-
-      by : (b : Bool) → presentAt points p ≡ b → presentAt points p ≡ true
-      by true e = e
-      by false e =
-          let some = positive (countAt nodes i) (eqb-false (countAt nodes i) 0 q) in
-          let run : runTo nodes order i 1 p ≤ runTo nodes order i (countAt nodes i) p = sum-more (λ k. one (eqb (placeAt nodes order i k) p)) 1 (countAt nodes i) some in
-          let more : standsTo nodes order (suc i) p ≤ standsTo nodes order (boxCount nodes) p = sum-more (leafOf nodes order p) (suc i) (boxCount nodes) h in
-          let here : leafOf nodes order p i ≡ runTo nodes order i (countAt nodes i) p = rw q refl in
-          let self = one-self p in
-          absurd (omega (arith, t .othersNowhere p e))
-
   -- a leaf holds a triangle
   holds : (i : ℕ) → i < boxCount nodes → leaf i ≤ sumTo (λ p. leafOf nodes order p i) (length points / 9)
   unfolding runTo
@@ -93,7 +111,7 @@ module _ (points boxes : List Float) (nodes order : List ℕ) (t : Accepted poin
       by false q =
           let some = positive (countAt nodes i) (eqb-false (countAt nodes i) 0 q) in
           let f = placeAt nodes order i 0 in
-          let hit = sum-hit f (length points / 9) (present-within points f (present i h q)) in
+          let hit = sum-hit f (length points / 9) (present-within points f (leaf-present i 0 h q some)) in
           let less = sum-less (λ p. one (eqb f p)) (runTo nodes order i (countAt nodes i)) (length points / 9) (λ p _. omega (arith, sum-more (λ k. one (eqb (placeAt nodes order i k) p)) 1 (countAt nodes i) some)) in
           omega arith
 
