@@ -10,29 +10,29 @@ use Rattle.boxes.specs.Boxes.{beyond, passedOver, atMost, insideOf}
 
 -- ---- what each test says
 
-pub record AtMost (a b : Vec3) : Type 0 where
+pub record NotAbove (a b : Vec3) : Type 0 where
   pub x : le (a .x) (b .x) ≡ true
   pub y : le (a .y) (b .y) ≡ true
   pub z : le (a .z) (b .z) ≡ true
 
-pub at-most-out : (a b : Vec3) → atMost a b ≡ true → AtMost a b
+pub at-most-out : (a b : Vec3) → atMost a b ≡ true → NotAbove a b
 unfolding atMost
 at-most-out a b h =
     let p = and-eq-true-iff (le (a .x) (b .x) && le (a .y) (b .y)) (le (a .z) (b .z)) .0 h in
     let q = and-eq-true-iff (le (a .x) (b .x)) (le (a .y) (b .y)) .0 (p .0) in
     record { x = q .0; y = q .1; z = p .1 }
 
-pub at-most-in : (a b : Vec3) → AtMost a b → atMost a b ≡ true
+pub at-most-in : (a b : Vec3) → NotAbove a b → atMost a b ≡ true
 unfolding atMost
 at-most-in a b h = rw (h .x, h .y, h .z) refl
 
-pub inside-out : (i o : Bounds) → insideOf i o ≡ true → AtMost (o .low) (i .low) × AtMost (i .high) (o .high)
+pub inside-out : (i o : Bounds) → insideOf i o ≡ true → NotAbove (o .low) (i .low) × NotAbove (i .high) (o .high)
 unfolding insideOf
 inside-out i o h =
     let p = and-eq-true-iff (atMost (o .low) (i .low)) (atMost (i .high) (o .high)) .0 h in
     (at-most-out (o .low) (i .low) (p .0), at-most-out (i .high) (o .high) (p .1))
 
-pub inside-in : (i o : Bounds) → AtMost (o .low) (i .low) → AtMost (i .high) (o .high) → insideOf i o ≡ true
+pub inside-in : (i o : Bounds) → NotAbove (o .low) (i .low) → NotAbove (i .high) (o .high) → insideOf i o ≡ true
 unfolding insideOf
 inside-in i o l h = rw (at-most-in (o .low) (i .low) l, at-most-in (i .high) (o .high) h) refl
 
@@ -80,7 +80,7 @@ passed-inside origin direction i o h e =
 
 -- ---- inside what is inside
 
-at-most-through : (a b c : Vec3) → AtMost a b → AtMost b c → AtMost a c
+at-most-through : (a b c : Vec3) → NotAbove a b → NotAbove b c → NotAbove a c
 at-most-through a b c p q =
     record {
       x = le-transitive (a .x) (b .x) (c .x) (p .x) (q .x);
@@ -97,12 +97,12 @@ inside-transitive i m o h k =
 -- ---- beside NaN
 
 -- no component is NaN
-pub record Numbers (v : Vec3) : Type 0 where
+pub record NumbersV (v : Vec3) : Type 0 where
   pub x : isNan (v .x) ≡ false
   pub y : isNan (v .y) ≡ false
   pub z : isNan (v .z) ≡ false
 
-at-most-numbers : (a b : Vec3) → AtMost a b → Numbers a × Numbers b
+at-most-numbers : (a b : Vec3) → NotAbove a b → NumbersV a × NumbersV b
 at-most-numbers a b h =
     let x = le-numbers (a .x) (b .x) (h .x) in
     let y = le-numbers (a .y) (b .y) (h .y) in
@@ -111,8 +111,8 @@ at-most-numbers a b h =
 
 -- no bound of a box is NaN
 pub record NumbersOf (b : Bounds) : Type 0 where
-  pub low : Numbers (b .low)
-  pub high : Numbers (b .high)
+  pub low : NumbersV (b .low)
+  pub high : NumbersV (b .high)
 
 -- a box that lies inside another has no NaN, nor has the other: a box with a NaN bound is inside nothing, and nothing is inside it
 pub inside-numbers : (i o : Bounds) → insideOf i o ≡ true → NumbersOf i × NumbersOf o

@@ -12,11 +12,11 @@ use lib.Ieee.{Float}
 use Rattle.triangle.specs.Places.{triangleAt}
 use Rattle.boxes.specs.Boxes.{boundsAt, paddedOf}
 use Rattle.boxes.specs.BoxLaws.{NumbersOf, inside-numbers}
-use Rattle.tree.specs.Tree.{boxCount, countAt, innerAt, leftAt, rightAt, placeAt, presentAt, sumTo, one, halvesOf, parentsTo, runTo, leafOf, standsTo, Accepted}
+use Rattle.tree.specs.Tree.{boxCount, countAt, innerAt, leftAt, rightAt, placeAt, presentAt, sumTo, one, halvesOf, parentsTo, runTo, leafOf, standsTo, AcceptedTree}
 use Rattle.tree.specs.SumLaws.{one-self, one-other, positive, sum-more, sum-less, sum-same, sum-plus, sum-ones, sum-swap, sum-hit}
 use Rattle.tree.specs.TestLaws.{present-within}
 
-module _ (points boxes : List Float) (nodes order : List ℕ) (t : Accepted points boxes nodes order) where
+module _ (points boxes : List Float) (nodes order : List ℕ) (t : AcceptedTree points boxes nodes order) where
   -- ---- the triangles of a leaf
 
   -- how often the k th triangle of leaf i stands, at least: before, and here

@@ -5,13 +5,13 @@ use Prim.Native.Nat.{ℕ, zero, suc, _/_, _<_}
 use native.Mathlib.Omega.{arith}
 use lib.ListN.{length, getD, set, length-set, length-replicate}
 use lib.Ieee.{Float}
-use Rattle.tree.specs.Tree.{boxCount, Deep, Accepted}
+use Rattle.tree.specs.Tree.{boxCount, Deep, AcceptedTree}
 use Rattle.tree.specs.Test.{depthsTo}
-use Rattle.tree.specs.MarkLaws.{Start, blank, zeros, first-mark}
+use Rattle.tree.specs.MarkLaws.{Start, blank, blank-zero, first-mark}
 use Rattle.tree.specs.FoundLaws.{deep-marked}
-use Rattle.tree.specs.HeldLaws.{reached, sound, held-good}
+use Rattle.tree.specs.HeldLaws.{reached, mark-deep, held-good}
 
-module _ (points boxes : List Float) (nodes order : List ℕ) (t : Accepted points boxes nodes order) where
+module _ (points boxes : List Float) (nodes order : List ℕ) (t : AcceptedTree points boxes nodes order) where
   abbrev depths : List ℕ
   depths = set (blank (suc (boxCount nodes))) 0 1
 
@@ -24,7 +24,7 @@ module _ (points boxes : List Float) (nodes order : List ℕ) (t : Accepted poin
         depthsLong = rw (length-set (blank (suc (boxCount nodes))) 0 1, length-replicate {A = ℕ} (suc (boxCount nodes)) 0) (omega arith);
         depthsStart = first-mark (boxCount nodes);
         seenLong = rw (length-replicate {A = ℕ} (length points / 9) 0) (omega arith);
-        seenStart = zeros (length points / 9);
+        seenStart = blank-zero (length points / 9);
       }
 
   -- it has one
@@ -33,7 +33,7 @@ module _ (points boxes : List Float) (nodes order : List ℕ) (t : Accepted poin
     where
       by : (x : ℕ) → getD (depthsTo nodes depths i) i 0 ≡ x → (d : ℕ) × Deep nodes i d
       by zero e = absurd (reached points boxes nodes order depths seen start t i h e)
-      by (suc d) e = (d, sound points boxes nodes order depths seen start t i (omega arith) i d e)
+      by (suc d) e = (d, mark-deep points boxes nodes order depths seen start t i (omega arith) i d e)
 
   -- and no other
   pub depth-one : (i d e : ℕ) → i < boxCount nodes → Deep nodes i d → Deep nodes i e → d ≡ e

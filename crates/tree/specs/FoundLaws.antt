@@ -14,7 +14,7 @@ use lib.Seq.{getD-set-same, getD-set-other}
 use lib.Ieee.{Float}
 use Rattle.names.specs.Numbers.{depthLimit}
 use Rattle.boxes.specs.Boxes.{boundsAt}
-use Rattle.tree.specs.Tree.{boxCount, countAt, innerAt, leftAt, rightAt, placeAt, presentAt, one, halvesOf, parentsTo, runTo, standsTo, Deep, root, left, right, Accepted}
+use Rattle.tree.specs.Tree.{boxCount, countAt, innerAt, leftAt, rightAt, placeAt, presentAt, one, halvesOf, parentsTo, runTo, standsTo, Deep, root, left, right, AcceptedTree}
 use Rattle.tree.specs.Test.{markPair, depthsTo, seeRun, seenTo}
 use Rattle.tree.specs.SumLaws.{one-most, one-other, positive, sum-more}
 use Rattle.tree.specs.TestLaws.{present-within, GoodBox, GoodPair, GoodHalf, GoodPlace, GoodLists}
@@ -112,12 +112,12 @@ module _ (points boxes : List Float) (nodes order depths seen : List ℕ) (start
         ap (λ (l : List ℕ). getD l (rightAt nodes i) 0) same ∙ getD-set-same (set D (leftAt nodes i) w) (rightAt nodes i) w 0 (omega (arith, length-set D (leftAt nodes i) w)) ∙ v,
       )
 
-  pub record Marked (i d : ℕ) : Type 0 where
+  pub record DeepMarked (i d : ℕ) : Type 0 where
     pub within : i < boxCount nodes
     pub mark : getD (depthsTo nodes depths (boxCount nodes)) i 0 ≡ suc d
     pub shallow : d ≤ depthLimit
 
-  pub deep-marked : {i d : ℕ} → 0 < boxCount nodes → Deep nodes i d → Marked i d
+  pub deep-marked : {i d : ℕ} → 0 < boxCount nodes → Deep nodes i d → DeepMarked i d
   unfolding depthsTo
   deep-marked pos root =
       record {
@@ -196,7 +196,7 @@ module _ (points boxes : List Float) (nodes order depths seen : List ℕ) (start
 
   pub found-accepted : GoodLists boxes nodes
       → ((p : ℕ) → presentAt points p ≡ true → getD (seenTo nodes order seen (boxCount nodes)) p 0 ≡ 0 → ⊥)
-      → Accepted points boxes nodes order
+      → AcceptedTree points boxes nodes order
   found-accepted lists met =
       record {
         nodesFit = lists .nodesFit;

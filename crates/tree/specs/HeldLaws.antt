@@ -14,7 +14,7 @@ use lib.Seq.{getD-set-same, getD-set-other}
 use lib.Ieee.{Float}
 use Rattle.names.specs.Numbers.{depthLimit}
 use Rattle.boxes.specs.Boxes.{boundsAt}
-use Rattle.tree.specs.Tree.{boxCount, countAt, innerAt, leftAt, rightAt, placeAt, presentAt, one, halvesOf, parentsTo, standsTo, Deep, root, left, right, Accepted}
+use Rattle.tree.specs.Tree.{boxCount, countAt, innerAt, leftAt, rightAt, placeAt, presentAt, one, halvesOf, parentsTo, standsTo, Deep, root, left, right, AcceptedTree}
 use Rattle.tree.specs.Test.{markPair, depthsTo, seeRun, seenTo}
 use Rattle.tree.specs.SumLaws.{one-self, one-other, sum-more}
 use Rattle.tree.specs.TestLaws.{present-within, GoodBox, GoodPair, GoodRun, GoodPlace}
@@ -25,7 +25,7 @@ parents-next : (nodes : List ℕ) (m j : ℕ) → parentsTo nodes (suc m) j ≡ 
 unfolding parentsTo
 parents-next nodes m j = refl
 
-module _ (points boxes : List Float) (nodes order depths seen : List ℕ) (start : Start points nodes depths seen) (t : Accepted points boxes nodes order) where
+module _ (points boxes : List Float) (nodes order depths seen : List ℕ) (start : Start points nodes depths seen) (t : AcceptedTree points boxes nodes order) where
   -- ---- a box is reached
 
   -- who comes later is no parent
@@ -55,9 +55,9 @@ module _ (points boxes : List Float) (nodes order depths seen : List ℕ) (start
 
   -- ---- a mark is a depth plus 1
 
-  pub sound : (m : ℕ) → m ≤ boxCount nodes → (j d : ℕ) → getD (depthsTo nodes depths m) j 0 ≡ suc d → Deep nodes j d
+  pub mark-deep : (m : ℕ) → m ≤ boxCount nodes → (j d : ℕ) → getD (depthsTo nodes depths m) j 0 ≡ suc d → Deep nodes j d
   unfolding depthsTo markPair
-  sound zero h j d e = by (eqb 0 j) refl
+  mark-deep zero h j d e = by (eqb 0 j) refl
     where
       by : (b : Bool) → eqb 0 j ≡ b → Deep nodes j d
       by true q =
@@ -65,7 +65,7 @@ module _ (points boxes : List Float) (nodes order depths seen : List ℕ) (start
           let y : 0 ≡ d = omega (arith, start .depthsStart j, ap one q) in
           subst (λ (k : ℕ). Deep nodes k d) x (subst (Deep nodes 0) y root)
       by false q = absurd (omega (arith, start .depthsStart j, ap one q))
-  sound (suc m) h j d e = by (innerAt nodes m) refl e (sound m (omega arith))
+  mark-deep (suc m) h j d e = by (innerAt nodes m) refl e (mark-deep m (omega arith))
     where
       D : List ℕ
       D = depthsTo nodes depths m
@@ -149,7 +149,7 @@ module _ (points boxes : List Float) (nodes order depths seen : List ℕ) (start
     where
       by : (x : ℕ) → getD (depthsTo nodes depths i) i 0 ≡ x → getD (depthsTo nodes depths i) i 0 ≤ depthLimit
       by zero e = omega arith
-      by (suc d) e = omega (arith, t .shallow (leftAt nodes i) (suc d) (left h q (sound i (omega arith) i d e)))
+      by (suc d) e = omega (arith, t .shallow (leftAt nodes i) (suc d) (left h q (mark-deep i (omega arith) i d e)))
 
   -- ---- the triangles of a leaf
 

@@ -97,15 +97,15 @@ module _ (points : List Float) (nodes order depths seen : List ℕ) (s : Start p
   pub seen-after : (m : ℕ) → Shows (length points / 9) (seenTo nodes order seen m) (standsTo nodes order m)
   seen-after = seen-shows nodes order seen (record { long = s .seenLong; unmarked = λ p h z. s .seenStart p; uncounted = λ p h z. refl })
 
--- such marks: zeros, but for a 1 at the first box
+-- such marks: blank-zero, but for a 1 at the first box
 abbrev pub blank : ℕ → List ℕ
 blank m = replicate m 0
 
-pub zeros : (m i : ℕ) → getD (blank m) i 0 ≡ 0
-zeros zero i = refl
-zeros (suc m) zero = refl
-zeros (suc m) (suc i) = zeros m i
+pub blank-zero : (m i : ℕ) → getD (blank m) i 0 ≡ 0
+blank-zero zero i = refl
+blank-zero (suc m) zero = refl
+blank-zero (suc m) (suc i) = blank-zero m i
 
 pub first-mark : (m j : ℕ) → getD (set (blank (suc m)) 0 1) j 0 ≡ one (eqb 0 j)
 first-mark m zero = refl
-first-mark m (suc j) = zeros m j ∙ sym (one-other 0 (suc j) (λ (e : 0 ≡ suc j). omega arith))
+first-mark m (suc j) = blank-zero m j ∙ sym (one-other 0 (suc j) (λ (e : 0 ≡ suc j). omega arith))

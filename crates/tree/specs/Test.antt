@@ -101,7 +101,7 @@ acceptedBy points boxes nodes order =
     || any (missed points (seenTo nodes order noneSeen (boxCount nodes))) (length points / 9) 0)
 
 -- what the steps of the test ask of the lists: they fit each other, and there is a mark for each box and each triangle
-pub record Fit (points boxes : List Float) (nodes depths seen : List ℕ) : Type 0 where
+pub record TestFit (points boxes : List Float) (nodes depths seen : List ℕ) : Type 0 where
   pub nodesFit : length nodes ≡ boxCount nodes * 3
   pub boxesFit : length boxes ≡ boxCount nodes * 6
   pub depthsFit : boxCount nodes ≤ length depths

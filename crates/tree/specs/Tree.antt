@@ -81,7 +81,7 @@ pub data Deep (nodes : List ℕ) : ℕ → ℕ → Type 0 where
 -- "Accept such a tree exactly when each box but the first has exactly one parent, every present triangle stands once, in a single leaf, each triangle's box
 -- padded by 1e-5 lies inside its leaf's, each box inside the one above, children follow their parent, and depth is at most 24." "A scene with no present
 -- triangle has the empty tree, accepted there only."
-pub record Accepted (points boxes : List Float) (nodes order : List ℕ) : Type 0 where
+pub record AcceptedTree (points boxes : List Float) (nodes order : List ℕ) : Type 0 where
   -- the lists fit each other
   pub nodesFit : length nodes ≡ boxCount nodes * 3
   pub boxesFit : length boxes ≡ boxCount nodes * 6

@@ -23,14 +23,14 @@ abbrev minusOne : Float
 minusOne = lit 0xbf800000
 
 -- triangle Q at a height
-unfoldable pub sheetAt : Float → List Float
-sheetAt z = zero32 ∷ zero32 ∷ z ∷ one32 ∷ zero32 ∷ z ∷ zero32 ∷ one32 ∷ z ∷ []
+unfoldable pub raisedTo : Float → List Float
+raisedTo z = zero32 ∷ zero32 ∷ z ∷ one32 ∷ zero32 ∷ z ∷ zero32 ∷ one32 ∷ z ∷ []
 
 abbrev two : List Float
-two = sheetAt zero32 ++ sheetAt one32
+two = raisedTo zero32 ++ raisedTo one32
 
 abbrev three : List Float
-three = two ++ sheetAt two32
+three = two ++ raisedTo two32
 
 -- a box between two heights
 unfoldable pub boxFrom : Float → Float → List Float
@@ -57,7 +57,7 @@ pub accepted-trees :
     ∷ acceptedBy (zero32 ∷ zero32 ∷ zero32 ∷ zero32 ∷ zero32 ∷ zero32 ∷ zero32 ∷ zero32 ∷ zero32 ∷ []) [] [] (0 ∷ [])
     ∷ []
     ≡ true ∷ true ∷ true ∷ true ∷ true ∷ true ∷ true ∷ []
-unfolding sheetAt boxFrom any largerOf smallerOf addV subV dotV crossV largerV smallerV absentOf triangleAt boundsAt paddedOf atMost insideOf countAt leftAt rightAt placeAt presentAt markPair depthsTo seeRun seenTo badHalf badPair badPlace badRun badBox missed wrongLists firstDepths noneSeen acceptedBy Ieee.ofBits Ieee.ofFields Ieee.odd Ieee.neg Ieee.le Ieee.lt Ieee.eq Ieee.isNan Ieee.add Ieee.sub Ieee.mul Ieee.round Ieee.sum Ieee.units Ieee.size Ieee.span Ieee.climb
+unfolding raisedTo boxFrom any largerOf smallerOf addV subV dotV crossV largerV smallerV absentOf triangleAt boundsAt paddedOf atMost insideOf countAt leftAt rightAt placeAt presentAt markPair depthsTo seeRun seenTo badHalf badPair badPlace badRun badBox missed wrongLists firstDepths noneSeen acceptedBy Ieee.ofBits Ieee.ofFields Ieee.odd Ieee.neg Ieee.le Ieee.lt Ieee.eq Ieee.isNan Ieee.add Ieee.sub Ieee.mul Ieee.round Ieee.sum Ieee.units Ieee.size Ieee.span Ieee.climb
 accepted-trees = refl
 
 -- ---- not accepted
@@ -89,7 +89,7 @@ pub refused-trees :
     ∷ acceptedBy [] both (0 ∷ 0 ∷ 0 ∷ []) []
     ∷ []
     ≡ replicate 20 false
-unfolding sheetAt boxFrom any largerOf smallerOf addV subV dotV crossV largerV smallerV absentOf triangleAt boundsAt paddedOf atMost insideOf countAt leftAt rightAt placeAt presentAt markPair depthsTo seeRun seenTo badHalf badPair badPlace badRun badBox missed wrongLists firstDepths noneSeen acceptedBy Ieee.ofBits Ieee.ofFields Ieee.odd Ieee.neg Ieee.le Ieee.lt Ieee.eq Ieee.isNan Ieee.add Ieee.sub Ieee.mul Ieee.round Ieee.sum Ieee.units Ieee.size Ieee.span Ieee.climb
+unfolding raisedTo boxFrom any largerOf smallerOf addV subV dotV crossV largerV smallerV absentOf triangleAt boundsAt paddedOf atMost insideOf countAt leftAt rightAt placeAt presentAt markPair depthsTo seeRun seenTo badHalf badPair badPlace badRun badBox missed wrongLists firstDepths noneSeen acceptedBy Ieee.ofBits Ieee.ofFields Ieee.odd Ieee.neg Ieee.le Ieee.lt Ieee.eq Ieee.isNan Ieee.add Ieee.sub Ieee.mul Ieee.round Ieee.sum Ieee.units Ieee.size Ieee.span Ieee.climb
 refused-trees = refl
 
 -- ---- depth
@@ -108,9 +108,9 @@ upFrom zero p = []
 upFrom (suc k) p = p ∷ upFrom k (p + 1)
 
 abbrev chainAccepted : ℕ → Bool
-chainAccepted k = acceptedBy (copies (k + 1) (sheetAt zero32)) (copies (k + k + 1) (boxFrom minusOne two32)) (chain k 0 0) (upFrom (k + 1) 0)
+chainAccepted k = acceptedBy (copies (k + 1) (raisedTo zero32)) (copies (k + k + 1) (boxFrom minusOne two32)) (chain k 0 0) (upFrom (k + 1) 0)
 
 -- "depth is at most 24": 24 boxes above the last are accepted, and 25 are not
 pub depth-limit : chainAccepted 24 ∷ chainAccepted 25 ∷ [] ≡ true ∷ false ∷ []
-unfolding sheetAt boxFrom any largerOf smallerOf addV subV dotV crossV largerV smallerV absentOf triangleAt boundsAt paddedOf atMost insideOf countAt leftAt rightAt placeAt presentAt markPair depthsTo seeRun seenTo badHalf badPair badPlace badRun badBox missed wrongLists firstDepths noneSeen acceptedBy Ieee.ofBits Ieee.ofFields Ieee.odd Ieee.neg Ieee.le Ieee.lt Ieee.eq Ieee.isNan Ieee.add Ieee.sub Ieee.mul Ieee.round Ieee.sum Ieee.units Ieee.size Ieee.span Ieee.climb
+unfolding raisedTo boxFrom any largerOf smallerOf addV subV dotV crossV largerV smallerV absentOf triangleAt boundsAt paddedOf atMost insideOf countAt leftAt rightAt placeAt presentAt markPair depthsTo seeRun seenTo badHalf badPair badPlace badRun badBox missed wrongLists firstDepths noneSeen acceptedBy Ieee.ofBits Ieee.ofFields Ieee.odd Ieee.neg Ieee.le Ieee.lt Ieee.eq Ieee.isNan Ieee.add Ieee.sub Ieee.mul Ieee.round Ieee.sum Ieee.units Ieee.size Ieee.span Ieee.climb
 depth-limit = refl

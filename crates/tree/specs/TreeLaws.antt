@@ -11,10 +11,10 @@ use lib.ListN.{length, getD, length-set, length-replicate}
 use lib.Ieee.{Float}
 use Rattle.names.specs.Numbers.{triangleLimit}
 use Rattle.lists.specs.Any.{any}
-use Rattle.tree.specs.Tree.{boxCount, presentAt, Accepted}
+use Rattle.tree.specs.Tree.{boxCount, presentAt, AcceptedTree}
 use Rattle.tree.specs.Test.{boxLimit, seenTo, badBoxAt, missed, wrongLists, firstDepths, noneSeen, acceptedBy}
 use Rattle.tree.specs.TestLaws.{neither, any-none, none-any, lists-out, lists-in, present-within, box-out, box-in}
-use Rattle.tree.specs.MarkLaws.{Start, blank, zeros, first-mark}
+use Rattle.tree.specs.MarkLaws.{Start, blank, blank-zero, first-mark}
 use Rattle.tree.specs.FoundLaws.{found-accepted}
 use Rattle.tree.specs.HeldLaws.{held-good, held-met}
 use Rattle.tree.specs.AcceptedLaws.{few-boxes}
@@ -28,7 +28,7 @@ starts points nodes h k =
       depthsLong = rw (length-set (blank boxLimit) 0 1, length-replicate {A = ℕ} boxLimit 0) h;
       depthsStart = first-mark 8190;
       seenLong = rw (length-replicate {A = ℕ} triangleLimit 0) k;
-      seenStart = zeros triangleLimit;
+      seenStart = blank-zero triangleLimit;
     }
 
 -- ---- the law
@@ -40,7 +40,7 @@ module _ (points boxes : List Float) (nodes order : List ℕ) (few : length poin
   abbrev lost : ℕ → Bool
   lost = missed points (seenTo nodes order noneSeen (boxCount nodes))
 
-  out : acceptedBy points boxes nodes order ≡ true → Accepted points boxes nodes order
+  out : acceptedBy points boxes nodes order ≡ true → AcceptedTree points boxes nodes order
   unfolding acceptedBy missed
   out e =
       let a = ltb boxLimit (boxCount nodes) in
@@ -55,7 +55,7 @@ module _ (points boxes : List Float) (nodes order : List ℕ) (few : length poin
       (lists-out boxes nodes (r .1))
       (λ i f z. false≢true (sym (any-none lost (length points / 9) (p .1) i (present-within points i f)) ∙ rw (f, eq-eqb _ 0 z) refl))
 
-  within : Accepted points boxes nodes order → acceptedBy points boxes nodes order ≡ true
+  within : AcceptedTree points boxes nodes order → acceptedBy points boxes nodes order ≡ true
   unfolding acceptedBy missed
   within t =
       let few′ = few-boxes points boxes nodes order t in
@@ -73,9 +73,9 @@ module _ (points boxes : List Float) (nodes order : List ℕ) (few : length poin
       by s p true e = rw (e, ne-eqb _ 0 (held-met points boxes nodes order firstDepths noneSeen s t p e)) refl
 
   -- the test of the code answers yes exactly when the tree is accepted
-  pub accepted-exactly : (acceptedBy points boxes nodes order ≡ true) ↔ Accepted points boxes nodes order
+  pub accepted-exactly : (acceptedBy points boxes nodes order ≡ true) ↔ AcceptedTree points boxes nodes order
   accepted-exactly = (out, within)
 
 -- an accepted tree has fewer than twice as many boxes as the scene has triangles, so that the test may refuse any other unread
-pub few-enough : (points boxes : List Float) (nodes order : List ℕ) → length points / 9 ≤ triangleLimit → Accepted points boxes nodes order → boxCount nodes ≤ boxLimit
+pub few-enough : (points boxes : List Float) (nodes order : List ℕ) → length points / 9 ≤ triangleLimit → AcceptedTree points boxes nodes order → boxCount nodes ≤ boxLimit
 few-enough points boxes nodes order few t = omega (arith, few-boxes points boxes nodes order t)

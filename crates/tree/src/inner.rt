@@ -8,7 +8,7 @@ ghost use lib.ListN.{length, getD};
 ghost use Rattle.names.specs.Numbers.{triangleLimit};
 ghost use Rattle.lists.specs.Any.{any};
 ghost use Rattle.tree.specs.Tree.{boxCount, countAt, presentAt};
-ghost use Rattle.tree.specs.Test.{boxLimit, markPair, markBox, seeRun, seeBox, seenTo, badHalf, badPair, badPlace, badRun, badBox, badBoxAt, missed, acceptedBy, Fit};
+ghost use Rattle.tree.specs.Test.{boxLimit, markPair, markBox, seeRun, seeBox, seenTo, badHalf, badPair, badPlace, badRun, badBox, badBoxAt, missed, acceptedBy, TestFit};
 use boxes::Bounds;
 use names::DEPTH_LIMIT;
 use names::TRIANGLE_LIMIT;
@@ -16,6 +16,7 @@ use names::TRIANGLE_LIMIT;
 // Every leaf holds a triangle of its own, so that no accepted tree has more boxes (`few-boxes`).
 const BOX_LIMIT: usize = TRIANGLE_LIMIT * 2 - 1;
 
+// Whether the tree of three lists is accepted over the triangles of points, nine numbers each.
 pub fn accepted(points: &[f32], boxes: &[f32], nodes: &[u32], order: &[u32]) -> bool
     requires { ⌜ length (now points) / 9 ≤ triangleLimit ⌝ }
     ensures { λ r. ⌜ r ≡ acceptedBy (now (points .entry)) (now (boxes .entry)) (now (nodes .entry)) (now (order .entry)) ⌝ }
@@ -53,7 +54,7 @@ fn any_bad(
     depths: &mut [u8],
     seen: &mut [u8],
 ) -> bool
-    requires { ⌜ Fit (now points) (now boxes) (now nodes) (now depths) (now seen) ⌝ }
+    requires { ⌜ TestFit (now points) (now boxes) (now nodes) (now depths) (now seen) ⌝ }
     ensures { λ r. ⌜ (r ≡ any (badBoxAt (now (points .entry)) (now (boxes .entry)) (now (nodes .entry)) (now (order .entry)) (now (depths .entry)) (now (seen .entry))) (boxCount (now (nodes .entry))) 0) × (r ≡ false → now (seen .exit) ≡ seenTo (now (nodes .entry)) (now (order .entry)) (now (seen .entry)) (boxCount (now (nodes .entry)))) ⌝ }
 {
     let n = nodes.len() / 3;
@@ -77,7 +78,7 @@ fn bad_box(
     depths: &mut [u8],
     seen: &mut [u8],
 ) -> bool
-    requires { ⌜ Fit (now points) (now boxes) (now nodes) (now depths) (now seen) × (i < boxCount (now nodes)) ⌝ }
+    requires { ⌜ TestFit (now points) (now boxes) (now nodes) (now depths) (now seen) × (i < boxCount (now nodes)) ⌝ }
     ensures { λ r. ⌜ (r ≡ badBox (now (points .entry)) (now (boxes .entry)) (now (nodes .entry)) (now (order .entry)) i (now (depths .entry)) (now (seen .entry))) × (r ≡ false → now (depths .exit) ≡ markBox (now (nodes .entry)) i (now (depths .entry))) × (r ≡ false → now (seen .exit) ≡ seeBox (now (nodes .entry)) (now (order .entry)) i (now (seen .entry))) ⌝ }
 {
     if depths[i] == 0 {
@@ -195,6 +196,7 @@ fn any_missed(points: &[f32], seen: &[u8]) -> bool
     false
 }
 
+// Whether triangle p is present and was not seen.
 fn is_missed(points: &[f32], seen: &[u8], p: usize) -> bool
     requires { ⌜ p < length (now seen) ⌝ }
     ensures { λ r. ⌜ r ≡ missed (now (points .entry)) (now (seen .entry)) p ⌝ }

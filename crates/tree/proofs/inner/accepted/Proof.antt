@@ -1,5 +1,5 @@
 -- `tree::inner::accepted` meets its contract: the tests in the definition's order; the marks start as the definition's do.
-use mathlib.Core.Path.{_≡_, refl, sym, ap, _∙_}
+use mathlib.Core.Path.{_≡_, refl, sym, _∙_}
 use mathlib.Core.Bool.{Bool, true, false, not, _||_}
 use mathlib.Core.List.{List}
 use Prim.Native.Nat.{ℕ, _/_}
@@ -16,12 +16,17 @@ use Rattle.tree.proofs.inner.accepted.Statement.{statement}
 use Rattle.tree.proofs.inner.accepted.Tie as tie
 
 -- what the definition says once the lists fit
-judged : (points boxes : List Float) (nodes order : List ℕ) (b m : Bool) → ltb boxLimit (boxCount nodes) ≡ false → wrongLists boxes nodes ≡ false
-    → any (badBoxAt points boxes nodes order firstDepths noneSeen) (boxCount nodes) 0 ≡ b
+judged : (points boxes : List Float) (nodes order : List ℕ) (r b m : Bool) → ltb boxLimit (boxCount nodes) ≡ false → wrongLists boxes nodes ≡ false
+    → r ≡ any (badBoxAt points boxes nodes order firstDepths noneSeen) (boxCount nodes) 0 → r ≡ b
     → any (missed points (seenTo nodes order noneSeen (boxCount nodes))) (length points / 9) 0 ≡ m
     → not (b || m) ≡ acceptedBy points boxes nodes order
 unfolding acceptedBy
-judged points boxes nodes order b m e f g h = rw (e, f, g, h) refl
+judged points boxes nodes order r b m e f g k h = rw (e, f, ← g, k, h) refl
+
+-- whether a triangle is missed, with the marks that the boxes left
+missed-read : (points : List Float) (seen whole : List ℕ) (r : Bool) → seen ≡ whole → r ≡ any (missed points seen) (length points / 9) 0
+    → any (missed points whole) (length points / 9) 0 ≡ r
+missed-read points seen whole r e h = rw (← e) (sym h)
 
 returns : tie.Need-returns
 unfolding acceptedBy
@@ -52,7 +57,10 @@ any-bad-requires c κs =
 
 returns-3 : tie.Need-returns-3
 unfolding wrongLists firstDepths noneSeen
-returns-3 c = judged _ _ _ _ true _ (le-ltb _ _ (c .before .before .before .before .before .before .before .before .if1 .left)) (sym (c .before .before .before .before .before .before .before .wrong-lists .ensures) ∙ c .before .before .before .before .before .before .if2 .left) (sym (c .before .before .before .any-bad .ensures .0) ∙ c .if3 .taken) refl
+returns-3 c =
+    let b = c .before .before .before in
+    let w = b .before .before .before in
+    judged _ _ _ _ _ true _ (le-ltb _ _ (w .before .before .if1 .left)) (sym (w .before .wrong-lists .ensures) ∙ w .if2 .left) (b .any-bad .ensures .0) (c .if3 .taken) refl
 
 slice-aggregate-any-missed : tie.Need-slice-aggregate-any-missed
 slice-aggregate-any-missed c = search needs
@@ -63,9 +71,11 @@ any-missed-requires c κs = search needs
 returns-4 : tie.Need-returns-4
 unfolding wrongLists firstDepths noneSeen
 returns-4 c =
-    let p = c .before .before .before .before .before .before .before .before .before .before .before .before .before .before .before .args .points .now in
-    let m = c .any-missed .ensures ∙ ap (λ (s : List ℕ). any (missed p s) (length p / 9) 0) (c .before .before .before .before .before .any-bad .ensures .1 (c .before .before .if3 .left)) in
-    judged _ _ _ _ false _ (le-ltb _ _ (c .before .before .before .before .before .before .before .before .before .before .if1 .left)) (sym (c .before .before .before .before .before .before .before .before .before .wrong-lists .ensures) ∙ c .before .before .before .before .before .before .before .before .if2 .left) (sym (c .before .before .before .before .before .any-bad .ensures .0) ∙ c .before .before .if3 .left) (sym m)
+    let n = c .before .before in
+    let b = n .before .before .before in
+    let w = b .before .before .before in
+    judged _ _ _ _ _ false _ (le-ltb _ _ (w .before .before .if1 .left)) (sym (w .before .wrong-lists .ensures) ∙ w .if2 .left) (b .any-bad .ensures .0) (n .if3 .left)
+    (missed-read _ _ _ _ (b .any-bad .ensures .1 (n .if3 .left)) (c .any-missed .ensures))
 
 pub accepted-spec : {M : Type 1} → statement M
 accepted-spec =

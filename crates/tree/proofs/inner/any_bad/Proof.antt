@@ -51,15 +51,22 @@ bad-box-requires c κs =
     (record { nodesFit = p .nodesFit; boxesFit = p .boxesFit; depthsFit = omega arith; seenFit = omega arith }, omega arith)
 
 same-length : tie.Need-same-length Inv-loop μ-loop
-same-length c = c .before .before .before .before .before .bad-box .kept .1 .1 .1 .1 .1 .0 ∙ c .before .before .before .before .before .before .before .before .before .loop .inv .1
+same-length c =
+    let b = c .before .before .before .before .before in
+    b .bad-box .kept .1 .1 .1 .1 .1 .0 ∙ b .before .before .before .before .loop .inv .1
 
 same-length-2 : tie.Need-same-length-2 Inv-loop μ-loop
-same-length-2 c = c .before .before .before .before .before .bad-box .kept .1 .1 .1 .1 .1 .1 .0 ∙ c .before .before .before .before .before .before .before .before .before .loop .inv .2
+same-length-2 c =
+    let b = c .before .before .before .before .before in
+    b .bad-box .kept .1 .1 .1 .1 .1 .1 .0 ∙ b .before .before .before .before .loop .inv .2
 
 returns : tie.Need-returns Inv-loop μ-loop
 returns c =
-    let bad = bad-read _ _ _ _ _ _ _ _ _ _ (c .before .before .before .before .before .before .before .before .before .loop .inv .3) (c .before .before .before .before .before .before .before .before .before .loop .inv .4) (c .before .before .before .before .before .bad-box .ensures .0) in
-    (sym (c .before .before .before .before .before .before .before .before .before .loop .inv .5 ∙ any-found _ _ _ (c .before .before .before .before .before .before .before .before .loop-test .taken) (bad ∙ c .if1 .taken)), λ e. absurd (false≢true (sym e)))
+    let b = c .before .before .before .before .before in
+    let k = b .before .before .before in
+    let l = k .before .loop in
+    let bad = bad-read _ _ _ _ _ _ _ _ _ _ (l .inv .3) (l .inv .4) (b .bad-box .ensures .0) in
+    (sym (l .inv .5 ∙ any-found _ _ _ (k .loop-test .taken) (bad ∙ c .if1 .taken)), λ e. absurd (false≢true (sym e)))
 
 add-i : tie.Need-add-i Inv-loop μ-loop
 add-i c = omega arith
@@ -69,15 +76,17 @@ loop-less c = omega arith
 
 loop-again : tie.Need-loop-again Inv-loop μ-loop
 loop-again c =
-    let l = c .before .before .before .before .before .before .before .before .before .loop in
-    let e = c .before .before .before .before .before .bad-box .ensures in
-    let bad = bad-read _ _ _ _ _ _ _ _ _ _ (c .before .before .before .before .before .before .before .before .before .loop .inv .3) (c .before .before .before .before .before .before .before .before .before .loop .inv .4) (c .before .before .before .before .before .bad-box .ensures .0) in (
+    let b = c .before .before .before .before .before in
+    let k = b .before .before .before in
+    let l = k .before .loop in
+    let e = b .bad-box .ensures in
+    let bad = bad-read _ _ _ _ _ _ _ _ _ _ (l .inv .3) (l .inv .4) (e .0) in (
       omega arith,
-      c .before .before .before .before .before .bad-box .kept .1 .1 .1 .1 .1 .0 ∙ l .inv .1,
-      c .before .before .before .before .before .bad-box .kept .1 .1 .1 .1 .1 .1 .0 ∙ l .inv .2,
+      b .bad-box .kept .1 .1 .1 .1 .1 .0 ∙ l .inv .1,
+      b .bad-box .kept .1 .1 .1 .1 .1 .1 .0 ∙ l .inv .2,
       depths-next _ _ _ _ _ (l .inv .3) (e .1 (c .if1 .left)),
       seen-next _ _ _ _ _ _ (l .inv .4) (e .2 (c .if1 .left)),
-      l .inv .5 ∙ any-next _ _ _ (c .before .before .before .before .before .before .before .before .loop-test .taken) (bad ∙ c .if1 .left),
+      l .inv .5 ∙ any-next _ _ _ (k .loop-test .taken) (bad ∙ c .if1 .left),
     )
 
 same-length-3 : tie.Need-same-length-3 Inv-loop μ-loop

@@ -37,7 +37,9 @@ same-length c = search needs
 
 returns : tie.Need-returns
 unfolding badPair leftAt rightAt
-returns c = (rw (← c .before .before .before .word-at2 .ensures .0, ← c .before .before .before .before .word-at .ensures .0, ← c .before .bad-half .ensures, c .if1 .taken), λ e. absurd (false≢true (sym e)))
+returns c =
+    let w = c .before .before .before in
+    (rw (← w .word-at2 .ensures .0, ← w .before .word-at .ensures .0, ← c .before .bad-half .ensures, c .if1 .taken), λ e. absurd (false≢true (sym e)))
 
 bad-half-requires-2 : tie.Need-bad-half-requires-2
 bad-half-requires-2 c κs = search needs
@@ -47,14 +49,21 @@ same-length-2 c = search needs
 
 returns-2 : tie.Need-returns-2
 unfolding badPair leftAt rightAt
-returns-2 c = (rw (← c .before .before .before .before .before .before .word-at2 .ensures .0, ← c .before .before .before .before .before .before .before .word-at .ensures .0, ← c .before .before .before .before .bad-half .ensures, c .before .before .before .if1 .left, ← c .before .bad-half2 .ensures, c .if2 .taken), λ e. absurd (false≢true (sym e)))
+returns-2 c =
+    let h = c .before .before .before in
+    let w = h .before .before .before in
+    (rw (← w .word-at2 .ensures .0, ← w .before .word-at .ensures .0, ← h .before .bad-half .ensures, h .if1 .left, ← c .before .bad-half2 .ensures, c .if2 .taken), λ e. absurd (false≢true (sym e)))
 
 same-length-3 : tie.Need-same-length-3
 same-length-3 c = search needs
 
 returns-3 : tie.Need-returns-3
 unfolding badPair leftAt rightAt
-returns-3 c = (rw (← c .before .before .before .before .before .before .before .word-at2 .ensures .0, ← c .before .before .before .before .before .before .before .before .word-at .ensures .0, ← c .before .before .before .before .before .bad-half .ensures, c .before .before .before .before .if1 .left, ← c .before .before .bad-half2 .ensures, c .before .if2 .left, eq-eqb _ _ (c .if3 .taken)), λ e. absurd (false≢true (sym e)))
+returns-3 c =
+    let g = c .before in
+    let h = g .before .before .before in
+    let w = h .before .before .before in
+    (rw (← w .word-at2 .ensures .0, ← w .before .word-at .ensures .0, ← h .before .bad-half .ensures, h .if1 .left, ← g .before .bad-half2 .ensures, g .if2 .left, eq-eqb _ _ (c .if3 .taken)), λ e. absurd (false≢true (sym e)))
 
 slice-read-d : tie.Need-slice-read-d
 slice-read-d c = search needs
@@ -64,26 +73,40 @@ same-length-4 c = search needs
 
 returns-4 : tie.Need-returns-4
 unfolding badPair leftAt rightAt
-returns-4 c = (rw (← c .before .before .before .before .before .before .before .before .before .word-at2 .ensures .0, ← c .before .before .before .before .before .before .before .before .before .before .word-at .ensures .0, ← c .before .before .before .before .before .before .before .bad-half .ensures, c .before .before .before .before .before .before .if1 .left, ← c .before .before .before .before .bad-half2 .ensures, c .before .before .before .if2 .left, ne-eqb _ _ (c .before .before .if3 .left), lt-ltb _ _ (c .if4 .taken)), λ e. absurd (false≢true (sym e)))
+returns-4 c =
+    let g = c .before .before .before in
+    let h = g .before .before .before in
+    let w = h .before .before .before in
+    (rw (← w .word-at2 .ensures .0, ← w .before .word-at .ensures .0, ← h .before .bad-half .ensures, h .if1 .left, ← g .before .bad-half2 .ensures, g .if2 .left, ne-eqb _ _ (c .before .before .if3 .left), lt-ltb _ _ (c .if4 .taken)), λ e. absurd (false≢true (sym e)))
 
 add-depths : tie.Need-add-depths
 add-depths c = search needs
 
 slice-write-depths : tie.Need-slice-write-depths
-slice-write-depths c = omega (arith, half-out _ _ _ _ _ (sym (c .before .before .before .before .before .before .before .bad-half .ensures) ∙ c .before .before .before .before .before .before .if1 .left) .within)
+slice-write-depths c =
+    let h = c .before .before .before .before .before .before in
+    omega (arith, half-out _ _ _ _ _ (sym (h .before .bad-half .ensures) ∙ h .if1 .left) .within)
 
 add-depths-2 : tie.Need-add-depths-2
 add-depths-2 c = search needs
 
 slice-write-depths-2 : tie.Need-slice-write-depths-2
-slice-write-depths-2 c = rw length-set (omega (arith, half-out _ _ _ _ _ (sym (c .before .before .before .before .bad-half2 .ensures) ∙ c .before .before .before .if2 .left) .within))
+slice-write-depths-2 c =
+    let g = c .before .before .before in
+    rw length-set (omega (arith, half-out _ _ _ _ _ (sym (g .before .bad-half2 .ensures) ∙ g .if2 .left) .within))
 
 same-length-5 : tie.Need-same-length-5
 same-length-5 c = search needs
 
 returns-5 : tie.Need-returns-5
 unfolding badPair leftAt rightAt markPair
-returns-5 c = (rw (← c .before .before .before .before .before .before .before .before .before .word-at2 .ensures .0, ← c .before .before .before .before .before .before .before .before .before .before .word-at .ensures .0, ← c .before .before .before .before .before .before .before .bad-half .ensures, c .before .before .before .before .before .before .if1 .left, ← c .before .before .before .before .bad-half2 .ensures, c .before .before .before .if2 .left, ne-eqb _ _ (c .before .before .if3 .left), le-ltb _ _ (c .if4 .left)), λ e. rw (← c .before .before .before .before .before .before .before .before .before .word-at2 .ensures .0, ← c .before .before .before .before .before .before .before .before .before .before .word-at .ensures .0) refl)
+returns-5 c =
+    let g = c .before .before .before in
+    let h = g .before .before .before in
+    let w = h .before .before .before in (
+      rw (← w .word-at2 .ensures .0, ← w .before .word-at .ensures .0, ← h .before .bad-half .ensures, h .if1 .left, ← g .before .bad-half2 .ensures, g .if2 .left, ne-eqb _ _ (c .before .before .if3 .left), le-ltb _ _ (c .if4 .left)),
+      λ e. rw (← w .word-at2 .ensures .0, ← w .before .word-at .ensures .0) refl,
+    )
 
 pub bad-pair-spec : {M : Type 1} → statement M
 bad-pair-spec =

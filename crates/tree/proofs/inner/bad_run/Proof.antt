@@ -89,9 +89,13 @@ same-length c = omega arith
 returns-2 : tie.Need-returns-2 Inv-loop μ-loop
 unfolding badRun countAt leftAt
 returns-2 c =
-    let bad = bad-read _ _ _ _ _ _ _ _ _ _ _ (c .before .before .before .before .before .loop .inv .2) (c .before .before .before .before .before .before .bounds-at .ensures) (place-read _ _ _ _ _ _ (c .before .before .before .before .before .before .before .before .word-at2 .ensures .0) (c .before .before .before .word-at3 .ensures .0)) (c .before .bad-place .ensures) in
-    let found = c .before .before .before .before .before .loop .inv .3 ∙ any-found _ _ _ (c .before .before .before .before .loop-test .taken) (bad ∙ c .if2 .taken) in
-    (rw (← c .before .before .before .before .before .before .before .before .word-at2 .ensures .0, ← c .before .before .before .before .before .before .before .before .before .word-at .ensures .0, le-ltb _ _ (c .before .before .before .before .before .before .before .if1 .left), found), λ e. absurd (false≢true (sym e)))
+    let w = c .before .before .before in
+    let l = w .before .before in
+    let f = l .before .before .before in
+    let pl = place-read _ _ _ _ _ _ (f .word-at2 .ensures .0) (w .word-at3 .ensures .0) in
+    let bad = bad-read _ _ _ _ _ _ _ _ _ _ _ (l .loop .inv .2) (l .before .bounds-at .ensures) pl (c .before .bad-place .ensures) in
+    let found = l .loop .inv .3 ∙ any-found _ _ _ (w .before .loop-test .taken) (bad ∙ c .if2 .taken) in
+    (rw (← f .word-at2 .ensures .0, ← f .before .word-at .ensures .0, le-ltb _ _ (l .before .before .if1 .left), found), λ e. absurd (false≢true (sym e)))
 
 slice-write-seen : tie.Need-slice-write-seen Inv-loop μ-loop
 slice-write-seen c = omega (arith, present-within _ _ (place-out _ _ _ _ (sym (c .before .bad-place .ensures) ∙ c .if2 .left) .present))
@@ -104,12 +108,16 @@ loop-less c = omega arith
 
 loop-again : tie.Need-loop-again Inv-loop μ-loop
 loop-again c =
-    let pl = place-read _ _ _ _ _ _ (c .before .before .before .before .before .before .before .before .word-at2 .ensures .0) (c .before .before .before .word-at3 .ensures .0) in
-    let bad = bad-read _ _ _ _ _ _ _ _ _ _ _ (c .before .before .before .before .before .loop .inv .2) (c .before .before .before .before .before .before .bounds-at .ensures) (place-read _ _ _ _ _ _ (c .before .before .before .before .before .before .before .before .word-at2 .ensures .0) (c .before .before .before .word-at3 .ensures .0)) (c .before .bad-place .ensures) in (
+    let w = c .before .before .before in
+    let l = w .before .before in
+    let f = l .before .before .before in
+    let a = f .before .before .before .before .before .before .before .args in
+    let pl : w .word-at3 .result ≡ placeAt (a .nodes .now) (a .order .now) (a .i) (l .loop .k) = place-read _ _ _ _ _ _ (f .word-at2 .ensures .0) (w .word-at3 .ensures .0) in (
       omega arith,
-      rw length-set (c .before .before .before .before .before .loop .inv .1),
-      see-next _ _ _ _ _ _ _ (c .before .before .before .before .before .loop .inv .2) pl,
-      c .before .before .before .before .before .loop .inv .3 ∙ any-next _ _ _ (c .before .before .before .before .loop-test .taken) (bad ∙ c .if2 .left),
+      rw length-set (l .loop .inv .1),
+      see-next _ _ _ _ _ _ _ (l .loop .inv .2) pl,
+      l .loop .inv .3
+          ∙ any-next _ _ _ (w .before .loop-test .taken) (bad-read _ _ _ _ _ _ _ _ _ _ _ (l .loop .inv .2) (l .before .bounds-at .ensures) pl (c .before .bad-place .ensures) ∙ c .if2 .left),
     )
 
 same-length-2 : tie.Need-same-length-2 Inv-loop μ-loop
@@ -118,9 +126,11 @@ same-length-2 c = omega arith
 returns-3 : tie.Need-returns-3 Inv-loop μ-loop
 unfolding badRun countAt leftAt
 returns-3 c =
-    let none = c .before .loop .inv .3 ∙ any-end _ _ _ (c .loop-test .left) in
-    let all : c .before .loop .k ≡ c .before .before .before .before .before .word-at .result = omega arith in
-    (rw (← c .before .before .before .before .word-at2 .ensures .0, ← c .before .before .before .before .before .word-at .ensures .0, le-ltb _ _ (c .before .before .before .if1 .left), none), λ e. rw (← c .before .before .before .before .before .word-at .ensures .0, ← all) (c .before .loop .inv .2))
+    let l = c .before in
+    let f = l .before .before .before in
+    let none = l .loop .inv .3 ∙ any-end _ _ _ (c .loop-test .left) in
+    let all : l .loop .k ≡ f .before .word-at .result = omega arith in
+    (rw (← f .word-at2 .ensures .0, ← f .before .word-at .ensures .0, le-ltb _ _ (l .before .before .if1 .left), none), λ e. rw (← f .before .word-at .ensures .0, ← all) (l .loop .inv .2))
 
 pub bad-run-spec : {M : Type 1} → statement M
 bad-run-spec =
