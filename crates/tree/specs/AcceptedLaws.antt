@@ -1,5 +1,6 @@
--- What follows of an accepted tree: the triangles of a leaf are present; no bound is NaN; the first box has no parent; and there are fewer than twice as many boxes as
--- triangles, since every box but the first is a half of one inner box, and every leaf holds a triangle of its own. Assumes nothing.
+-- What follows of an accepted tree: the triangles of a leaf are present; with a box its halves and its triangles are passed over; no bound is NaN; the first box
+-- has no parent; and there are fewer than twice as many boxes as triangles, since every box but the first is a half of one inner box, and every leaf holds a
+-- triangle of its own. Assumes nothing.
 use mathlib.Core.Path.{_≡_, refl, sym, ap, _∙_}
 use mathlib.Core.Bool.{Bool, true, false, cond, not}
 use mathlib.Core.List.{List}
@@ -9,9 +10,10 @@ use borrow.Author.Tests.{eqb-false}
 use lib.Dec.{eqb}
 use lib.ListN.{length}
 use lib.Ieee.{Float}
+use Rattle.vectors.specs.declared.Vec3.{Vec3}
 use Rattle.triangle.specs.Places.{triangleAt}
-use Rattle.boxes.specs.Boxes.{boundsAt, paddedOf}
-use Rattle.boxes.specs.BoxLaws.{NumbersOf, inside-numbers}
+use Rattle.boxes.specs.Boxes.{boundsAt, paddedOf, passedOver}
+use Rattle.boxes.specs.BoxLaws.{passed-inside, NumbersOf, inside-numbers}
 use Rattle.tree.specs.Tree.{boxCount, countAt, innerAt, leftAt, rightAt, placeAt, presentAt, sumTo, one, halvesOf, parentsTo, runTo, leafOf, standsTo, AcceptedTree}
 use Rattle.tree.specs.SumLaws.{one-self, one-other, positive, sum-more, sum-less, sum-same, sum-plus, sum-ones, sum-swap, sum-hit}
 use Rattle.tree.specs.TestLaws.{present-within}
@@ -38,6 +40,21 @@ module _ (points boxes : List Float) (nodes order : List ℕ) (t : AcceptedTree 
       by : (b : Bool) → presentAt points (placeAt nodes order i k) ≡ b → presentAt points (placeAt nodes order i k) ≡ true
       by true e = e
       by false e = absurd (omega (arith, stands-here i k h q l, t .othersNowhere (placeAt nodes order i k) e))
+
+  -- ---- what is passed over with a box
+
+  module _ (origin direction : Vec3) (i : ℕ) (h : i < boxCount nodes) (over : passedOver origin direction (boundsAt boxes i) ≡ true) where
+    -- its halves, and in a leaf each triangle's own padded box
+    pub halves-passed : innerAt nodes i ≡ true
+        → (passedOver origin direction (boundsAt boxes (leftAt nodes i)) ≡ true) × (passedOver origin direction (boundsAt boxes (rightAt nodes i)) ≡ true)
+    halves-passed q =
+        let s = t .insideAbove i h q in (
+          passed-inside origin direction (boundsAt boxes (leftAt nodes i)) (boundsAt boxes i) (s .0) over,
+          passed-inside origin direction (boundsAt boxes (rightAt nodes i)) (boundsAt boxes i) (s .1) over,
+        )
+
+    pub triangles-passed : innerAt nodes i ≡ false → (k : ℕ) → k < countAt nodes i → passedOver origin direction (paddedOf (triangleAt points (placeAt nodes order i k))) ≡ true
+    triangles-passed q k l = passed-inside origin direction (paddedOf (triangleAt points (placeAt nodes order i k))) (boundsAt boxes i) (t .insideLeaf i k h q l) over
 
   -- ---- no bound of a box is NaN
 
