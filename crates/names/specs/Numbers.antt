@@ -114,6 +114,16 @@ sunShortest = lit 0x38d1b717
 abbrev pub sunDiagonals : Float
 sunDiagonals = lit 0x40400000
 
+-- ---- box trees
+
+-- "each triangle's box padded by 1e-5 lies inside its leaf's"
+abbrev pub boxPadding : Float
+boxPadding = lit 0x3727c5ac
+
+-- "depth is at most 24"
+abbrev pub depthLimit : ℕ
+depthLimit = 24
+
 -- ---- masks
 
 -- samples "clamped to 1..4096"

@@ -64,6 +64,12 @@ pub const SUN_SHORTEST: f32 = 1.0e-4;
 
 pub const SUN_DIAGONALS: f32 = 3.0;
 
+// ---- box trees
+
+pub const BOX_PADDING: f32 = 1.0e-5;
+
+pub const DEPTH_LIMIT: u8 = 24;
+
 // ---- masks
 
 pub const MOST_SAMPLES: usize = 4096;
