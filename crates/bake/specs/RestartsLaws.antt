@@ -11,9 +11,9 @@ use borrow.Author.Tests.{ne-eqb}
 use Rattle.names.specs.Refusals.{Row, firstOf}
 use Rattle.spread.specs.declared.Progress.{Progress}
 use Rattle.spread.specs.Spread.{atZero, Stage, stage, Called, filled, unblurred, unbroken, costs, stands, sum}
-use Rattle.spread.specs.Walks.{call-adds}
+use Rattle.spread.specs.Walks.{unbroken-progress, call-adds}
 use Rattle.spread.specs.Demand.{Sized}
-use Rattle.spread.specs.Carried.{Carried, short, over, ended-at, carried-from-zero, carried-on}
+use Rattle.spread.specs.Carried.{Carried, short, over, carried-from-zero, carried-on}
 use Rattle.ends.specs.EndsLaws.{length-ambient}
 use Rattle.gather.specs.GatherLaws.{length-gathered}
 use Rattle.intake.specs.Intake.{BakeInput, voxelCount, bakeRows, bakeRefusal, GoodProgress}
@@ -133,7 +133,7 @@ module _ (b : BakeInput) where
   at-end : {q : Progress} {v : List Float} → Carried (bakeOf b) q v → q .next ≡ voxelCount b
       → (q ≡ unbroken (bakeOf b) [] .progress) × (v ≡ unbroken (bakeOf b) [] .volume)
   at-end (short h k e) z = absurd (omega arith)
-  at-end (over e f) z = (e ∙ sym (ended-at (bakeOf b)), f)
+  at-end (over e f) z = (e ∙ sym (unbroken-progress (bakeOf b) []), f)
 
   stood : {q : Progress} {v : List Float} → Carried (bakeOf b) q v → 0 < q .next → q .next < voxelCount b → v ≡ stands (bakeOf b) (q .next)
   stood {q} (short h k e) p z = rw (ne-eqb (q .next) 0 (λ y. omega arith)) at e

@@ -9,7 +9,8 @@ use Rattle.spread.specs.declared.Progress.{Progress}
 use Rattle.spread.specs.Spread.{progressOf, atZero, Stage, stage, Bake, started, anyActive, call, unblurred, unbroken, costs, stands}
 use Rattle.spread.specs.Demand.{Sized, Fair}
 use Rattle.spread.specs.Contents.{stands-filled}
-use Rattle.spread.specs.Holds.{StandsWhere, unbroken-progress, along-call, rests-done}
+use Rattle.spread.specs.Walks.{unbroken-progress}
+use Rattle.spread.specs.Holds.{StandsWhere, along-call, rests-done}
 
 module _ {A : Type 0} (b : Bake A) where
   -- what a begun bake carries on: short of the end the voxels below next as they stand, the others ambient, and the rays fired for them; then the unbroken
@@ -27,14 +28,6 @@ module _ {A : Type 0} (b : Bake A) where
       go true p = refl
       go false p = refl
 
-  pub ended-at : unbroken b [] .progress ≡ progressOf (b .count) (costs b (b .count) 0)
-  unfolding unbroken
-  ended-at = go (anyActive (b .active) (b .count)) (progressOf (b .count) (costs b (b .count) 0))
-    where
-      go : (t : Bool) (p : Progress) → cond t (stage p (b .mean (unblurred b)) (unblurred b)) (stage p (unblurred b) []) .progress ≡ p
-      go true p = refl
-      go false p = refl
-
   pub carried-from-zero : Sized b → 0 < b .count → (v : List A) → Carried atZero v
   unfolding costs
   carried-from-zero sized some v = short some refl (stands-filled b sized)
@@ -44,7 +37,7 @@ module _ {A : Type 0} (b : Bake A) where
     where
       go : {s : Stage A} → StandsWhere b fair x s → Carried (s .progress) (s .volume)
       go (inl s) = short (s .before) (s .known) (s .volume)
-      go (inr e) = over (ap (λ (s : Stage A). s .progress) e ∙ unbroken-progress b fair x) (ap (λ (s : Stage A). s .volume) e ∙ same-volume x [])
+      go (inr e) = over (ap (λ (s : Stage A). s .progress) e ∙ unbroken-progress b x) (ap (λ (s : Stage A). s .volume) e ∙ same-volume x [])
   carried-on fair a x {p} {v} (over e f) =
       let r = rests-done b fair a (stage p v x) (ap (λ (q : Progress). q .next) e) .1 in
       over (ap (λ (s : Stage A). s .progress) r ∙ e) (ap (λ (s : Stage A). s .volume) r ∙ f)

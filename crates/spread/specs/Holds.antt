@@ -12,7 +12,7 @@ use borrow.Author.Tests.{eq-eqb, ne-eqb}
 use Rattle.lists.specs.Laid.{voxelPart, part-of-laid}
 use Rattle.spread.specs.declared.Progress.{Progress}
 use Rattle.spread.specs.Spread.{progressOf, atZero, Stage, stage, Bake, Called, Walked, started, anyActive, blurred, walkOf, reachedBy, baked, accepted, call, unblurred, unbroken, actives, costs, standing, stands, run, sum, EachAtLeast, NoneRefused}
-use Rattle.spread.specs.Walks.{Walks, ended-progress, walks, walk-from, walk-to, walk-goes, walk-costs, walk-fires, walk-stops, walk-takes, walk-rays, walk-passed, call-adds, actives-split, costs-split, costs-least, costs-most}
+use Rattle.spread.specs.Walks.{Walks, ended-progress, unbroken-progress, walks, walk-from, walk-to, walk-goes, walk-costs, walk-fires, walk-stops, walk-takes, walk-rays, walk-passed, call-adds, actives-split, costs-split, costs-least, costs-most}
 use Rattle.spread.specs.Contents.{length-standing, walk-stands, stands-filled, stands-unblurred}
 use Rattle.spread.specs.Demand.{KnowsRays, Fair, Lasts, roundedUp, allActive, finished, Demand}
 
@@ -230,14 +230,6 @@ module _ {A : Type 0} (b : Bake A) (fair : Fair b) where
   abbrev pub atEnd : Progress
   atEnd = progressOf (b .count) (costs b (b .count) 0)
 
-  pub unbroken-progress : (x : List A) → unbroken b x .progress ≡ atEnd
-  unfolding unbroken
-  unbroken-progress x = go (anyActive (b .active) (b .count))
-    where
-      go : (u : Bool) → cond u (stage atEnd (b .mean (unblurred b)) (unblurred b)) (stage atEnd (unblurred b) x) .progress ≡ atEnd
-      go true = refl
-      go false = refl
-
   standing-start : (p : ℕ) (v : List A) → v ≡ stands b p → started b p v ≡ stands b p
   standing-start zero v e = stands-filled b (fair .sized)
   standing-start (suc p) v e = rw (ne-eqb (suc p) 0 (λ z. omega arith)) e
@@ -251,7 +243,7 @@ module _ {A : Type 0} (b : Bake A) (fair : Fair b) where
 
   pub along-call : (a : ℕ) (x : List A) (s : Stage A) → StandsWhere x s → StandsWhere x (call b a s .stage)
   unfolding unbroken
-  along-call a x s (inr e) = inr (rests-done a s (ap (λ (z : Stage A). z .progress .next) e ∙ ap (λ (p : Progress). p .next) (unbroken-progress x)) .1 ∙ e)
+  along-call a x s (inr e) = inr (rests-done a s (ap (λ (z : Stage A). z .progress .next) e ∙ ap (λ (p : Progress). p .next) (unbroken-progress b x)) .1 ∙ e)
   along-call a x s (inl h) = go (call b a s) (calls a s)
     where
       go : (c : Called A) → Calls a s c → StandsWhere x (c .stage)
@@ -300,7 +292,7 @@ module _ {A : Type 0} (b : Bake A) (fair : Fair b) where
   rays-known l s e =
       ⊎-elim (λ h. h .known)
       (λ h.
-      let p : run b l s .stage .progress ≡ atEnd = ap (λ (z : Stage A). z .progress) h ∙ unbroken-progress (s .scratch) in
+      let p : run b l s .stage .progress ≡ atEnd = ap (λ (z : Stage A). z .progress) h ∙ unbroken-progress b (s .scratch) in
       ap (λ (z : Progress). z .rays) p ∙ sym (ap (λ (z : Progress). costs b (z .next) 0) p))
       (along-run l (s .scratch) s (begins s e))
 
@@ -319,7 +311,7 @@ module _ {A : Type 0} (b : Bake A) (fair : Fair b) where
         v,
         h .scratch,
       ))
-      (λ h. absurd (omega (arith, ap (λ (z : Stage A). z .progress .next) h, ap (λ (z : Progress). z .next) (unbroken-progress (s .scratch)))))
+      (λ h. absurd (omega (arith, ap (λ (z : Stage A). z .progress .next) h, ap (λ (z : Progress). z .next) (unbroken-progress b (s .scratch)))))
       (along-run l (s .scratch) s (begins s e))
 
   -- ---- how many calls

@@ -13,7 +13,7 @@ use Rattle.lists.specs.Any.{any}
 use Rattle.lists.specs.Fold.{ahead}
 use Rattle.lists.specs.Laid.{replaced}
 use Rattle.spread.specs.declared.Progress.{Progress}
-use Rattle.spread.specs.Spread.{Stage, stage, Bake, Walked, walked, more, walk, anyActive, ended, walkOf, reachedBy, baked, call, actives, costs}
+use Rattle.spread.specs.Spread.{progressOf, Stage, stage, Bake, Walked, walked, more, walk, anyActive, blurred, ended, walkOf, reachedBy, baked, call, actives, costs, unblurred, unbroken}
 
 module _ {A : Type 0} (b : Bake A) where
   pub data Walks : ℕ → ℕ → ℕ → List A → Walked A → Type 0 where
@@ -138,13 +138,24 @@ module _ {A : Type 0} (b : Bake A) where
       go false h = h
 
   -- where a walk ends and what it fired is the progress that its call answers
-  pub ended-progress : (p : Progress) (v s : List A) → ended b p v s .progress ≡ p
-  ended-progress p v s = go (eqb (p .next) (b .count)) (anyActive (b .active) (b .count))
+  blurred-progress : (p : Progress) (v s : List A) → blurred b p v s .progress ≡ p
+  blurred-progress p v s = go (anyActive (b .active) (b .count))
     where
-      go : (t u : Bool) → cond t (cond u (stage p (b .mean v) v) (stage p v s)) (stage p v s) .progress ≡ p
-      go true true = refl
-      go true false = refl
-      go false u = refl
+      go : (u : Bool) → cond u (stage p (b .mean v) v) (stage p v s) .progress ≡ p
+      go true = refl
+      go false = refl
+
+  pub ended-progress : (p : Progress) (v s : List A) → ended b p v s .progress ≡ p
+  ended-progress p v s = go (eqb (p .next) (b .count))
+    where
+      go : (t : Bool) → cond t (blurred b p v s) (stage p v s) .progress ≡ p
+      go true = blurred-progress p v s
+      go false = refl
+
+  -- the unbroken bake ends with the count, and the rays that the definition fires
+  pub unbroken-progress : (x : List A) → unbroken b x .progress ≡ progressOf (b .count) (costs b (b .count) 0)
+  unfolding unbroken
+  unbroken-progress x = blurred-progress (progressOf (b .count) (costs b (b .count) 0)) (unblurred b) x
 
   -- what a call reports is added to the rays so far
   pub call-adds : (a : ℕ) (s : Stage A) → call b a s .stage .progress .rays ≡ s .progress .rays + call b a s .rays
