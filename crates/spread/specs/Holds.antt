@@ -1,6 +1,6 @@
 -- Demand 3 holds of every fair bake. A call is refused, finds the bake finished, or walks; each sentence goes by these three cases.
 use mathlib.Core.Path.{_≡_, refl, sym, ap, ap₂, _∙_}
-use mathlib.Core.Bool.{Bool, true, false, cond}
+use mathlib.Core.Bool.{true, cond}
 use mathlib.Core.Logic.{_⊎_, inl, inr, ⊎-elim}
 use mathlib.Core.List.{List, [], _∷_}
 use Prim.Native.Nat.{ℕ, zero, suc, _+_, _-_, _*_, _/_, _≤_, _<_}
@@ -11,7 +11,7 @@ use lib.ListN.{length, replicate}
 use borrow.Author.Tests.{eq-eqb, ne-eqb}
 use Rattle.lists.specs.Laid.{voxelPart, part-of-laid}
 use Rattle.spread.specs.declared.Progress.{Progress}
-use Rattle.spread.specs.Spread.{progressOf, atZero, Stage, stage, Bake, Called, Walked, started, anyActive, blurred, walkOf, reachedBy, baked, accepted, call, unblurred, unbroken, actives, costs, standing, stands, run, sum, EachAtLeast, NoneRefused}
+use Rattle.spread.specs.Spread.{progressOf, atZero, Stage, stage, Bake, Called, Walked, started, blurred, walkOf, reachedBy, baked, accepted, call, unbroken, actives, costs, standing, stands, run, sum, EachAtLeast, NoneRefused}
 use Rattle.spread.specs.Walks.{Walks, ended-progress, unbroken-progress, walks, walk-from, walk-to, walk-goes, walk-costs, walk-fires, walk-stops, walk-takes, walk-rays, walk-passed, call-adds, actives-split, costs-split, costs-least, costs-most}
 use Rattle.spread.specs.Contents.{length-standing, walk-stands, stands-filled, stands-unblurred}
 use Rattle.spread.specs.Demand.{KnowsRays, Fair, Lasts, roundedUp, allActive, finished, Demand}

@@ -13,7 +13,7 @@ use Rattle.lists.specs.Any.{any}
 use Rattle.lists.specs.Fold.{ahead}
 use Rattle.lists.specs.Laid.{replaced}
 use Rattle.spread.specs.declared.Progress.{Progress}
-use Rattle.spread.specs.Spread.{progressOf, Stage, stage, Bake, Walked, walked, more, walk, anyActive, blurred, ended, walkOf, reachedBy, baked, call, actives, costs, unblurred, unbroken}
+use Rattle.spread.specs.Spread.{progressOf, Stage, stage, Bake, Walked, walked, more, walk, anyActive, blurred, ended, walkOf, reachedBy, call, actives, costs, unblurred, unbroken}
 
 module _ {A : Type 0} (b : Bake A) where
   pub data Walks : ℕ → ℕ → ℕ → List A → Walked A → Type 0 where
