@@ -1,0 +1,3 @@
+-- The scan over the triangles whose own padded box is not passed over; the walk through a box tree; that for an accepted tree the two are one.
+pub mod Boxed
+pub mod Walk
