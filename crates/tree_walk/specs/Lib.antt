@@ -2,6 +2,7 @@
 pub mod Boxed
 pub mod Walk
 pub mod SwapLaws
+pub mod BoxedLaws
 pub mod FoldLaws
 pub mod CountLaws
 pub mod UnderLaws

@@ -33,6 +33,7 @@ use Rattle.tree.specs.AcceptedLaws.{halves-passed, triangles-passed}
 use Rattle.tree_walk.specs.Boxed.{ownPassed, boxedAt, boxedMeetAt, nearestStep, nearestBoxedTo, nearestBoxed, hitsStep, hitsBoxed, passHits, transmittanceBoxed}
 use Rattle.tree_walk.specs.Walk.{runVisit, nodeVisit, treeVisit, nearestThrough, hitsThrough, transmittanceThrough}
 use Rattle.tree_walk.specs.SwapLaws.{NumberMeet, NumberHeld, nearer-swap, nearer-number, hits-swap, hits-numbers}
+use Rattle.tree_walk.specs.BoxedLaws.{boxed-over, boxed-number, boxed-absent}
 use Rattle.tree_walk.specs.FoldLaws.{foldOf, scanFrom, fold-append, fold-scan}
 use Rattle.tree_walk.specs.UnderLaws.{runPlaces, placesUnder, root-stands}
 
@@ -119,3 +120,70 @@ module _ (points boxes : List Float) (nodes order : List ℕ) (t : AcceptedTree 
           ∙ fold-scan step Good kept swap (presentAt points) s g n absent (placesUnder nodes order (suc depthLimit) 0)
           (λ p _. root-stands points boxes nodes order t h p)
           (λ p k. root-stands points boxes nodes order t h p ∙ ap one (beyond-absent p k))
+
+-- ---- of a scene
+
+nearest-scan : (scene : Scene) (ray : Ray) (n : ℕ) → scanFrom (nearestStep scene ray) Nothing n ≡ nearestBoxedTo scene ray n
+unfolding nearestBoxedTo
+nearest-scan scene ray zero = refl
+nearest-scan scene ray (suc n) = ap (λ (b : Nearest). nearestStep scene ray b n) (nearest-scan scene ray n)
+
+hits-scan : (scene : Scene) (ray : Ray) (n : ℕ) → scanFrom (hitsStep scene ray) [] n ≡ hitsBoxed scene ray n
+unfolding hitsBoxed
+hits-scan scene ray zero = refl
+hits-scan scene ray (suc n) = ap (λ (hs : List Struck). hitsStep scene ray hs n) (hits-scan scene ray n)
+
+-- a miss adds nothing
+nearer-missed : (b : Nearest) (i : ℕ) (m : Meet) → m ≡ Miss → nearerOf b i m ≡ b
+unfolding nearerOf
+nearer-missed b i m e = rw e refl
+
+hits-missed : (hs : List Struck) (i : ℕ) (m : Meet) → m ≡ Miss → withMeet hs i m ≡ hs
+unfolding withMeet
+hits-missed hs i m e = rw e refl
+
+module _ (scene : Scene) (sound : Sound scene) (boxes : List Float) (nodes order : List ℕ) (t : AcceptedTree (scene .points) boxes nodes order) (ray : Ray) where
+  -- the nearest hit through an accepted tree
+  pub walk-nearest : nearestThrough scene boxes nodes order ray ≡ nearestBoxed scene ray
+  unfolding nearestThrough nearestBoxed
+  walk-nearest =
+      walk-scan (scene .points) boxes nodes order t ray (nearestStep scene ray)
+      (λ b p h. nearer-missed b p (boxedMeetAt scene ray p) (boxed-over scene ray p h))
+      NumberHeld
+      (λ b i h. nearer-number b i (boxedMeetAt scene ray i) h (boxed-number scene ray i))
+      (λ b i j h d. nearer-swap b i j (boxedMeetAt scene ray i) (boxedMeetAt scene ray j) h (boxed-number scene ray i) (boxed-number scene ray j) d)
+      (length (scene .uses)) (sound .points)
+      (λ b p l h. nearer-missed b p (boxedMeetAt scene ray p) (boxed-absent scene ray p (omega (arith, sound .points)) h))
+      Nothing tt
+      ∙ nearest-scan scene ray (length (scene .uses))
+
+  -- the hits
+  pub walk-hits : hitsThrough scene boxes nodes order ray ≡ hitsBoxed scene ray (length (scene .uses))
+  unfolding hitsThrough
+  walk-hits =
+      walk-scan (scene .points) boxes nodes order t ray (hitsStep scene ray)
+      (λ hs p h. hits-missed hs p (boxedMeetAt scene ray p) (boxed-over scene ray p h))
+      Numbers
+      (λ hs i h. hits-numbers hs i (boxedMeetAt scene ray i) h (boxed-number scene ray i))
+      (λ hs i j h d. hits-swap hs i j (boxedMeetAt scene ray i) (boxedMeetAt scene ray j) h (boxed-number scene ray i) (boxed-number scene ray j) d)
+      (length (scene .uses)) (sound .points)
+      (λ hs p l h. hits-missed hs p (boxedMeetAt scene ray p) (boxed-absent scene ray p (omega (arith, sound .points)) h))
+      [] tt
+      ∙ hits-scan scene ray (length (scene .uses))
+
+  -- and what passes
+  pub walk-transmittance : transmittanceThrough scene boxes nodes order ray ≡ transmittanceBoxed scene ray
+  unfolding transmittanceThrough transmittanceBoxed
+  walk-transmittance = ap (passHits scene) walk-hits
+
+-- two accepted trees of one scene give the same answers
+module _ (scene : Scene) (sound : Sound scene) (ray : Ray) (boxes : List Float) (nodes order : List ℕ) (t : AcceptedTree (scene .points) boxes nodes order)
+    (boxes′ : List Float) (nodes′ order′ : List ℕ) (t′ : AcceptedTree (scene .points) boxes′ nodes′ order′) where
+  pub trees-nearest : nearestThrough scene boxes nodes order ray ≡ nearestThrough scene boxes′ nodes′ order′ ray
+  trees-nearest = walk-nearest scene sound boxes nodes order t ray ∙ sym (walk-nearest scene sound boxes′ nodes′ order′ t′ ray)
+
+  pub trees-hits : hitsThrough scene boxes nodes order ray ≡ hitsThrough scene boxes′ nodes′ order′ ray
+  trees-hits = walk-hits scene sound boxes nodes order t ray ∙ sym (walk-hits scene sound boxes′ nodes′ order′ t′ ray)
+
+  pub trees-transmittance : transmittanceThrough scene boxes nodes order ray ≡ transmittanceThrough scene boxes′ nodes′ order′ ray
+  trees-transmittance = walk-transmittance scene sound boxes nodes order t ray ∙ sym (walk-transmittance scene sound boxes′ nodes′ order′ t′ ray)
