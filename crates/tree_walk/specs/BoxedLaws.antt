@@ -1,14 +1,14 @@
 -- What a scan through boxes meets: a hit's distance is a number; nothing of an absent triangle; and where no hit's own padded box is passed over, what the scan
--- without boxes meets, so that every old answer stands. Assumes nothing.
+-- without boxes meets, so that every old answer stands. What its nearest hit is. Assumes nothing.
 use mathlib.Core.Path.{_≡_, refl, sym, ap, _∙_}
 use mathlib.Core.Bool.{Bool, true, false, cond, not, _&&_, false≢true}
-use mathlib.Core.List.{List}
+use mathlib.Core.Logic.{_↔_}
 use Prim.Native.Nat.{ℕ, zero, suc, _*_, _/_, _≤_, _<_}
 use native.Mathlib.Omega.{arith}
 use borrow.Author.Tests.{lt-ltb}
 use lib.Dec.{ltb}
 use lib.ListN.{length}
-use lib.Ieee.{Float}
+use lib.Ieee.{Float, isNan}
 use Rattle.names.specs.Scene.{Scene, Sound}
 use Rattle.vectors.specs.declared.Ray.{Ray}
 use Rattle.triangle.specs.Meet.{absentOf}
@@ -16,12 +16,15 @@ use Rattle.triangle.specs.Laws.{absent-missed}
 use Rattle.triangle.specs.Places.{triangleAt}
 use Rattle.triangle.specs.declared.Meet.{Meet}
 use Rattle.triangle.specs.declared.Meet.the-variants.{Miss, Hit}
-use Rattle.panels.specs.Panels.{metAt, meetAt}
+use Rattle.panels.specs.Panels.{meetAt}
 use Rattle.panels.specs.PanelLaws.{missed-at}
-use Rattle.hits.specs.Hits.{withMeet, hitsOf}
+use Rattle.hits.specs.Hits.{hitsOf}
 use Rattle.hits.specs.BeforeLaws.{hit-number}
 use Rattle.scan.specs.Nearest.{nearerOf, nearestTo, nearestOf}
 use Rattle.scan.specs.Transmittance.{transmittanceOf}
+use Rattle.scan.specs.declared.Nearest.{Nearest}
+use Rattle.scan.specs.declared.Nearest.the-variants.{Nothing, At}
+use Rattle.scan_laws.specs.BestLaws.{bestTo, IsBest, AllMisses, best-is-best, nothing-is-misses, misses-is-nothing, best-is-answered}
 use Rattle.tree.specs.Tree.{presentAt}
 use Rattle.tree_walk.specs.Boxed.{ownPassed, boxedAt, boxedMeetAt, nearestBoxedTo, nearestBoxed, hitsBoxed, passHits, transmittanceBoxed}
 use Rattle.tree_walk.specs.SwapLaws.{NumberMeet}
@@ -104,3 +107,35 @@ module _ (scene : Scene) (ray : Ray) where
     pub transmittance-same : transmittanceBoxed scene ray ≡ transmittanceOf scene ray
     unfolding transmittanceBoxed transmittanceOf
     transmittance-same = ap (passHits scene) (hits-same (length (scene .uses)) none)
+
+  -- ---- what the nearest is
+
+  -- among the first n triangles
+  abbrev pub IsNearestBoxed : ℕ → ℕ → Float → Float → Float → Bool → Type 0
+  IsNearestBoxed n i t u v front = IsBest (boxedMeetAt scene ray) n i t u v front
+
+  boxed-best : (n : ℕ) → nearestBoxedTo scene ray n ≡ bestTo (boxedMeetAt scene ray) n
+  unfolding nearestBoxedTo
+  boxed-best zero = refl
+  boxed-best (suc n) = ap (λ (b : Nearest). nearerOf b n (boxedMeetAt scene ray n)) (boxed-best n)
+
+  -- a hit is answered exactly where it is the nearest
+  pub boxed-exactly : (i : ℕ) (t u v : Float) (front : Bool) → (nearestBoxed scene ray ≡ At i t u v front) ↔ IsNearestBoxed (length (scene .uses)) i t u v front
+  unfolding nearestBoxed
+  boxed-exactly i t u v front =
+      let n = length (scene .uses) in (
+        λ e. best-is-best (boxedMeetAt scene ray) n i t u v front (sym (boxed-best n) ∙ e),
+        λ h. boxed-best n ∙ best-is-answered (boxedMeetAt scene ray) number n i t u v front h,
+      )
+    where
+      number : (j : ℕ) (s p q : Float) (side : Bool) → boxedMeetAt scene ray j ≡ Hit s p q side → isNan s ≡ false
+      number j s p q side e = hit-number (scene .points) (scene .uses) (scene .kinds) ray j s p q side (boxed-hit j s p q side e .0)
+
+  -- and nothing exactly where all are missed
+  pub boxed-nothing : (nearestBoxed scene ray ≡ Nothing) ↔ AllMisses (boxedMeetAt scene ray) (length (scene .uses))
+  unfolding nearestBoxed
+  boxed-nothing =
+      let n = length (scene .uses) in (
+        λ e. nothing-is-misses (boxedMeetAt scene ray) n (sym (boxed-best n) ∙ e),
+        λ h. boxed-best n ∙ misses-is-nothing (boxedMeetAt scene ray) n h,
+      )

@@ -61,8 +61,8 @@ module _ (points boxes : List Float) (nodes order : List ℕ) (t : AcceptedTree 
       let u = under m (omega arith) in
       let k = halves m (omega arith) in
       let s : sumTo (λ j. w j * (sumTo (halvesOf nodes j) m + halvesOf nodes j m)) (boxCount nodes) ≡ sumTo (λ j. w j * sumTo (halvesOf nodes j) m) (boxCount nodes) + sumTo (λ j. w j * halvesOf nodes j m) (boxCount nodes) =
-          sum-same _ (λ j. w j * sumTo (halvesOf nodes j) m + w j * halvesOf nodes j m) (boxCount nodes) (λ j _. mul-add (w j) (sumTo (halvesOf nodes j) m) (halvesOf nodes j m))
-          ∙ sum-plus (λ j. w j * sumTo (halvesOf nodes j) m) (λ j. w j * halvesOf nodes j m) (boxCount nodes)
+      sum-same _ (λ j. w j * sumTo (halvesOf nodes j) m + w j * halvesOf nodes j m) (boxCount nodes) (λ j _. mul-add (w j) (sumTo (halvesOf nodes j) m) (halvesOf nodes j m))
+      ∙ sum-plus (λ j. w j * sumTo (halvesOf nodes j) m) (λ j. w j * halvesOf nodes j m) (boxCount nodes)
       in
       omega arith
 

@@ -3,6 +3,7 @@ pub mod Boxed
 pub mod Walk
 pub mod SwapLaws
 pub mod BoxedLaws
+pub mod BoxedHitLaws
 pub mod FoldLaws
 pub mod CountLaws
 pub mod UnderLaws
