@@ -33,13 +33,13 @@ boxedMeetAt scene ray i = boxedAt (scene .points) (scene .uses) (scene .kinds) r
 -- ---- the nearest
 
 -- what is held with the triangle at place i
-abbrev pub nearestStep : Scene → Ray → Nearest → ℕ → Nearest
-nearestStep scene ray held i = nearerOf held i (boxedMeetAt scene ray i)
+abbrev pub nearestStep : List Float → List ℕ → List ℕ → Ray → Nearest → ℕ → Nearest
+nearestStep points uses kinds ray held i = nearerOf held i (boxedAt points uses kinds ray i)
 
 -- among the first n triangles
 unfoldable pub nearestBoxedTo : Scene → Ray → ℕ → Nearest
 nearestBoxedTo scene ray zero = Nothing
-nearestBoxedTo scene ray (suc i) = nearestStep scene ray (nearestBoxedTo scene ray i) i
+nearestBoxedTo scene ray (suc i) = nearerOf (nearestBoxedTo scene ray i) i (boxedMeetAt scene ray i)
 
 -- and among all
 unfoldable pub nearestBoxed : Scene → Ray → Nearest
@@ -47,13 +47,13 @@ nearestBoxed scene ray = nearestBoxedTo scene ray (length (scene .uses))
 
 -- ---- the hits, by distance and then by place, and what passes
 
-abbrev pub hitsStep : Scene → Ray → List Struck → ℕ → List Struck
-hitsStep scene ray held i = withMeet held i (boxedMeetAt scene ray i)
+abbrev pub hitsStep : List Float → List ℕ → List ℕ → Ray → List Struck → ℕ → List Struck
+hitsStep points uses kinds ray held i = withMeet held i (boxedAt points uses kinds ray i)
 
 -- of the first n triangles
 unfoldable pub hitsBoxed : Scene → Ray → ℕ → List Struck
 hitsBoxed scene ray zero = []
-hitsBoxed scene ray (suc i) = hitsStep scene ray (hitsBoxed scene ray i) i
+hitsBoxed scene ray (suc i) = withMeet (hitsBoxed scene ray i) i (boxedMeetAt scene ray i)
 
 -- what is left of the light after these hits
 abbrev pub passHits : Scene → List Struck → Float

@@ -1,11 +1,12 @@
 -- The walk through a box tree. "Rules for a box and for its two halves refer to each other down to the leaves": a box that is passed over is left out whole;
 -- of an inner box its two halves are visited, the left one first; of a leaf its triangles, one after another. A visit takes what is held and says what is held after
 -- it, so one walk serves for the nearest hit and for the hits; `step` says what a triangle adds.
-use mathlib.Core.Bool.{cond}
+use mathlib.Core.Path.{_≡_}
+use mathlib.Core.Bool.{true, false, cond}
 use mathlib.Core.List.{List, []}
-use Prim.Native.Nat.{ℕ, zero, suc}
+use Prim.Native.Nat.{ℕ, zero, suc, _+_, _*_, _≤_, _<_}
 use lib.Dec.{eqb}
-use lib.ListN.{length}
+use lib.ListN.{length, getD}
 use lib.Ieee.{Float}
 use Rattle.names.specs.Numbers.{depthLimit}
 use Rattle.names.specs.Scene.{Scene}
@@ -14,7 +15,7 @@ use Rattle.hits.specs.Hits.{Struck}
 use Rattle.scan.specs.declared.Nearest.{Nearest}
 use Rattle.scan.specs.declared.Nearest.the-variants.{Nothing}
 use Rattle.boxes.specs.Boxes.{boundsAt, passedOver}
-use Rattle.tree.specs.Tree.{boxCount, countAt, innerAt, leftAt, rightAt, placeAt}
+use Rattle.tree.specs.Tree.{boxCount, countAt, innerAt, leftAt, rightAt, firstAt, placeAt}
 use Rattle.tree_walk.specs.Boxed.{nearestStep, hitsStep, passHits}
 
 module _ {S : Type 0} (step : S → ℕ → S) where
@@ -43,10 +44,20 @@ module _ {S : Type 0} (step : S → ℕ → S) where
 -- ---- of a scene
 
 unfoldable pub nearestThrough : Scene → List Float → List ℕ → List ℕ → Ray → Nearest
-nearestThrough scene boxes nodes order ray = treeVisit (nearestStep scene ray) ray boxes nodes order Nothing
+nearestThrough scene boxes nodes order ray = treeVisit (nearestStep (scene .points) (scene .uses) (scene .kinds) ray) ray boxes nodes order Nothing
 
 unfoldable pub hitsThrough : Scene → List Float → List ℕ → List ℕ → Ray → List Struck
-hitsThrough scene boxes nodes order ray = treeVisit (hitsStep scene ray) ray boxes nodes order []
+hitsThrough scene boxes nodes order ray = treeVisit (hitsStep (scene .points) (scene .uses) (scene .kinds) ray) ray boxes nodes order []
 
 unfoldable pub transmittanceThrough : Scene → List Float → List ℕ → List ℕ → Ray → Float
 transmittanceThrough scene boxes nodes order ray = passHits scene (hitsThrough scene boxes nodes order ray)
+
+-- ---- what a walk needs to stay within the lists; an accepted tree of a sound scene has it (`accepted-walkable`)
+pub record Walkable (points : List Float) (uses kinds : List ℕ) (boxes : List Float) (nodes order : List ℕ) : Type 0 where
+  pub pointsFit : length points ≡ length uses * 9
+  pub useFits : (p : ℕ) → p < length uses → getD uses p 0 < length kinds
+  pub boxesFit : length boxes ≡ boxCount nodes * 6
+  pub leftFits : (i : ℕ) → i < boxCount nodes → innerAt nodes i ≡ true → leftAt nodes i < boxCount nodes
+  pub rightFits : (i : ℕ) → i < boxCount nodes → innerAt nodes i ≡ true → rightAt nodes i < boxCount nodes
+  pub runFits : (i : ℕ) → i < boxCount nodes → innerAt nodes i ≡ false → firstAt nodes i + countAt nodes i ≤ length order
+  pub placeFits : (i k : ℕ) → i < boxCount nodes → innerAt nodes i ≡ false → k < countAt nodes i → placeAt nodes order i k < length uses

@@ -29,9 +29,10 @@ use Rattle.scan.specs.declared.Nearest.the-variants.{Nothing, At}
 use Rattle.boxes.specs.Boxes.{boundsAt, passedOver}
 use Rattle.tree.specs.Tree.{boxCount, countAt, innerAt, leftAt, rightAt, placeAt, presentAt, one, AcceptedTree}
 use Rattle.tree.specs.SumLaws.{positive}
-use Rattle.tree.specs.AcceptedLaws.{halves-passed, triangles-passed}
+use Rattle.tree.specs.TestLaws.{present-within}
+use Rattle.tree.specs.AcceptedLaws.{leaf-present, halves-passed, triangles-passed}
 use Rattle.tree_walk.specs.Boxed.{ownPassed, boxedAt, boxedMeetAt, nearestStep, nearestBoxedTo, nearestBoxed, hitsStep, hitsBoxed, passHits, transmittanceBoxed}
-use Rattle.tree_walk.specs.Walk.{runVisit, nodeVisit, treeVisit, nearestThrough, hitsThrough, transmittanceThrough}
+use Rattle.tree_walk.specs.Walk.{runVisit, nodeVisit, treeVisit, nearestThrough, hitsThrough, transmittanceThrough, Walkable}
 use Rattle.tree_walk.specs.SwapLaws.{NumberMeet, NumberHeld, nearer-swap, nearer-number, hits-swap, hits-numbers}
 use Rattle.tree_walk.specs.BoxedLaws.{boxed-over, boxed-number, boxed-absent}
 use Rattle.tree_walk.specs.FoldLaws.{foldOf, scanFrom, fold-append, fold-scan}
@@ -123,15 +124,15 @@ module _ (points boxes : List Float) (nodes order : List ℕ) (t : AcceptedTree 
 
 -- ---- of a scene
 
-nearest-scan : (scene : Scene) (ray : Ray) (n : ℕ) → scanFrom (nearestStep scene ray) Nothing n ≡ nearestBoxedTo scene ray n
+nearest-scan : (scene : Scene) (ray : Ray) (n : ℕ) → scanFrom (nearestStep (scene .points) (scene .uses) (scene .kinds) ray) Nothing n ≡ nearestBoxedTo scene ray n
 unfolding nearestBoxedTo
 nearest-scan scene ray zero = refl
-nearest-scan scene ray (suc n) = ap (λ (b : Nearest). nearestStep scene ray b n) (nearest-scan scene ray n)
+nearest-scan scene ray (suc n) = ap (λ (b : Nearest). nearerOf b n (boxedMeetAt scene ray n)) (nearest-scan scene ray n)
 
-hits-scan : (scene : Scene) (ray : Ray) (n : ℕ) → scanFrom (hitsStep scene ray) [] n ≡ hitsBoxed scene ray n
+hits-scan : (scene : Scene) (ray : Ray) (n : ℕ) → scanFrom (hitsStep (scene .points) (scene .uses) (scene .kinds) ray) [] n ≡ hitsBoxed scene ray n
 unfolding hitsBoxed
 hits-scan scene ray zero = refl
-hits-scan scene ray (suc n) = ap (λ (hs : List Struck). hitsStep scene ray hs n) (hits-scan scene ray n)
+hits-scan scene ray (suc n) = ap (λ (hs : List Struck). withMeet hs n (boxedMeetAt scene ray n)) (hits-scan scene ray n)
 
 -- a miss adds nothing
 nearer-missed : (b : Nearest) (i : ℕ) (m : Meet) → m ≡ Miss → nearerOf b i m ≡ b
@@ -142,12 +143,28 @@ hits-missed : (hs : List Struck) (i : ℕ) (m : Meet) → m ≡ Miss → withMee
 unfolding withMeet
 hits-missed hs i m e = rw e refl
 
-module _ (scene : Scene) (sound : Sound scene) (boxes : List Float) (nodes order : List ℕ) (t : AcceptedTree (scene .points) boxes nodes order) (ray : Ray) where
+module _ (scene : Scene) (sound : Sound scene) (boxes : List Float) (nodes order : List ℕ) (t : AcceptedTree (scene .points) boxes nodes order) where
+  -- no index of a walk through it lies past its list
+  pub accepted-walkable : Walkable (scene .points) (scene .uses) (scene .kinds) boxes nodes order
+  accepted-walkable =
+      record {
+        pointsFit = sound .points;
+        useFits = sound .within;
+        boxesFit = t .boxesFit;
+        leftFits = λ i h q. t .leftFollows i h q .1;
+        rightFits = λ i h q. t .rightFollows i h q .1;
+        runFits = t .runFits;
+        placeFits =
+            λ i k h q l.
+            let p : placeAt nodes order i k < length (scene .points) / 9 = present-within (scene .points) (placeAt nodes order i k) (leaf-present (scene .points) boxes nodes order t i k h q l) in
+            omega (arith, sound .points);
+      }
+
   -- the nearest hit through an accepted tree
-  pub walk-nearest : nearestThrough scene boxes nodes order ray ≡ nearestBoxed scene ray
+  pub walk-nearest : (ray : Ray) → nearestThrough scene boxes nodes order ray ≡ nearestBoxed scene ray
   unfolding nearestThrough nearestBoxed
-  walk-nearest =
-      walk-scan (scene .points) boxes nodes order t ray (nearestStep scene ray)
+  walk-nearest ray =
+      walk-scan (scene .points) boxes nodes order t ray (nearestStep (scene .points) (scene .uses) (scene .kinds) ray)
       (λ b p h. nearer-missed b p (boxedMeetAt scene ray p) (boxed-over scene ray p h))
       NumberHeld
       (λ b i h. nearer-number b i (boxedMeetAt scene ray i) h (boxed-number scene ray i))
@@ -158,10 +175,10 @@ module _ (scene : Scene) (sound : Sound scene) (boxes : List Float) (nodes order
       ∙ nearest-scan scene ray (length (scene .uses))
 
   -- the hits
-  pub walk-hits : hitsThrough scene boxes nodes order ray ≡ hitsBoxed scene ray (length (scene .uses))
+  pub walk-hits : (ray : Ray) → hitsThrough scene boxes nodes order ray ≡ hitsBoxed scene ray (length (scene .uses))
   unfolding hitsThrough
-  walk-hits =
-      walk-scan (scene .points) boxes nodes order t ray (hitsStep scene ray)
+  walk-hits ray =
+      walk-scan (scene .points) boxes nodes order t ray (hitsStep (scene .points) (scene .uses) (scene .kinds) ray)
       (λ hs p h. hits-missed hs p (boxedMeetAt scene ray p) (boxed-over scene ray p h))
       Numbers
       (λ hs i h. hits-numbers hs i (boxedMeetAt scene ray i) h (boxed-number scene ray i))
@@ -172,9 +189,9 @@ module _ (scene : Scene) (sound : Sound scene) (boxes : List Float) (nodes order
       ∙ hits-scan scene ray (length (scene .uses))
 
   -- and what passes
-  pub walk-transmittance : transmittanceThrough scene boxes nodes order ray ≡ transmittanceBoxed scene ray
+  pub walk-transmittance : (ray : Ray) → transmittanceThrough scene boxes nodes order ray ≡ transmittanceBoxed scene ray
   unfolding transmittanceThrough transmittanceBoxed
-  walk-transmittance = ap (passHits scene) walk-hits
+  walk-transmittance ray = ap (passHits scene) (walk-hits ray)
 
 -- two accepted trees of one scene give the same answers
 module _ (scene : Scene) (sound : Sound scene) (ray : Ray) (boxes : List Float) (nodes order : List ℕ) (t : AcceptedTree (scene .points) boxes nodes order)
