@@ -1,17 +1,15 @@
 -- One step of the walk, as the code reads its numbers. Assumes nothing.
 use mathlib.Core.Path.{_≡_, refl, sym, ap, _∙_}
-use mathlib.Core.Bool.{Bool, true, false, cond}
+use mathlib.Core.Bool.{true, false}
 use mathlib.Core.List.{List}
 use Prim.Native.Nat.{ℕ, zero, suc, _+_, _*_, _-_, _<_}
 use native.Mathlib.Numerals.{add-one}
 use native.Mathlib.Omega.{arith}
 use borrow.Author.Tests.{eq-eqb, ne-eqb}
-use lib.Dec.{eqb}
 use lib.ListN.{getD}
 use lib.Ieee.{Float}
 use Rattle.vectors.specs.declared.Ray.{Ray}
 use Rattle.boxes.specs.Boxes.{boundsAt, passedOver}
-use Rattle.boxes.specs.declared.Bounds.{Bounds}
 use Rattle.tree.specs.Tree.{countAt, innerAt, leftAt, rightAt, placeAt}
 use Rattle.tree_walk.specs.Walk.{runVisit, nodeVisit, pairVisit}
 

@@ -11,7 +11,7 @@ use Rattle.triangle.specs.declared.Meet.the-variants.{Miss, Hit}
 use Rattle.panels.specs.Panels.{meetAt}
 use Rattle.hits.specs.Hits.{Struck, struck, before, insertOf, withMeet, hitsOf}
 use Rattle.hits.specs.BeforeLaws.{before-trans}
-use Rattle.scan_laws.specs.HitOrder.{Sorted, none, one, more, hits-sorted, sorted-all}
+use Rattle.scan_laws.specs.HitOrder.{Sorted, none, more, hits-sorted, sorted-all}
 use Rattle.tree_walk.specs.Boxed.{ownPassed, boxedMeetAt, hitsBoxed}
 use Rattle.tree_walk.specs.BoxedLaws.{boxed-over, boxed-met, boxed-missed}
 

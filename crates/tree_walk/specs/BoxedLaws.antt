@@ -1,15 +1,14 @@
 -- What a scan through boxes meets: a hit's distance is a number; nothing of an absent triangle; and where no hit's own padded box is passed over, what the scan
 -- without boxes meets, so that every old answer stands. What its nearest hit is. Assumes nothing.
 use mathlib.Core.Path.{_≡_, refl, sym, ap, _∙_}
-use mathlib.Core.Bool.{Bool, true, false, cond, not, _&&_, false≢true}
+use mathlib.Core.Bool.{Bool, true, false, not, false≢true}
 use mathlib.Core.Logic.{_↔_}
-use Prim.Native.Nat.{ℕ, zero, suc, _*_, _/_, _≤_, _<_}
+use Prim.Native.Nat.{ℕ, zero, suc, _/_, _<_}
 use native.Mathlib.Omega.{arith}
 use borrow.Author.Tests.{lt-ltb}
-use lib.Dec.{ltb}
 use lib.ListN.{length}
 use lib.Ieee.{Float, isNan}
-use Rattle.names.specs.Scene.{Scene, Sound}
+use Rattle.names.specs.Scene.{Scene}
 use Rattle.vectors.specs.declared.Ray.{Ray}
 use Rattle.triangle.specs.Meet.{absentOf}
 use Rattle.triangle.specs.Laws.{absent-missed}

@@ -10,7 +10,7 @@ use lib.Arith.{lt-of-le-ne}
 use lib.Dec.{eqb}
 use lib.Ieee.{Float}
 use Rattle.tree.specs.Tree.{boxCount, innerAt, leftAt, rightAt, sumTo, one, halvesOf, parentsTo, AcceptedTree}
-use Rattle.tree.specs.SumLaws.{one-self, one-other, sum-same, sum-plus}
+use Rattle.tree.specs.SumLaws.{one-other, sum-same, sum-plus}
 use Rattle.tree.specs.AcceptedLaws.{rootless}
 
 module _ (w : ℕ → ℕ) where

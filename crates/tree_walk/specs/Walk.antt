@@ -52,8 +52,8 @@ hitsThrough scene boxes nodes order ray = treeVisit (hitsStep (scene .points) (s
 unfoldable pub transmittanceThrough : Scene → List Float → List ℕ → List ℕ → Ray → Float
 transmittanceThrough scene boxes nodes order ray = passHits scene (hitsThrough scene boxes nodes order ray)
 
--- ---- what a walk needs to stay within the lists; an accepted tree of a sound scene has it (`accepted-walkable`)
-pub record Walkable (points : List Float) (uses kinds : List ℕ) (boxes : List Float) (nodes order : List ℕ) : Type 0 where
+-- ---- what a walk needs to stay within the lists; an accepted tree of a sound scene has it (`accepted-fits`)
+pub record TreeFits (points : List Float) (uses kinds : List ℕ) (boxes : List Float) (nodes order : List ℕ) : Type 0 where
   pub pointsFit : length points ≡ length uses * 9
   pub useFits : (p : ℕ) → p < length uses → getD uses p 0 < length kinds
   pub boxesFit : length boxes ≡ boxCount nodes * 6

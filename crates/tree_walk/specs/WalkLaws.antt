@@ -2,38 +2,32 @@
 -- A box that is passed over may be left out, since then every triangle's own box under it is passed over; the others come in the order of the tree, and the order
 -- does not matter; each present triangle comes once. So two accepted trees of one scene give the same answers. Assumes nothing.
 use mathlib.Core.Path.{_≡_, refl, sym, ap, _∙_}
-use mathlib.Core.Bool.{Bool, true, false, cond, not, _&&_, false≢true}
+use mathlib.Core.Bool.{Bool, true, false, cond}
 use mathlib.Core.List.{List, [], _∷_, _++_}
 use Prim.Native.Nat.{ℕ, zero, suc, _*_, _/_, _≤_, _<_}
 use native.Mathlib.Omega.{arith}
-use borrow.Author.Tests.{lt-ltb, le-ltb, eqb-true, eqb-false}
-use lib.Dec.{eqb, ltb}
+use borrow.Author.Tests.{le-ltb, eqb-true, eqb-false}
+use lib.Dec.{eqb}
 use lib.ListN.{length}
 use lib.Ieee.{Float}
 use Rattle.names.specs.Numbers.{depthLimit}
 use Rattle.names.specs.Scene.{Scene, Sound}
 use Rattle.vectors.specs.declared.Ray.{Ray}
-use Rattle.triangle.specs.Meet.{absentOf}
-use Rattle.triangle.specs.Laws.{absent-missed}
-use Rattle.triangle.specs.Places.{triangleAt}
 use Rattle.triangle.specs.declared.Meet.{Meet}
-use Rattle.triangle.specs.declared.Meet.the-variants.{Miss, Hit}
-use Rattle.panels.specs.Panels.{metAt, meetAt}
-use Rattle.panels.specs.PanelLaws.{missed-at}
+use Rattle.triangle.specs.declared.Meet.the-variants.{Miss}
 use Rattle.hits.specs.Hits.{Struck, withMeet}
 use Rattle.hits.specs.Merge.{Numbers}
-use Rattle.hits.specs.BeforeLaws.{hit-number}
 use Rattle.scan.specs.Nearest.{nearerOf}
 use Rattle.scan.specs.declared.Nearest.{Nearest}
-use Rattle.scan.specs.declared.Nearest.the-variants.{Nothing, At}
+use Rattle.scan.specs.declared.Nearest.the-variants.{Nothing}
 use Rattle.boxes.specs.Boxes.{boundsAt, passedOver}
 use Rattle.tree.specs.Tree.{boxCount, countAt, innerAt, leftAt, rightAt, placeAt, presentAt, one, AcceptedTree}
 use Rattle.tree.specs.SumLaws.{positive}
 use Rattle.tree.specs.TestLaws.{present-within}
 use Rattle.tree.specs.AcceptedLaws.{leaf-present, halves-passed, triangles-passed}
-use Rattle.tree_walk.specs.Boxed.{ownPassed, boxedAt, boxedMeetAt, nearestStep, nearestBoxedTo, nearestBoxed, hitsStep, hitsBoxed, passHits, transmittanceBoxed}
-use Rattle.tree_walk.specs.Walk.{runVisit, nodeVisit, treeVisit, nearestThrough, hitsThrough, transmittanceThrough, Walkable}
-use Rattle.tree_walk.specs.SwapLaws.{NumberMeet, NumberHeld, nearer-swap, nearer-number, hits-swap, hits-numbers}
+use Rattle.tree_walk.specs.Boxed.{ownPassed, boxedMeetAt, nearestStep, nearestBoxedTo, nearestBoxed, hitsStep, hitsBoxed, passHits, transmittanceBoxed}
+use Rattle.tree_walk.specs.Walk.{runVisit, nodeVisit, treeVisit, nearestThrough, hitsThrough, transmittanceThrough, TreeFits}
+use Rattle.tree_walk.specs.SwapLaws.{NumberHeld, nearer-swap, nearer-number, hits-swap, hits-numbers}
 use Rattle.tree_walk.specs.BoxedLaws.{boxed-over, boxed-number, boxed-absent}
 use Rattle.tree_walk.specs.FoldLaws.{foldOf, scanFrom, fold-append, fold-scan}
 use Rattle.tree_walk.specs.UnderLaws.{runPlaces, placesUnder, root-stands}
@@ -145,8 +139,8 @@ hits-missed hs i m e = rw e refl
 
 module _ (scene : Scene) (sound : Sound scene) (boxes : List Float) (nodes order : List ℕ) (t : AcceptedTree (scene .points) boxes nodes order) where
   -- no index of a walk through it lies past its list
-  pub accepted-walkable : Walkable (scene .points) (scene .uses) (scene .kinds) boxes nodes order
-  accepted-walkable =
+  pub accepted-fits : TreeFits (scene .points) (scene .uses) (scene .kinds) boxes nodes order
+  accepted-fits =
       record {
         pointsFit = sound .points;
         useFits = sound .within;

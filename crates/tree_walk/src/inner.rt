@@ -6,7 +6,7 @@ ghost use lib.ListN.{length, getD};
 ghost use Rattle.names.specs.Scene.{Sound, sceneOf};
 ghost use Rattle.tree.specs.Tree.{boxCount, countAt, innerAt, AcceptedTree};
 ghost use Rattle.tree_walk.specs.Boxed.{ownPassed, nearestStep, nearestBoxed};
-ghost use Rattle.tree_walk.specs.Walk.{runVisit, nodeVisit, pairVisit, Walkable};
+ghost use Rattle.tree_walk.specs.Walk.{runVisit, nodeVisit, pairVisit, TreeFits};
 use names::DEPTH_LIMIT;
 use scan::Nearest;
 use triangle::Meet;
@@ -57,7 +57,7 @@ fn node_visit(
     levels: u8,
     best: Nearest,
 ) -> Nearest
-    requires { ⌜ Walkable (now points) (now uses) (now kinds) (now boxes) (now nodes) (now order) ⌝ }
+    requires { ⌜ TreeFits (now points) (now uses) (now kinds) (now boxes) (now nodes) (now order) ⌝ }
     requires { ⌜ i < boxCount (now nodes) ⌝ }
     ensures { λ r. ⌜ r ≡ nodeVisit (nearestStep (now (points .entry)) (now (uses .entry)) (now (kinds .entry)) ray) ray (now (boxes .entry)) (now (nodes .entry)) (now (order .entry)) levels i best ⌝ }
 {
@@ -102,12 +102,34 @@ fn pair_visit(
     levels: u8,
     best: Nearest,
 ) -> Nearest
-    requires { ⌜ Walkable (now points) (now uses) (now kinds) (now boxes) (now nodes) (now order) ⌝ }
+    requires { ⌜ TreeFits (now points) (now uses) (now kinds) (now boxes) (now nodes) (now order) ⌝ }
     requires { ⌜ (left < boxCount (now nodes)) × (right < boxCount (now nodes)) ⌝ }
     ensures { λ r. ⌜ r ≡ pairVisit (nearestStep (now (points .entry)) (now (uses .entry)) (now (kinds .entry)) ray) ray (now (boxes .entry)) (now (nodes .entry)) (now (order .entry)) levels left right best ⌝ }
 {
-    let held = node_visit(points, uses, kinds, boxes, nodes, order, ray, left, levels, best);
-    node_visit(points, uses, kinds, boxes, nodes, order, ray, right, levels, held)
+    let held = node_visit(
+        points,
+        uses,
+        kinds,
+        boxes,
+        nodes,
+        order,
+        ray,
+        left,
+        levels,
+        best,
+    );
+    node_visit(
+        points,
+        uses,
+        kinds,
+        boxes,
+        nodes,
+        order,
+        ray,
+        right,
+        levels,
+        held,
+    )
 }
 
 // The triangles of leaf i, in its run's order.
@@ -122,7 +144,7 @@ fn run_visit(
     i: usize,
     best: Nearest,
 ) -> Nearest
-    requires { ⌜ Walkable (now points) (now uses) (now kinds) (now boxes) (now nodes) (now order) ⌝ }
+    requires { ⌜ TreeFits (now points) (now uses) (now kinds) (now boxes) (now nodes) (now order) ⌝ }
     requires { ⌜ (i < boxCount (now nodes)) × (innerAt (now nodes) i ≡ false) ⌝ }
     ensures { λ r. ⌜ r ≡ runVisit (nearestStep (now (points .entry)) (now (uses .entry)) (now (kinds .entry)) ray) (now (nodes .entry)) (now (order .entry)) i (countAt (now (nodes .entry)) i) best ⌝ }
 {

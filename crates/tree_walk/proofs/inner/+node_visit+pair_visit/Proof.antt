@@ -114,10 +114,13 @@ node-visit-pair-visit-requires t c κs =
     let q : innerAt n (s .args .i) ≡ true = inner-read _ _ _ (w .word-at .ensures .0) (c .before .before .if3 .taken) in
     let f = s .pre .1 .0 in (
       subst (λ (m : ℕ). 2 * (s .args .levels - 1) + 1 < m) (s .pre .0) (halves-less _ (e .if1 .left)),
-      (f, (
-        rw (c .before .word-at2 .ensures .0) (f .leftFits (s .args .i) (s .pre .1 .1) q),
-        rw (c .word-at3 .ensures .0) (f .rightFits (s .args .i) (s .pre .1 .1) q),
-      )),
+      (
+        f,
+        (
+          rw (c .before .word-at2 .ensures .0) (f .leftFits (s .args .i) (s .pre .1 .1) q),
+          rw (c .word-at3 .ensures .0) (f .rightFits (s .args .i) (s .pre .1 .1) q),
+        ),
+      ),
     )
 
 node-visit-returns-3 : (t : ℕ) → node-visit-lts.Need-returns-3 (node-calls t) (node-visit-at t) node-visit.Post

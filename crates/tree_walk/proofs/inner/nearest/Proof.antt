@@ -1,8 +1,7 @@
 -- `tree_walk::inner::nearest` meets its contract: it walks from the root, and in an accepted tree the walk is the boxed scan (`walk-nearest`).
-use mathlib.Core.Path.{_≡_, refl, _∙_}
+use mathlib.Core.Path.{_≡_, _∙_}
 use mathlib.Core.List.{List}
-use Prim.Native.Nat.{ℕ, suc, _<_}
-use native.Mathlib.Omega.{arith}
+use Prim.Native.Nat.{ℕ, suc}
 use borrow.Author.Tests.{eq-eqb, ne-eqb}
 use lib.Ieee.{Float}
 use Rattle.names.specs.Numbers.{depthLimit}
@@ -13,7 +12,7 @@ use Rattle.tree.specs.Tree.{boxCount, AcceptedTree}
 use Rattle.tree.specs.SumLaws.{positive}
 use Rattle.tree_walk.specs.Boxed.{nearestStep, nearestBoxed}
 use Rattle.tree_walk.specs.Walk.{nodeVisit, treeVisit, nearestThrough}
-use Rattle.tree_walk.specs.WalkLaws.{accepted-walkable, walk-nearest}
+use Rattle.tree_walk.specs.WalkLaws.{accepted-fits, walk-nearest}
 use borrow.Author.Needs.{needs}
 use Rattle.tree_walk.proofs.inner.nearest.Statement.{statement}
 use Rattle.tree_walk.proofs.inner.nearest.Tie as tie
@@ -41,7 +40,7 @@ node-visit-requires : tie.Need-node-visit-requires
 node-visit-requires c κs =
     let s = c .before .before .before .before .before .before .before .before in
     let a = s .args in
-    (accepted-walkable (sceneOf (a .points .now) (a .uses .now) (a .kinds .now) (a .numbers .now)) (s .pre .0) _ _ _ (s .pre .1), positive _ (c .if1 .left))
+    (accepted-fits (sceneOf (a .points .now) (a .uses .now) (a .kinds .now) (a .numbers .now)) (s .pre .0) _ _ _ (s .pre .1), positive _ (c .if1 .left))
 
 returns-2 : tie.Need-returns-2
 returns-2 c =

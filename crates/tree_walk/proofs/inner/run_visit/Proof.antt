@@ -1,6 +1,6 @@
 -- `tree_walk::inner::run_visit` meets its contract. The loop's invariant: what is held is what the first k triangles of the run come to.
-use mathlib.Core.Path.{_≡_, refl, sym, ap, _∙_}
-use Prim.Native.Nat.{ℕ, _+_, _*_, _≤_, _<_, _-_}
+use mathlib.Core.Path.{_≡_, refl}
+use Prim.Native.Nat.{_*_, _≤_, _<_, _-_}
 use native.Mathlib.Omega.{arith}
 use lib.ListN.{length, getD}
 use Rattle.tree.specs.Tree.{countAt, leftAt, placeAt}
