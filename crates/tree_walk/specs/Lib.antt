@@ -8,3 +8,5 @@ pub mod FoldLaws
 pub mod CountLaws
 pub mod UnderLaws
 pub mod WalkLaws
+pub mod Collect
+pub mod CollectLaws

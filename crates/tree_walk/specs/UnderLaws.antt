@@ -2,11 +2,16 @@
 use mathlib.Core.Path.{_≡_, refl, sym, ap, _∙_}
 use mathlib.Core.Bool.{Bool, true, false, cond}
 use mathlib.Core.List.{List, [], _∷_, _++_}
-use Prim.Native.Nat.{ℕ, zero, suc, _+_, _≤_, _<_}
+use Prim.Native.Nat.{ℕ, zero, suc, _+_, _/_, _≤_, _<_}
 use native.Mathlib.Omega.{arith}
+use borrow.Author.Tests.{ltb-true, ltb-false}
+use lib.Dec.{eqb, ltb}
+use lib.ListN.{length}
 use lib.Ieee.{Float}
 use Rattle.names.specs.Numbers.{depthLimit}
-use Rattle.tree.specs.Tree.{boxCount, countAt, innerAt, leftAt, rightAt, placeAt, presentAt, one, runTo, leafOf, standsTo, Deep, root, left, right, AcceptedTree}
+use Rattle.tree.specs.Tree.{boxCount, countAt, innerAt, leftAt, rightAt, placeAt, presentAt, sumTo, one, runTo, leafOf, standsTo, Deep, root, left, right, AcceptedTree}
+use Rattle.tree.specs.SumLaws.{one-most, one-self, sum-less, sum-plus, sum-none, sum-ones, sum-hit}
+use Rattle.tree.specs.TestLaws.{present-within}
 use Rattle.tree_walk.specs.FoldLaws.{standsIn, stands-append}
 use Rattle.tree_walk.specs.CountLaws.{under-first}
 
@@ -42,6 +47,19 @@ module _ (nodes order : List ℕ) where
   same-places : (m n i : ℕ) → Levels nodes m i → Levels nodes n i → placesUnder nodes order m i ≡ placesUnder nodes order n i
   same-places m n i a b =
       enough m n a ∙ ap (λ (k : ℕ). placesUnder nodes order k i) (let e : m + n ≡ n + m = omega arith in e) ∙ sym (enough n m b)
+
+-- a list of places below n is as long as they stand in it together
+length-stands : (n : ℕ) (l : List ℕ) → ((p : ℕ) → n ≤ p → standsIn p l ≡ 0) → length l ≡ sumTo (λ p. standsIn p l) n
+length-stands n [] h = sym (sum-none n)
+length-stands n (x ∷ l) h =
+    let a = length-stands n l (λ p k. omega (arith, h p k)) in
+    let b = sum-plus (λ p. one (eqb x p)) (λ p. standsIn p l) n in
+    let c = sum-hit x n (below (ltb x n) refl) in
+    omega arith
+  where
+    below : (b : Bool) → ltb x n ≡ b → x < n
+    below true e = ltb-true x n e
+    below false e = absurd (omega (arith, h x (ltb-false x n e), one-self x))
 
 module _ (points boxes : List Float) (nodes order : List ℕ) (t : AcceptedTree points boxes nodes order) where
   -- as many levels as there are boxes are enough, since children follow their parents
@@ -100,3 +118,19 @@ module _ (points boxes : List Float) (nodes order : List ℕ) (t : AcceptedTree 
       by : (b : Bool) → presentAt points p ≡ b → standsTo nodes order (boxCount nodes) p ≡ one b
       by true e = t .standsOnce p e
       by false e = t .othersNowhere p e
+
+  -- so under the root no more stand than the scene has triangles: room for that many hits is enough
+  pub root-room : 0 < boxCount nodes → length (placesUnder nodes order (suc depthLimit) 0) ≤ length points / 9
+  root-room h =
+      let l = placesUnder nodes order (suc depthLimit) 0 in
+      let n = length points / 9 in
+      let a : length l ≡ sumTo (λ p. standsIn p l) n = length-stands n l (λ p k. root-stands h p ∙ past p k) in
+      let b : sumTo (λ p. standsIn p l) n ≤ sumTo (λ p. 1) n = sum-less (λ p. standsIn p l) (λ p. 1) n (λ p _. omega (arith, root-stands h p, one-most (presentAt points p))) in
+      omega (arith, sum-ones n)
+    where
+      past : (p : ℕ) → length points / 9 ≤ p → one (presentAt points p) ≡ 0
+      past p k = by (presentAt points p) refl
+        where
+          by : (b : Bool) → presentAt points p ≡ b → one b ≡ 0
+          by true e = absurd (omega (arith, present-within points p e))
+          by false e = refl
