@@ -53,6 +53,32 @@ module _ {A B : Type 0} (f : A → ℕ → A) (g : B → ℕ → B) (R : A → B
   unfolding treeVisit
   tree-kept a b r = pick (eqb (boxCount nodes) 0) _ _ _ _ r (node-kept (suc depthLimit) 0 a b r)
 
+-- ---- after a hit that stops light nothing is added, so that a walk may end there
+
+module _ {S : Type 0} (step : S → ℕ → S) (s : S) (still : (p : ℕ) → step s p ≡ s) (ray : Ray) (boxes : List Float) (nodes order : List ℕ) where
+  run-still : (i k : ℕ) → runVisit step nodes order i k s ≡ s
+  unfolding runVisit
+  run-still i zero = refl
+  run-still i (suc k) = rw (run-still i k) (still (placeAt nodes order i k))
+
+  node-still : (levels i : ℕ) → nodeVisit step ray boxes nodes order levels i s ≡ s
+  unfolding nodeVisit
+  node-still zero i = refl
+  node-still (suc levels) i = rw (node-still levels (leftAt nodes i), node-still levels (rightAt nodes i), run-still i (countAt nodes i), either (innerAt nodes i)) (either (passedOver (ray .origin) (ray .direction) (boundsAt boxes i)))
+    where
+      either : (b : Bool) → cond b s s ≡ s
+      either true = refl
+      either false = refl
+
+pub run-dark : (points : List Float) (uses kinds : List ℕ) (ray : Ray) (nodes order : List ℕ) (i k : ℕ) → runVisit (collectStep points uses kinds ray) nodes order i k dark ≡ dark
+unfolding collectMeet
+run-dark points uses kinds ray nodes order i k = run-still (collectStep points uses kinds ray) dark (λ p. refl) ray [] nodes order i k
+
+pub node-dark : (points : List Float) (uses kinds : List ℕ) (ray : Ray) (boxes : List Float) (nodes order : List ℕ) (levels i : ℕ)
+    → nodeVisit (collectStep points uses kinds ray) ray boxes nodes order levels i dark ≡ dark
+unfolding collectMeet
+node-dark points uses kinds ray boxes nodes order levels i = node-still (collectStep points uses kinds ray) dark (λ p. refl) ray boxes nodes order levels i
+
 -- ---- what is collected, beside the hits in order
 
 insert-last : (h : Struck) (gs : List Struck) → sortOf (gs ++ (h ∷ [])) ≡ insertOf h (sortOf gs)

@@ -10,3 +10,4 @@ pub mod UnderLaws
 pub mod WalkLaws
 pub mod Collect
 pub mod CollectLaws
+pub mod BoxedFigures

@@ -6,7 +6,7 @@ use Prim.Native.Nat.{ℕ, zero, suc, _+_, _/_, _≤_, _<_}
 use native.Mathlib.Omega.{arith}
 use borrow.Author.Tests.{ltb-true, ltb-false}
 use lib.Dec.{eqb, ltb}
-use lib.ListN.{length}
+use lib.ListN.{length, length-append}
 use lib.Ieee.{Float}
 use Rattle.names.specs.Numbers.{depthLimit}
 use Rattle.tree.specs.Tree.{boxCount, countAt, innerAt, leftAt, rightAt, placeAt, presentAt, sumTo, one, runTo, leafOf, standsTo, Deep, root, left, right, AcceptedTree}
@@ -36,6 +36,20 @@ module _ (nodes order : List ℕ) where
   unfolding runTo
   run-stands p i zero = refl
   run-stands p i (suc k) = let a = run-stands p i k in omega (arith, stands-append p (runPlaces nodes order i k) (placeAt nodes order i k ∷ []))
+
+  -- as many stand under an inner box as under its halves, and in a leaf as many as it says
+  pub halves-room : (levels i : ℕ) → innerAt nodes i ≡ true
+      → length (placesUnder nodes order (suc levels) i) ≡ length (placesUnder nodes order levels (leftAt nodes i)) + length (placesUnder nodes order levels (rightAt nodes i))
+  unfolding placesUnder
+  halves-room levels i q = rw q (length-append (placesUnder nodes order levels (leftAt nodes i)) (placesUnder nodes order levels (rightAt nodes i)))
+
+  run-room : (i k : ℕ) → length (runPlaces nodes order i k) ≡ k
+  run-room i zero = refl
+  run-room i (suc k) = let a = run-room i k in omega (arith, length-append (runPlaces nodes order i k) (placeAt nodes order i k ∷ []))
+
+  pub leaf-room : (levels i : ℕ) → innerAt nodes i ≡ false → length (placesUnder nodes order (suc levels) i) ≡ countAt nodes i
+  unfolding placesUnder
+  leaf-room levels i q = rw q (run-room i (countAt nodes i))
 
   -- more levels than there are add nothing
   enough : (n e : ℕ) {i : ℕ} → Levels nodes n i → placesUnder nodes order n i ≡ placesUnder nodes order (n + e) i
