@@ -1,7 +1,7 @@
 -- Boxed scans computed, over the two sheets of tree's figures, at z = 0 and z = 1: a ray down through both, and a ray up from z = 3/2 whose distances reach back below zero. There
 -- the full scan hits both sheets behind the origin; their own padded boxes are passed over, so the boxed scan hits nothing: such triangles are the request's differences.
 use mathlib.Core.Path.{_≡_, refl}
-use mathlib.Core.List.{List, [], _∷_, _++_}
+use mathlib.Core.List.{[], _∷_, _++_}
 use Prim.Native.Nat.{ℕ, suc}
 use lib.Ieee as Ieee
 use lib.Ieee.{Float}
