@@ -15,7 +15,7 @@ use Rattle.names.specs.SolidLaws.{other-room}
 use Rattle.vectors.specs.declared.Ray.{Ray}
 use Rattle.triangle.specs.declared.Meet.the-variants.{Hit}
 use Rattle.panels.specs.Panels.{kindAt, stopsLight, meetAt}
-use Rattle.hits.specs.Hits.{Struck, insertOf, placesOf}
+use Rattle.hits.specs.Hits.{Struck, struck, insertOf, placesOf}
 use Rattle.hits.specs.HitLaws.{put-only, hits-all}
 use Rattle.scan.specs.Transmittance.{transmissionAt, passOf, transmittanceOf}
 
@@ -36,13 +36,17 @@ place-of : {h : Struck} (hs : List Struck) → List·Memᴰ h hs → List·Mem�
 place-of [] m = absurd (List·Memᴰ·not-nil m)
 place-of (g ∷ hs) m = ⊎-elim (λ e. List·Memᴰ·head (ap (λ (x : Struck). x .place) e)) (λ n. List·Memᴰ·tail (place-of hs n)) (List·Memᴰ·cases-cons m)
 
--- a triangle that stops light and is met, at whatever place of the order, lets none through
+-- a hit that stops light, at whatever place of the order, leaves nothing
+pub opaque-leaves : (uses kinds : List ℕ) (numbers : List Float) (w : Float) (h : Struck) (hs : List Struck) → List·Memᴰ h hs → stopsLight (kindAt uses kinds (h .place)) ≡ true
+    → passOf uses kinds numbers w (placesOf hs) ≡ zero32
+opaque-leaves uses kinds numbers w h hs m k = opaque-pass uses kinds numbers w (h .place) (placesOf hs) (place-of hs m) k
+
+-- so a triangle that stops light and is met lets none through
 pub opaque-dark : (scene : Scene) (ray : Ray) (i : ℕ) (t u v : Float) (front : Bool) → i < length (scene .uses) → meetAt scene ray i ≡ Hit t u v front
     → stopsLight (kindAt (scene .uses) (scene .kinds) i) ≡ true → transmittanceOf scene ray ≡ zero32
 unfolding transmittanceOf
 opaque-dark scene ray i t u v front h e k =
-    opaque-pass (scene .uses) (scene .kinds) (scene .numbers) one32 i _
-    (place-of _ (hits-all scene ray (length (scene .uses)) i t u v front h e)) k
+    opaque-leaves (scene .uses) (scene .kinds) (scene .numbers) one32 (struck t i) _ (hits-all scene ray (length (scene .uses)) i t u v front h e) k
 
 -- what is left of w after the hits at these places, of which none stops light
 unfoldable pub clearPassOf : List ℕ → List Float → Float → List ℕ → Float

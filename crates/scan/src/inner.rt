@@ -43,7 +43,7 @@ pub fn nearest(points: &[f32], uses: &[u32], kinds: &[u8], numbers: &[f32], ray:
 }
 
 // The better of what is held and a hit at place i.
-fn nearer(best: Nearest, i: usize, t: f32, u: f32, v: f32, front: bool) -> Nearest
+pub fn nearer(best: Nearest, i: usize, t: f32, u: f32, v: f32, front: bool) -> Nearest
     ensures { λ r. ⌜ r ≡ nearerOf best i (Hit t u v front) ⌝ }
 {
     match best {

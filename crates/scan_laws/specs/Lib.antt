@@ -1,4 +1,5 @@
 -- What the two scans mean.
+pub mod BestLaws
 pub mod NearestLaws
 pub mod HitOrder
 pub mod TransmittanceLaws

@@ -218,7 +218,7 @@ fn present(points: &[f32], p: usize) -> bool
 }
 
 // A whole number of a list.
-fn word_at(l: &[u32], k: usize) -> usize
+pub fn word_at(l: &[u32], k: usize) -> usize
     requires { ⌜ k < length (now l) ⌝ }
     ensures { λ r. ⌜ (r ≡ getD (now (l .entry)) k 0) × (r < 4294967296) ⌝ }
 {

@@ -1,0 +1,2 @@
+-- One step of the walk, as the code reads its numbers.
+pub mod Steps
