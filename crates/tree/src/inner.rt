@@ -208,7 +208,7 @@ fn is_missed(points: &[f32], seen: &[u8], p: usize) -> bool
 }
 
 // Whether the scene has a triangle at place p that is not absent.
-fn present(points: &[f32], p: usize) -> bool
+pub fn present(points: &[f32], p: usize) -> bool
     ensures { λ r. ⌜ r ≡ presentAt (now (points .entry)) p ⌝ }
 {
     if points.len() / 9 <= p {
@@ -218,7 +218,7 @@ fn present(points: &[f32], p: usize) -> bool
 }
 
 // A whole number of a list.
-fn word_at(l: &[u32], k: usize) -> usize
+pub fn word_at(l: &[u32], k: usize) -> usize
     requires { ⌜ k < length (now l) ⌝ }
     ensures { λ r. ⌜ (r ≡ getD (now (l .entry)) k 0) × (r < 4294967296) ⌝ }
 {

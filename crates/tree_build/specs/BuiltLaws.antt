@@ -15,7 +15,7 @@ use Rattle.tree_build.specs.RunLaws.{sum-next, times-cut}
 
 -- ---- counting
 
-same-test : (a b : ℕ) → one (eqb a b) ≡ one (eqb b a)
+pub same-test : (a b : ℕ) → one (eqb a b) ≡ one (eqb b a)
 same-test a b = by (eqb a b) refl
   where
     by : (t : Bool) → eqb a b ≡ t → one (eqb a b) ≡ one (eqb b a)

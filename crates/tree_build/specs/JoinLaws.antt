@@ -105,6 +105,12 @@ module _ (points : List Float) (order : List ℕ) where
   abbrev pub NumbersIn : ℕ → ℕ → Type 0
   NumbersIn first m = (k : ℕ) → k < m → NumbersOf (ownBox points order (first + k))
 
+  -- with one triangle more
+  pub run-next : (first k : ℕ) → 1 ≤ k → runBounds points order first (k + 1 - 1) ≡ joinOf (runBounds points order first (k - 1)) (ownBox points order (first + k))
+  unfolding runBounds
+  run-next first zero h = absurd (omega arith)
+  run-next first (suc m) h = let e : suc m + 1 - 1 ≡ suc m = omega arith in let f : suc m - 1 ≡ m = omega arith in rw (e, f) refl
+
   -- its box holds each of them
   pub run-holds : (first m : ℕ) → NumbersIn first (suc m) → (k : ℕ) → k < suc m → insideOf (ownBox points order (first + k)) (runBounds points order first m) ≡ true
   unfolding runBounds

@@ -6,3 +6,5 @@ pub mod BuiltLaws
 pub mod EachBoxLaws
 pub mod PointLaws
 pub mod BuiltAccepted
+pub mod WriteLaws
+pub mod ListedLaws

@@ -1,8 +1,159 @@
+// The tree of a scene: the present triangles are listed, and their run is halved until four or fewer remain.
 ghost use mathlib.Core.Path.{_≡_};
-ghost use Prim.Native.Nat.{_<_};
+ghost use mathlib.Core.Bool.{cond};
+ghost use Prim.Native.Nat.{_+_, _-_, _*_, _/_, _≤_, _<_};
+ghost use lib.ListN.{length, getD, set};
+ghost use Rattle.names.specs.Numbers.{triangleLimit};
+ghost use Rattle.tree.specs.Tree.{presentAt};
+ghost use Rattle.tree_build.specs.Built.{joinOf, ownBox, runBounds, EachOnce, PlacesIn, Arranged, PutVec, PutBounds, PutNode, Grown};
+use boxes::Bounds;
+use vectors::Vec3;
+
+// "until four or fewer remain"
+const LEAF_LIMIT: usize = 4;
+
+// ---- the order
+
+// Lists the places of the present triangles. Answers how many there are.
+fn list_present(points: &[f32], order: &mut [u32]) -> usize
+    requires { ⌜ (length (now points) / 9 ≤ length (now order)) × (length (now points) / 9 ≤ triangleLimit) ⌝ }
+    ensures { λ r. ⌜ (r ≤ length (now (points .entry)) / 9) × EachOnce (now (points .entry)) (now (order .exit)) r ⌝ }
+{
+    let t = points.len() / 9;
+    let mut n = 0;
+    let mut p = 0;
+    while p < t {
+        n = list_one(points, order, n, p);
+        p += 1;
+    }
+    n
+}
+
+// Lists place p after n others if its triangle is present. Answers how many are listed then.
+fn list_one(points: &[f32], order: &mut [u32], n: usize, p: usize) -> usize
+    requires { ⌜ (n < length (now order)) × (p < triangleLimit) ⌝ }
+    ensures { λ r. ⌜ (r ≡ cond (presentAt (now (points .entry)) p) (n + 1) n) × (now (order .exit) ≡ cond (presentAt (now (points .entry)) p) (set (now (order .entry)) n p) (now (order .entry))) ⌝ }
+{
+    if tree::inner::present(points, p) {
+        order[n] = small(p);
+        return n + 1;
+    }
+    n
+}
+
+// Puts a run of triangles in the order in which it is halved.
+fn arrange(points: &[f32], order: &mut [u32], first: usize, count: usize)
+    requires { ⌜ first + count ≤ length (now order) ⌝ }
+    requires places { ⌜ PlacesIn (now points) (now order) first count ⌝ }
+    ensures { λ _. ⌜ Arranged (now (order .entry)) (now (order .exit)) first count ⌝ }
+{
+}
+
+// ---- boxes
+
+// Writes the boxes of a run of triangles from box `at` on. Answers the box after them.
+fn grow(
+    points: &[f32],
+    boxes: &mut [f32],
+    nodes: &mut [u32],
+    order: &mut [u32],
+    at: usize,
+    first: usize,
+    count: usize,
+) -> usize
+    requires some { ⌜ 1 ≤ count ⌝ }
+    requires few { ⌜ (at + count ≤ triangleLimit) × (first + count ≤ triangleLimit) ⌝ }
+    requires room { ⌜ ((at + count) * 6 ≤ length (now boxes)) × ((at + count) * 3 ≤ length (now nodes)) × (first + count ≤ length (now order)) ⌝ }
+    requires places { ⌜ PlacesIn (now points) (now order) first count ⌝ }
+    ensures { λ r. ⌜ Grown (now (points .entry)) (now (boxes .entry)) (now (boxes .exit)) (now (nodes .entry)) (now (nodes .exit)) (now (order .entry)) (now (order .exit)) at first count r ⌝ }
+{
+    if count <= LEAF_LIMIT {
+        put_run(points, boxes, order, at, first, count);
+        put_node(nodes, at, small(count), small(first), 0);
+        return at + 1;
+    }
+    arrange(points, order, first, count);
+    let half = count / 2;
+    let middle = grow(points, boxes, nodes, order, at + 1, first, half);
+    let end = grow(points, boxes, nodes, order, middle, first + half, count - half);
+    put_run(points, boxes, order, at, first, count);
+    put_node(nodes, at, 0, small(at + 1), small(middle));
+    end
+}
+
+// Writes the bounds of a run of triangles as those of box `at`.
+fn put_run(
+    points: &[f32],
+    boxes: &mut [f32],
+    order: &[u32],
+    at: usize,
+    first: usize,
+    count: usize,
+)
+    requires { ⌜ (1 ≤ count) × (first + count ≤ length (now order)) × (at * 6 + 6 ≤ length (now boxes)) ⌝ }
+    requires places { ⌜ PlacesIn (now points) (now order) first count ⌝ }
+    ensures { λ _. ⌜ PutBounds (now (boxes .entry)) (now (boxes .exit)) at (runBounds (now (points .entry)) (now (order .entry)) first (count - 1)) ⌝ }
+{
+    let b = run_bounds(points, order, first, count);
+    put_vec(boxes, at * 6, b.low);
+    put_vec(boxes, at * 6 + 3, b.high);
+}
+
+// The box around a run of triangles.
+fn run_bounds(points: &[f32], order: &[u32], first: usize, count: usize) -> Bounds
+    requires { ⌜ (1 ≤ count) × (first + count ≤ length (now order)) ⌝ }
+    requires places { ⌜ PlacesIn (now points) (now order) first count ⌝ }
+    ensures { λ r. ⌜ r ≡ runBounds (now (points .entry)) (now (order .entry)) first (count - 1) ⌝ }
+{
+    let mut b = own_box(points, order, first);
+    let mut k = 1;
+    while k < count {
+        b = join(b, own_box(points, order, first + k));
+        k += 1;
+    }
+    b
+}
+
+// The padded box of the triangle at a place of the order.
+fn own_box(points: &[f32], order: &[u32], k: usize) -> Bounds
+    requires { ⌜ (k < length (now order)) × (getD (now order) k 0 < length (now points) / 9) ⌝ }
+    ensures { λ r. ⌜ r ≡ ownBox (now (points .entry)) (now (order .entry)) k ⌝ }
+{
+    boxes::inner::padded(triangle::inner::at(points, tree::inner::word_at(order, k)))
+}
+
+// The box around two.
+fn join(a: Bounds, b: Bounds) -> Bounds
+    ensures { λ r. ⌜ r ≡ joinOf a b ⌝ }
+{
+    let low = vectors::smaller(a.low, b.low);
+    let high = vectors::larger(a.high, b.high);
+    Bounds { low, high }
+}
+
+// ---- what is written
+
+fn put_vec(boxes: &mut [f32], k: usize, v: Vec3)
+    requires { ⌜ k + 3 ≤ length (now boxes) ⌝ }
+    ensures { λ _. ⌜ PutVec (now (boxes .entry)) (now (boxes .exit)) k v ⌝ }
+{
+    boxes[k] = v.x;
+    boxes[k + 1] = v.y;
+    boxes[k + 2] = v.z;
+}
+
+fn put_node(nodes: &mut [u32], at: usize, count: u32, left: u32, right: u32)
+    requires { ⌜ at * 3 + 3 ≤ length (now nodes) ⌝ }
+    ensures { λ _. ⌜ PutNode (now (nodes .entry)) (now (nodes .exit)) at count left right ⌝ }
+{
+    let k = at * 3;
+    nodes[k] = count;
+    nodes[k + 1] = left;
+    nodes[k + 2] = right;
+}
 
 fn small(x: usize) -> u32
-    requires { ⌜ x < 4294967296 ⌝ }
+    requires { ⌜ x ≤ triangleLimit ⌝ }
     ensures { λ r. ⌜ r ≡ x ⌝ }
 {
     x as u32
