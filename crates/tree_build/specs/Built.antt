@@ -7,6 +7,7 @@ use Prim.Native.Nat.{ℕ, zero, suc, _+_, _-_, _*_, _/_, _≤_, _<_}
 use lib.Dec.{eqb, leb}
 use lib.ListN.{length, getD}
 use lib.Ieee.{Float, nan}
+use Rattle.names.specs.Numbers.{triangleLimit}
 use Rattle.vectors.specs.Vectors.{largerV, smallerV}
 use Rattle.vectors.specs.Places.{vecAt}
 use Rattle.vectors.specs.declared.Vec3.{Vec3}
@@ -71,6 +72,16 @@ EachOnce points order n = (p : ℕ) → timesIn order 0 n p ≡ one (presentAt p
 -- a run of places of triangles
 abbrev pub PlacesIn : List Float → List ℕ → ℕ → ℕ → Type 0
 PlacesIn points order first count = (p : ℕ) → length points / 9 ≤ p → timesIn order first count p ≡ 0
+
+-- what the builder asks: a run of places of triangles, and room for a box for each of them
+pub record RunFits (points boxes : List Float) (nodes order : List ℕ) (at first count : ℕ) : Type 0 where
+  pub some : 1 ≤ count
+  pub boxesFew : at + count ≤ triangleLimit
+  pub placesFew : first + count ≤ triangleLimit
+  pub boxesLong : (at + count) * 6 ≤ length boxes
+  pub nodesLong : (at + count) * 3 ≤ length nodes
+  pub orderLong : first + count ≤ length order
+  pub places : PlacesIn points order first count
 
 -- ---- what a step leaves
 

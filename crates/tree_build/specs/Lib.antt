@@ -8,3 +8,4 @@ pub mod PointLaws
 pub mod BuiltAccepted
 pub mod WriteLaws
 pub mod ListedLaws
+pub mod GrownLaws

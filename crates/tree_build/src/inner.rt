@@ -5,7 +5,7 @@ ghost use Prim.Native.Nat.{_+_, _-_, _*_, _/_, _≤_, _<_};
 ghost use lib.ListN.{length, getD, set};
 ghost use Rattle.names.specs.Numbers.{triangleLimit};
 ghost use Rattle.tree.specs.Tree.{presentAt};
-ghost use Rattle.tree_build.specs.Built.{joinOf, ownBox, runBounds, EachOnce, PlacesIn, Arranged, PutVec, PutBounds, PutNode, Grown};
+ghost use Rattle.tree_build.specs.Built.{joinOf, ownBox, runBounds, EachOnce, PlacesIn, RunFits, Arranged, PutVec, PutBounds, PutNode, Grown};
 use boxes::Bounds;
 use vectors::Vec3;
 
@@ -46,8 +46,7 @@ fn arrange(points: &[f32], order: &mut [u32], first: usize, count: usize)
     requires { ⌜ first + count ≤ length (now order) ⌝ }
     requires places { ⌜ PlacesIn (now points) (now order) first count ⌝ }
     ensures { λ _. ⌜ Arranged (now (order .entry)) (now (order .exit)) first count ⌝ }
-{
-}
+{}
 
 // ---- boxes
 
@@ -61,10 +60,7 @@ fn grow(
     first: usize,
     count: usize,
 ) -> usize
-    requires some { ⌜ 1 ≤ count ⌝ }
-    requires few { ⌜ (at + count ≤ triangleLimit) × (first + count ≤ triangleLimit) ⌝ }
-    requires room { ⌜ ((at + count) * 6 ≤ length (now boxes)) × ((at + count) * 3 ≤ length (now nodes)) × (first + count ≤ length (now order)) ⌝ }
-    requires places { ⌜ PlacesIn (now points) (now order) first count ⌝ }
+    requires { ⌜ RunFits (now points) (now boxes) (now nodes) (now order) at first count ⌝ }
     ensures { λ r. ⌜ Grown (now (points .entry)) (now (boxes .entry)) (now (boxes .exit)) (now (nodes .entry)) (now (nodes .exit)) (now (order .entry)) (now (order .exit)) at first count r ⌝ }
 {
     if count <= LEAF_LIMIT {
@@ -75,21 +71,22 @@ fn grow(
     arrange(points, order, first, count);
     let half = count / 2;
     let middle = grow(points, boxes, nodes, order, at + 1, first, half);
-    let end = grow(points, boxes, nodes, order, middle, first + half, count - half);
+    let end = grow(
+        points,
+        boxes,
+        nodes,
+        order,
+        middle,
+        first + half,
+        count - half,
+    );
     put_run(points, boxes, order, at, first, count);
     put_node(nodes, at, 0, small(at + 1), small(middle));
     end
 }
 
 // Writes the bounds of a run of triangles as those of box `at`.
-fn put_run(
-    points: &[f32],
-    boxes: &mut [f32],
-    order: &[u32],
-    at: usize,
-    first: usize,
-    count: usize,
-)
+fn put_run(points: &[f32], boxes: &mut [f32], order: &[u32], at: usize, first: usize, count: usize)
     requires { ⌜ (1 ≤ count) × (first + count ≤ length (now order)) × (at * 6 + 6 ≤ length (now boxes)) ⌝ }
     requires places { ⌜ PlacesIn (now points) (now order) first count ⌝ }
     ensures { λ _. ⌜ PutBounds (now (boxes .entry)) (now (boxes .exit)) at (runBounds (now (points .entry)) (now (order .entry)) first (count - 1)) ⌝ }
