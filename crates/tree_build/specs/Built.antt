@@ -1,11 +1,11 @@
 -- "A builder that halves a run of triangles until four or fewer remain". A run is a part of the order; its box stands before those of its halves, the left
 -- half's at once after it. Nothing here asks how the order was come by. Assumes nothing.
 use mathlib.Core.Path.{_≡_}
-use mathlib.Core.Bool.{cond}
+use mathlib.Core.Bool.{Bool, true, false, cond, _||_}
 use mathlib.Core.List.{List}
 use Prim.Native.Nat.{ℕ, zero, suc, _+_, _-_, _*_, _/_, _≤_, _<_}
-use lib.Dec.{eqb, leb}
-use lib.ListN.{length, getD}
+use lib.Dec.{eqb, ltb, leb}
+use lib.ListN.{length, getD, take}
 use lib.Ieee.{Float, nan}
 use Rattle.names.specs.Numbers.{triangleLimit}
 use Rattle.vectors.specs.Vectors.{largerV, smallerV}
@@ -14,6 +14,8 @@ use Rattle.vectors.specs.declared.Vec3.{Vec3}
 use Rattle.triangle.specs.Places.{triangleAt}
 use Rattle.boxes.specs.declared.Bounds.{Bounds}
 use Rattle.boxes.specs.Boxes.{boundsAt, paddedOf}
+use Rattle.tree_build.specs.declared.Sizes.{Sizes}
+use Rattle.tree_build.specs.declared.Sizes.the-variants.{TooShort, Tree}
 use Rattle.tree.specs.Tree.{boxCount, countAt, leftAt, rightAt, presentAt, sumTo, one}
 
 -- ---- a run's box
@@ -51,9 +53,9 @@ module _ (points boxes : List Float) (nodes order : List ℕ) where
     pair : {at first count next : ℕ} (middle : ℕ) → leafLimit < count → Holds at first count 0 (at + 1) middle → Built (at + 1) first (count / 2) middle
         → Built middle (first + count / 2) (count - count / 2) next → Built at first count next
 
--- how many boxes a run's tree has: by its length alone, halved k times at most
+-- how many boxes a run of m triangles has, by its length alone: halved fewer than k times, which fewer than m is
 unfoldable pub boxesWithin : ℕ → ℕ → ℕ
-boxesWithin zero m = 1
+boxesWithin zero m = 0
 boxesWithin (suc k) m = cond (leb m leafLimit) 1 (1 + boxesWithin k (m / 2) + boxesWithin k (m - m / 2))
 
 abbrev pub boxesFor : ℕ → ℕ
@@ -64,6 +66,13 @@ boxesFor m = boxesWithin m m
 -- how often p stands in a run
 unfoldable pub timesIn : List ℕ → ℕ → ℕ → ℕ → ℕ
 timesIn order first count p = sumTo (λ k. one (eqb (getD order (first + k) 0) p)) count
+
+-- how many triangles are present before place p, and in all
+unfoldable pub presentTo : List Float → ℕ → ℕ
+presentTo points p = sumTo (λ j. one (presentAt points j)) p
+
+abbrev pub presentIn : List Float → ℕ
+presentIn points = presentTo points (length points / 9)
 
 -- every present triangle stands once among the first n of the order, and nothing else does
 abbrev pub EachOnce : List Float → List ℕ → ℕ → Type 0
@@ -90,6 +99,12 @@ pub record Kept {A : Type 0} (d : A) (l m : List A) (from to : ℕ) : Type 0 whe
   pub same : length m ≡ length l
   pub below : (k : ℕ) → k < from → getD m k d ≡ getD l k d
   pub above : (k : ℕ) → to ≤ k → getD m k d ≡ getD l k d
+
+-- the present triangles listed, r of them
+pub record Listed (points : List Float) (l m : List ℕ) (r : ℕ) : Type 0 where
+  pub number : r ≡ presentIn points
+  pub once : EachOnce points m r
+  pub kept : Kept 0 l m 0 r
 
 -- a run in another order
 pub record Arranged (l m : List ℕ) (first count : ℕ) : Type 0 where
@@ -120,6 +135,14 @@ pub record Grown (points boxes boxes′ : List Float) (nodes nodes′ order orde
 
 -- ---- the tree of a scene
 
+-- room for as many boxes and places as there are triangles, which is enough, is not there
+unfoldable pub shortLists : ℕ → ℕ → ℕ → ℕ → Bool
+shortLists triangles boxes nodes order = ltb boxes (triangles * 6) || ltb nodes (triangles * 3) || ltb order triangles
+
+-- the answer: how many boxes and places
+unfoldable pub sizesOf : Bool → ℕ → Sizes
+sizesOf short n = cond short TooShort (Tree (boxesFor n) n)
+
 -- the three lists, of which nothing is left over: the present triangles in any order, and the boxes of that one run; no box where no triangle is present
 pub record BuiltTree (points boxes : List Float) (nodes order : List ℕ) : Type 0 where
   pub nodesFit : length nodes ≡ boxCount nodes * 3
@@ -128,3 +151,17 @@ pub record BuiltTree (points boxes : List Float) (nodes order : List ℕ) : Type
   pub eachOnce : EachOnce points order (length order)
   pub none : length order ≡ 0 → boxCount nodes ≡ 0
   pub tree : 0 < length order → Built points boxes nodes order 0 0 (length order) (boxCount nodes)
+
+-- the tree of n boxes and m places, behind which nothing changed
+pub record Front (points boxes boxes′ : List Float) (nodes nodes′ order order′ : List ℕ) (n m : ℕ) : Type 0 where
+  pub tree : BuiltTree points (take (n * 6) boxes′) (take (n * 3) nodes′) (take m order′)
+  pub boxesKept : Kept nan boxes boxes′ 0 (n * 6)
+  pub nodesKept : Kept 0 nodes nodes′ 0 (n * 3)
+  pub orderKept : Kept 0 order order′ 0 m
+
+-- what the builder leaves: nothing changed, or the tree at the lists' front
+pub record Made (points boxes boxes′ : List Float) (nodes nodes′ order order′ : List ℕ) (r : Sizes) : Type 0 where
+  pub answer : r ≡ sizesOf (shortLists (length points / 9) (length boxes) (length nodes) (length order)) (presentIn points)
+  pub unchanged : shortLists (length points / 9) (length boxes) (length nodes) (length order) ≡ true → (boxes′ ≡ boxes) × (nodes′ ≡ nodes) × (order′ ≡ order)
+  pub made : shortLists (length points / 9) (length boxes) (length nodes) (length order) ≡ false
+      → Front points boxes boxes′ nodes nodes′ order order′ (boxesFor (presentIn points)) (presentIn points)

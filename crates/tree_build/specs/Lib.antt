@@ -9,3 +9,4 @@ pub mod BuiltAccepted
 pub mod WriteLaws
 pub mod ListedLaws
 pub mod GrownLaws
+pub mod MadeLaws

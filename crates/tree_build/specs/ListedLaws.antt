@@ -7,13 +7,13 @@ use native.Mathlib.Nat.{zero-add}
 use native.Mathlib.Omega.{arith}
 use borrow.Author.Tests.{eqb-true, eqb-false, eq-eqb, ne-eqb}
 use lib.Dec.{eqb}
-use lib.ListN.{length, getD, set}
+use lib.ListN.{length, getD, set, length-set}
 use lib.Seq.{getD-set-same, getD-set-other}
 use lib.Ieee.{Float}
 use Rattle.tree.specs.Tree.{presentAt, sumTo, one}
-use Rattle.tree.specs.SumLaws.{sum-same, sum-none, sum-hit}
+use Rattle.tree.specs.SumLaws.{one-most, sum-less, sum-same, sum-ones, sum-none, sum-hit}
 use Rattle.tree.specs.TestLaws.{present-within}
-use Rattle.tree_build.specs.Built.{timesIn, EachOnce}
+use Rattle.tree_build.specs.Built.{timesIn, presentTo, EachOnce, Kept}
 use Rattle.tree_build.specs.RunLaws.{sum-next, times-same}
 use Rattle.tree_build.specs.BuiltLaws.{same-test}
 
@@ -25,11 +25,35 @@ pub times-next : (order : List ℕ) (first n q : ℕ) → timesIn order first (n
 unfolding timesIn
 times-next order first n q = sum-next (λ k. one (eqb (getD order (first + k) 0) q)) n
 
--- one place more
-pub listed-few : (b : Bool) (n : ℕ) → cond b (n + 1) n ≤ n + 1
-listed-few true n = omega arith
-listed-few false n = omega arith
+-- ---- how many
 
+-- no more than there are places
+pub present-few : (points : List Float) (p : ℕ) → presentTo points p ≤ p
+unfolding presentTo
+present-few points p = omega (arith, sum-less (λ j. one (presentAt points j)) (λ j. 1) p (λ j _. one-most (presentAt points j)), sum-ones p)
+
+-- one place more
+pub present-next : (points : List Float) (p : ℕ) → cond (presentAt points p) (presentTo points p + 1) (presentTo points p) ≡ presentTo points (p + 1)
+unfolding presentTo
+present-next points p = by (presentAt points p) ∙ sym (sum-next (λ j. one (presentAt points j)) p)
+  where
+    by : (b : Bool) → cond b (presentTo points p + 1) (presentTo points p) ≡ presentTo points p + one b
+    by true = refl
+    by false = omega arith
+
+-- what is listed before stays, and nothing behind changed
+pub listed-kept : (b : Bool) (l m : List ℕ) (n p : ℕ) → Kept 0 l m 0 n → Kept 0 l (cond b (set m n p) m) 0 (cond b (n + 1) n)
+listed-kept false l m n p k = k
+listed-kept true l m n p k =
+    record {
+      same = length-set m n p ∙ k .same;
+      below = λ i h. absurd (omega arith);
+      above = λ i h. getD-set-other m n i p 0 (λ (e : i ≡ n). omega arith) ∙ k .above i (omega arith);
+    }
+
+-- ---- which
+
+-- one place more
 pub listed-next : (points : List Float) (order : List ℕ) (n p q : ℕ) → n < length order → timesIn order 0 n q ≡ listedTo points p q
     → timesIn (cond (presentAt points p) (set order n p) order) 0 (cond (presentAt points p) (n + 1) n) q ≡ listedTo points (p + 1) q
 unfolding listedTo

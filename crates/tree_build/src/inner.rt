@@ -5,19 +5,45 @@ ghost use Prim.Native.Nat.{_+_, _-_, _*_, _/_, _≤_, _<_};
 ghost use lib.ListN.{length, getD, set};
 ghost use Rattle.names.specs.Numbers.{triangleLimit};
 ghost use Rattle.tree.specs.Tree.{presentAt};
-ghost use Rattle.tree_build.specs.Built.{joinOf, ownBox, runBounds, EachOnce, PlacesIn, RunFits, Arranged, PutVec, PutBounds, PutNode, Grown};
+ghost use Rattle.tree_build.specs.Built.{joinOf, ownBox, runBounds, Listed, PlacesIn, RunFits, Arranged, PutVec, PutBounds, PutNode, Grown, shortLists, Made};
+use super::Sizes;
 use boxes::Bounds;
 use vectors::Vec3;
 
 // "until four or fewer remain"
 const LEAF_LIMIT: usize = 4;
 
+// The tree of a scene, six numbers and three whole numbers a box and the places of the present triangles, from the front of three lists on. Where a list is
+// too short for as many boxes and places as the scene has triangles, nothing is written.
+pub fn build(points: &[f32], boxes: &mut [f32], nodes: &mut [u32], order: &mut [u32]) -> Sizes
+    requires { ⌜ length (now points) / 9 ≤ triangleLimit ⌝ }
+    ensures { λ r. ⌜ Made (now (points .entry)) (now (boxes .entry)) (now (boxes .exit)) (now (nodes .entry)) (now (nodes .exit)) (now (order .entry)) (now (order .exit)) r ⌝ }
+{
+    if short(points.len() / 9, boxes.len(), nodes.len(), order.len()) {
+        return Sizes::TooShort;
+    }
+    let places = list_present(points, order);
+    if places == 0 {
+        return Sizes::Tree(0, 0);
+    }
+    let end = grow(points, boxes, nodes, order, 0, 0, places);
+    Sizes::Tree(end, places)
+}
+
+// Whether a list is too short.
+fn short(triangles: usize, boxes: usize, nodes: usize, order: usize) -> bool
+    requires { ⌜ triangles ≤ triangleLimit ⌝ }
+    ensures { λ r. ⌜ r ≡ shortLists triangles boxes nodes order ⌝ }
+{
+    (boxes < triangles * 6) | (nodes < triangles * 3) | (order < triangles)
+}
+
 // ---- the order
 
 // Lists the places of the present triangles. Answers how many there are.
 fn list_present(points: &[f32], order: &mut [u32]) -> usize
     requires { ⌜ (length (now points) / 9 ≤ length (now order)) × (length (now points) / 9 ≤ triangleLimit) ⌝ }
-    ensures { λ r. ⌜ (r ≤ length (now (points .entry)) / 9) × EachOnce (now (points .entry)) (now (order .exit)) r ⌝ }
+    ensures { λ r. ⌜ Listed (now (points .entry)) (now (order .entry)) (now (order .exit)) r ⌝ }
 {
     let t = points.len() / 9;
     let mut n = 0;
