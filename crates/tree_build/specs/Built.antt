@@ -41,7 +41,7 @@ leafLimit = 4
 
 module _ (points boxes : List Float) (nodes order : List ℕ) where
   -- what a box holds: its bounds, and its three numbers
-  pub record Holds (i first count a b c : ℕ) : Type 0 where
+  pub record BoxHolds (i first count a b c : ℕ) : Type 0 where
     pub bounds : boundsAt boxes i ≡ runBounds points order first (count - 1)
     pub number : countAt nodes i ≡ a
     pub left : leftAt nodes i ≡ b
@@ -49,8 +49,8 @@ module _ (points boxes : List Float) (nodes order : List ℕ) where
 
   -- from box `at` on, up to `next`, stand the boxes of the run of `count` triangles that begins at `first`
   pub data Built : ℕ → ℕ → ℕ → ℕ → Type 0 where
-    leaf : {at first count : ℕ} → 1 ≤ count → count ≤ leafLimit → Holds at first count count first 0 → Built at first count (at + 1)
-    pair : {at first count next : ℕ} (middle : ℕ) → leafLimit < count → Holds at first count 0 (at + 1) middle → Built (at + 1) first (count / 2) middle
+    leaf : {at first count : ℕ} → 1 ≤ count → count ≤ leafLimit → BoxHolds at first count count first 0 → Built at first count (at + 1)
+    pair : {at first count next : ℕ} (middle : ℕ) → leafLimit < count → BoxHolds at first count 0 (at + 1) middle → Built (at + 1) first (count / 2) middle
         → Built middle (first + count / 2) (count - count / 2) next → Built at first count next
 
 -- how many boxes a run of m triangles has, by its length alone: halved fewer than k times, which fewer than m is
@@ -82,6 +82,12 @@ EachOnce points order n = (p : ℕ) → timesIn order 0 n p ≡ one (presentAt p
 abbrev pub PlacesIn : List Float → List ℕ → ℕ → ℕ → Type 0
 PlacesIn points order first count = (p : ℕ) → length points / 9 ≤ p → timesIn order first count p ≡ 0
 
+pub record RunIn (points : List Float) (order : List ℕ) (first count : ℕ) : Type 0 where
+  pub some : 1 ≤ count
+  pub placesFew : first + count ≤ triangleLimit
+  pub orderLong : first + count ≤ length order
+  pub places : PlacesIn points order first count
+
 -- what the builder asks: a run of places of triangles, and room for a box for each of them
 pub record RunFits (points boxes : List Float) (nodes order : List ℕ) (at first count : ℕ) : Type 0 where
   pub some : 1 ≤ count
@@ -95,7 +101,7 @@ pub record RunFits (points boxes : List Float) (nodes order : List ℕ) (at firs
 -- ---- what a step leaves
 
 -- a list that changed between two places at most
-pub record Kept {A : Type 0} (d : A) (l m : List A) (from to : ℕ) : Type 0 where
+pub record KeptBeside {A : Type 0} (d : A) (l m : List A) (from to : ℕ) : Type 0 where
   pub same : length m ≡ length l
   pub below : (k : ℕ) → k < from → getD m k d ≡ getD l k d
   pub above : (k : ℕ) → to ≤ k → getD m k d ≡ getD l k d
@@ -104,33 +110,33 @@ pub record Kept {A : Type 0} (d : A) (l m : List A) (from to : ℕ) : Type 0 whe
 pub record Listed (points : List Float) (l m : List ℕ) (r : ℕ) : Type 0 where
   pub number : r ≡ presentIn points
   pub once : EachOnce points m r
-  pub kept : Kept 0 l m 0 r
+  pub kept : KeptBeside 0 l m 0 r
 
 -- a run in another order
 pub record Arranged (l m : List ℕ) (first count : ℕ) : Type 0 where
-  pub kept : Kept 0 l m first (first + count)
+  pub kept : KeptBeside 0 l m first (first + count)
   pub times : (p : ℕ) → timesIn m first count p ≡ timesIn l first count p
 
 -- three numbers of a vector, a box's bounds and its three whole numbers, written
 pub record PutVec (l m : List Float) (k : ℕ) (v : Vec3) : Type 0 where
   pub vector : vecAt m k ≡ v
-  pub kept : Kept nan l m k (k + 3)
+  pub kept : KeptBeside nan l m k (k + 3)
 
 pub record PutBounds (l m : List Float) (i : ℕ) (b : Bounds) : Type 0 where
   pub bounds : boundsAt m i ≡ b
-  pub kept : Kept nan l m (i * 6) (i * 6 + 6)
+  pub kept : KeptBeside nan l m (i * 6) (i * 6 + 6)
 
 pub record PutNode (l m : List ℕ) (i a b c : ℕ) : Type 0 where
   pub number : countAt m i ≡ a
   pub left : leftAt m i ≡ b
   pub right : rightAt m i ≡ c
-  pub kept : Kept 0 l m (i * 3) (i * 3 + 3)
+  pub kept : KeptBeside 0 l m (i * 3) (i * 3 + 3)
 
 -- a run's tree, written; the triangles of the run may have changed places
 pub record Grown (points boxes boxes′ : List Float) (nodes nodes′ order order′ : List ℕ) (at first count next : ℕ) : Type 0 where
   pub built : Built points boxes′ nodes′ order′ at first count next
-  pub boxesKept : Kept nan boxes boxes′ (at * 6) (next * 6)
-  pub nodesKept : Kept 0 nodes nodes′ (at * 3) (next * 3)
+  pub boxesKept : KeptBeside nan boxes boxes′ (at * 6) (next * 6)
+  pub nodesKept : KeptBeside 0 nodes nodes′ (at * 3) (next * 3)
   pub arranged : Arranged order order′ first count
 
 -- ---- the tree of a scene
@@ -155,9 +161,9 @@ pub record BuiltTree (points boxes : List Float) (nodes order : List ℕ) : Type
 -- the tree of n boxes and m places, behind which nothing changed
 pub record Front (points boxes boxes′ : List Float) (nodes nodes′ order order′ : List ℕ) (n m : ℕ) : Type 0 where
   pub tree : BuiltTree points (take (n * 6) boxes′) (take (n * 3) nodes′) (take m order′)
-  pub boxesKept : Kept nan boxes boxes′ 0 (n * 6)
-  pub nodesKept : Kept 0 nodes nodes′ 0 (n * 3)
-  pub orderKept : Kept 0 order order′ 0 m
+  pub boxesKept : KeptBeside nan boxes boxes′ 0 (n * 6)
+  pub nodesKept : KeptBeside 0 nodes nodes′ 0 (n * 3)
+  pub orderKept : KeptBeside 0 order order′ 0 m
 
 -- what the builder leaves: nothing changed, or the tree at the lists' front
 pub record Made (points boxes boxes′ : List Float) (nodes nodes′ order order′ : List ℕ) (r : Sizes) : Type 0 where

@@ -10,7 +10,7 @@ use lib.ListN.{length, getD}
 use lib.Ieee.{Float}
 use Rattle.boxes.specs.Boxes.{boundsAt}
 use Rattle.tree.specs.Tree.{boxCount, countAt, innerAt, leftAt, rightAt, firstAt, placeAt, sumTo, one, halvesOf, parentsTo, runTo, leafOf, standsTo}
-use Rattle.tree_build.specs.Built.{leafLimit, runBounds, Holds, Built, leaf, pair, boxesWithin, boxesFor, timesIn}
+use Rattle.tree_build.specs.Built.{leafLimit, runBounds, BoxHolds, Built, leaf, pair, boxesWithin, boxesFor, timesIn}
 use Rattle.tree_build.specs.RunLaws.{sum-next, times-cut}
 
 -- ---- counting
@@ -79,10 +79,10 @@ module _ {points boxes : List Float} {nodes order : List ℕ} where
 
   -- ---- a box's own
 
-  pub inner-of : {at first count b c : ℕ} → Holds points boxes nodes order at first count 0 b c → innerAt nodes at ≡ true
+  pub inner-of : {at first count b c : ℕ} → BoxHolds points boxes nodes order at first count 0 b c → innerAt nodes at ≡ true
   inner-of {at} h = eq-eqb (countAt nodes at) 0 (h .number)
 
-  pub leaf-of : {at first count b c : ℕ} → 1 ≤ count → Holds points boxes nodes order at first count count b c → innerAt nodes at ≡ false
+  pub leaf-of : {at first count b c : ℕ} → 1 ≤ count → BoxHolds points boxes nodes order at first count count b c → innerAt nodes at ≡ false
   leaf-of {at} {first} {count} l h = let e = h .number in ne-eqb (countAt nodes at) 0 (λ (z : countAt nodes at ≡ 0). omega arith)
 
   pub built-bounds : {at first count next : ℕ} → Built points boxes nodes order at first count next → boundsAt boxes at ≡ runBounds points order first (count - 1)

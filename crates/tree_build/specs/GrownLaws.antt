@@ -10,23 +10,23 @@ use Rattle.triangle.specs.Places.{triangleAt}
 use Rattle.boxes.specs.declared.Bounds.{Bounds}
 use Rattle.boxes.specs.Boxes.{boundsAt, paddedOf}
 use Rattle.tree.specs.Tree.{countAt, leftAt, rightAt}
-use Rattle.tree_build.specs.Built.{joinOf, ownBox, runBounds, leafLimit, Holds, Built, leaf, pair, PlacesIn, Kept, Arranged, PutBounds, PutNode, Grown}
+use Rattle.tree_build.specs.Built.{joinOf, ownBox, runBounds, leafLimit, BoxHolds, Built, leaf, pair, PlacesIn, KeptBeside, Arranged, PutBounds, PutNode, Grown}
 use Rattle.tree_build.specs.RunLaws.{places-parts, places-arranged, kept-more, kept-through, arranged-same, arranged-through, arranged-left, arranged-right}
 use Rattle.tree_build.specs.BuiltLaws.{built-some, built-more}
 
 -- ---- where the numbers stay, a tree stays
 
 -- l and m agree from a place up to another
-abbrev pub Agree : {A : Type 0} → A → List A → List A → ℕ → ℕ → Type 0
-Agree d l m from to = (k : ℕ) → from ≤ k → k < to → getD m k d ≡ getD l k d
+abbrev pub SameBetween : {A : Type 0} → A → List A → List A → ℕ → ℕ → Type 0
+SameBetween d l m from to = (k : ℕ) → from ≤ k → k < to → getD m k d ≡ getD l k d
 
-pub run-same : (points : List Float) (l m : List ℕ) (first n : ℕ) → Agree 0 l m first (first + suc n) → runBounds points m first n ≡ runBounds points l first n
+pub run-bounds-same : (points : List Float) (l m : List ℕ) (first n : ℕ) → SameBetween 0 l m first (first + suc n) → runBounds points m first n ≡ runBounds points l first n
 unfolding runBounds
-run-same points l m first zero h = ap (λ (p : ℕ). paddedOf (triangleAt points p)) (h first (omega arith) (omega arith))
-run-same points l m first (suc n) h =
-    ap₂ (λ (a b : Bounds). joinOf a b) (run-same points l m first n (λ k u v. h k u (omega arith))) (ap (λ (p : ℕ). paddedOf (triangleAt points p)) (h (first + suc n) (omega arith) (omega arith)))
+run-bounds-same points l m first zero h = ap (λ (p : ℕ). paddedOf (triangleAt points p)) (h first (omega arith) (omega arith))
+run-bounds-same points l m first (suc n) h =
+    ap₂ (λ (a b : Bounds). joinOf a b) (run-bounds-same points l m first n (λ k u v. h k u (omega arith))) (ap (λ (p : ℕ). paddedOf (triangleAt points p)) (h (first + suc n) (omega arith) (omega arith)))
 
-pub bounds-same : (l m : List Float) (i : ℕ) → Agree nan l m (i * 6) (i * 6 + 6) → boundsAt m i ≡ boundsAt l i
+pub bounds-same : (l m : List Float) (i : ℕ) → SameBetween nan l m (i * 6) (i * 6 + 6) → boundsAt m i ≡ boundsAt l i
 unfolding boundsAt
 bounds-same l m i h =
     rw (
@@ -39,18 +39,18 @@ bounds-same l m i h =
     ) refl
 
 module _ (points boxes boxes′ : List Float) (nodes nodes′ order order′ : List ℕ) where
-  holds-same : {i first count a b c : ℕ} → 1 ≤ count → Agree nan boxes boxes′ (i * 6) (i * 6 + 6) → Agree 0 nodes nodes′ (i * 3) (i * 3 + 3) → Agree 0 order order′ first (first + count)
-      → Holds points boxes nodes order i first count a b c → Holds points boxes′ nodes′ order′ i first count a b c
+  holds-same : {i first count a b c : ℕ} → 1 ≤ count → SameBetween nan boxes boxes′ (i * 6) (i * 6 + 6) → SameBetween 0 nodes nodes′ (i * 3) (i * 3 + 3) → SameBetween 0 order order′ first (first + count)
+      → BoxHolds points boxes nodes order i first count a b c → BoxHolds points boxes′ nodes′ order′ i first count a b c
   unfolding countAt leftAt rightAt
   holds-same {i} {first} {count} s x y z h =
       record {
-        bounds = bounds-same boxes boxes′ i x ∙ h .bounds ∙ sym (run-same points order order′ first (count - 1) (λ k u v. z k u (omega arith)));
+        bounds = bounds-same boxes boxes′ i x ∙ h .bounds ∙ sym (run-bounds-same points order order′ first (count - 1) (λ k u v. z k u (omega arith)));
         number = y (i * 3) (omega arith) (omega arith) ∙ h .number;
         left = y (i * 3 + 1) (omega arith) (omega arith) ∙ h .left;
         right = y (i * 3 + 2) (omega arith) (omega arith) ∙ h .right;
       }
 
-  pub built-same : {at first count next : ℕ} → Agree nan boxes boxes′ (at * 6) (next * 6) → Agree 0 nodes nodes′ (at * 3) (next * 3) → Agree 0 order order′ first (first + count)
+  pub built-same : {at first count next : ℕ} → SameBetween nan boxes boxes′ (at * 6) (next * 6) → SameBetween 0 nodes nodes′ (at * 3) (next * 3) → SameBetween 0 order order′ first (first + count)
       → Built points boxes nodes order at first count next → Built points boxes′ nodes′ order′ at first count next
   built-same x y z (leaf {at} {first} {count} a b h) =
       leaf a b (holds-same a (λ k u v. x k u (omega arith)) (λ k u v. y k u (omega arith)) z h)

@@ -13,7 +13,7 @@ use lib.Ieee.{Float}
 use Rattle.tree.specs.Tree.{presentAt, sumTo, one}
 use Rattle.tree.specs.SumLaws.{one-most, sum-less, sum-same, sum-ones, sum-none, sum-hit}
 use Rattle.tree.specs.TestLaws.{present-within}
-use Rattle.tree_build.specs.Built.{timesIn, presentTo, EachOnce, Kept}
+use Rattle.tree_build.specs.Built.{timesIn, presentTo, EachOnce, KeptBeside}
 use Rattle.tree_build.specs.RunLaws.{sum-next, times-same}
 use Rattle.tree_build.specs.BuiltLaws.{same-test}
 
@@ -42,7 +42,7 @@ present-next points p = by (presentAt points p) ∙ sym (sum-next (λ j. one (pr
     by false = omega arith
 
 -- what is listed before stays, and nothing behind changed
-pub listed-kept : (b : Bool) (l m : List ℕ) (n p : ℕ) → Kept 0 l m 0 n → Kept 0 l (cond b (set m n p) m) 0 (cond b (n + 1) n)
+pub listed-kept : (b : Bool) (l m : List ℕ) (n p : ℕ) → KeptBeside 0 l m 0 n → KeptBeside 0 l (cond b (set m n p) m) 0 (cond b (n + 1) n)
 listed-kept false l m n p k = k
 listed-kept true l m n p k =
     record {

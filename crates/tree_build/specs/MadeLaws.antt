@@ -18,7 +18,7 @@ use Rattle.tree.specs.SumLaws.{positive}
 use Rattle.tree.specs.TestLaws.{neither, present-within}
 use Rattle.tree_build.specs.declared.Sizes.{Sizes}
 use Rattle.tree_build.specs.declared.Sizes.the-variants.{TooShort, Tree}
-use Rattle.tree_build.specs.Built.{Built, boxesWithin, boxesFor, timesIn, presentTo, presentIn, PlacesIn, RunFits, Kept, Arranged, Listed, Grown, shortLists, sizesOf, BuiltTree, Front, Made}
+use Rattle.tree_build.specs.Built.{Built, boxesWithin, boxesFor, timesIn, presentTo, presentIn, PlacesIn, RunFits, KeptBeside, Arranged, Listed, Grown, shortLists, sizesOf, BuiltTree, Front, Made}
 use Rattle.tree_build.specs.RunLaws.{times-same, kept-same, kept-through}
 use Rattle.tree_build.specs.BuiltLaws.{built-most, built-more, built-boxes}
 use Rattle.tree_build.specs.GrownLaws.{built-same}
@@ -72,7 +72,7 @@ module _ (points boxes boxes′ : List Float) (nodes nodes′ order order₁ ord
       let most = built-most (g .built) in
       let number = l .number in
       let few = present-few points (length points / 9) in
-      let kept : Kept 0 order₁ order′ 0 m = subst (λ (x : ℕ). Kept 0 order₁ order′ 0 x) (zero-add m) (g .arranged .kept) in
+      let kept : KeptBeside 0 order₁ order′ 0 m = subst (λ (x : ℕ). KeptBeside 0 order₁ order′ 0 x) (zero-add m) (g .arranged .kept) in
       let x = g .boxesKept .same in
       let y = g .nodesKept .same in
       let z = kept .same in
@@ -123,7 +123,7 @@ module _ (points boxes : List Float) (nodes order : List ℕ) where
               tree = record { nodesFit = refl; boxesFit = refl; few = omega arith; eachOnce = λ p. sym (ap (λ (k : ℕ). timesIn order′ 0 k p) z) ∙ l .once p; none = λ _. refl; tree = λ h. absurd (omega arith) };
               boxesKept = kept-same nan boxes 0 0;
               nodesKept = kept-same 0 nodes 0 0;
-              orderKept = subst (λ (k : ℕ). Kept 0 order order′ 0 k) z (l .kept);
+              orderKept = subst (λ (k : ℕ). KeptBeside 0 order order′ 0 k) z (l .kept);
             }
             );
       }

@@ -12,7 +12,7 @@ use lib.ListN.{length, getD}
 use lib.Ieee.{Float}
 use Rattle.tree.specs.Tree.{sumTo, one}
 use Rattle.tree.specs.SumLaws.{one-self, sum-more, sum-same}
-use Rattle.tree_build.specs.Built.{timesIn, PlacesIn, Kept, Arranged}
+use Rattle.tree_build.specs.Built.{timesIn, PlacesIn, KeptBeside, Arranged}
 
 -- ---- sums, one further and in two parts
 
@@ -45,8 +45,8 @@ module _ (order : List ℕ) (first : ℕ) where
       omega arith
 
 -- a place out of such a run is a triangle's
-pub place-within : (points : List Float) (order : List ℕ) (first count k : ℕ) → PlacesIn points order first count → k < count → getD order (first + k) 0 < length points / 9
-place-within points order first count k h l = by (ltb (getD order (first + k) 0) (length points / 9)) refl
+pub run-place-within : (points : List Float) (order : List ℕ) (first count k : ℕ) → PlacesIn points order first count → k < count → getD order (first + k) 0 < length points / 9
+run-place-within points order first count k h l = by (ltb (getD order (first + k) 0) (length points / 9)) refl
   where
     by : (b : Bool) → ltb (getD order (first + k) 0) (length points / 9) ≡ b → getD order (first + k) 0 < length points / 9
     by true e = ltb-true _ _ e
@@ -61,15 +61,15 @@ places-parts points order first a count h w =
 -- ---- what changed
 
 module _ {A : Type 0} (d : A) where
-  pub kept-same : (l : List A) (from to : ℕ) → Kept d l l from to
+  pub kept-same : (l : List A) (from to : ℕ) → KeptBeside d l l from to
   kept-same l from to = record { same = refl; below = λ k h. refl; above = λ k h. refl }
 
   -- in a part, so in the whole
-  pub kept-more : (l m : List A) (from to a b : ℕ) → a ≤ from → to ≤ b → Kept d l m from to → Kept d l m a b
+  pub kept-more : (l m : List A) (from to a b : ℕ) → a ≤ from → to ≤ b → KeptBeside d l m from to → KeptBeside d l m a b
   kept-more l m from to a b h g k = record { same = k .same; below = λ i q. k .below i (omega arith); above = λ i q. k .above i (omega arith) }
 
   -- one after another
-  pub kept-through : (l m n : List A) (from to : ℕ) → Kept d l m from to → Kept d m n from to → Kept d l n from to
+  pub kept-through : (l m n : List A) (from to : ℕ) → KeptBeside d l m from to → KeptBeside d m n from to → KeptBeside d l n from to
   kept-through l m n from to k j = record { same = j .same ∙ k .same; below = λ i q. j .below i q ∙ k .below i q; above = λ i q. j .above i q ∙ k .above i q }
 
 -- of equal runs the counts are equal

@@ -11,17 +11,17 @@ use Rattle.vectors.specs.declared.Vec3.{Vec3}
 use Rattle.boxes.specs.declared.Bounds.{Bounds}
 use Rattle.boxes.specs.Boxes.{boundsAt}
 use Rattle.tree.specs.Tree.{countAt, leftAt, rightAt}
-use Rattle.tree_build.specs.Built.{Kept, PutVec, PutBounds, PutNode}
+use Rattle.tree_build.specs.Built.{KeptBeside, PutVec, PutBounds, PutNode}
 use Rattle.tree_build.specs.RunLaws.{kept-more, kept-through}
 
 module _ {A : Type 0} (d : A) (l : List A) (k : ℕ) (x y z : A) where
-  abbrev pub three : List A
-  three = set (set (set l k x) (k + 1) y) (k + 2) z
+  abbrev threeSet : List A
+  threeSet = set (set (set l k x) (k + 1) y) (k + 2) z
 
-  three-other : (i : ℕ) → (i ≡ k → ⊥) → (i ≡ k + 1 → ⊥) → (i ≡ k + 2 → ⊥) → getD (three) i d ≡ getD l i d
+  three-other : (i : ℕ) → (i ≡ k → ⊥) → (i ≡ k + 1 → ⊥) → (i ≡ k + 2 → ⊥) → getD (threeSet) i d ≡ getD l i d
   three-other i a b c = getD-set-other (set (set l k x) (k + 1) y) (k + 2) i z d c ∙ getD-set-other (set l k x) (k + 1) i y d b ∙ getD-set-other l k i x d a
 
-  three-kept : Kept d l (three) k (k + 3)
+  three-kept : KeptBeside d l (threeSet) k (k + 3)
   three-kept =
       record {
         same = simp length-set;
@@ -30,18 +30,18 @@ module _ {A : Type 0} (d : A) (l : List A) (k : ℕ) (x y z : A) where
       }
 
   module _ (fits : k + 3 ≤ length l) where
-    three-0 : getD (three) k d ≡ x
+    three-0 : getD (threeSet) k d ≡ x
     three-0 =
         getD-set-other (set (set l k x) (k + 1) y) (k + 2) k z d (λ (e : k ≡ k + 2). omega arith)
         ∙ getD-set-other (set l k x) (k + 1) k y d (λ (e : k ≡ k + 1). omega arith)
         ∙ getD-set-same l k x d (omega arith)
 
-    three-1 : getD (three) (k + 1) d ≡ y
+    three-1 : getD (threeSet) (k + 1) d ≡ y
     three-1 =
         getD-set-other (set (set l k x) (k + 1) y) (k + 2) (k + 1) z d (λ (e : k + 1 ≡ k + 2). omega arith)
         ∙ getD-set-same (set l k x) (k + 1) y d (simp length-set (omega arith))
 
-    three-2 : getD (three) (k + 2) d ≡ z
+    three-2 : getD (threeSet) (k + 2) d ≡ z
     three-2 = getD-set-same (set (set l k x) (k + 1) y) (k + 2) z d (simp length-set (omega arith))
 
 pub vec-put : (l : List Float) (k : ℕ) (v : Vec3) → k + 3 ≤ length l → PutVec l (set (set (set l k (v .x)) (k + 1) (v .y)) (k + 2) (v .z)) k v

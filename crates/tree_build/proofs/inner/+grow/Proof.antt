@@ -64,9 +64,8 @@ grow-returns t c =
 
 grow-arrange-requires : (t : ℕ) → grow-lts.Need-arrange-requires (claims t) (grow-at t) grow.Post
 grow-arrange-requires t c κs =
-    let s = c .before .before .before .before .before .before in
-    let f = s .pre .1 in
-    (omega arith, f .places)
+    let f = c .before .before .before .before .before .before .pre .1 in
+    record { some = f .some; placesFew = f .placesFew; orderLong = f .orderLong; places = f .places }
 
 grow-add-grow : (t : ℕ) → grow-lts.Need-add-grow (claims t) (grow-at t) grow.Post
 grow-add-grow t c = omega arith

@@ -3,7 +3,7 @@ use Prim.Native.Nat.{ℕ, _-_, _/_, _≤_}
 use native.Mathlib.Omega.{arith}
 use lib.ListN.{length}
 use Rattle.tree.specs.Tree.{presentAt}
-use Rattle.tree_build.specs.Built.{timesIn, presentTo, Kept}
+use Rattle.tree_build.specs.Built.{timesIn, presentTo, KeptBeside}
 use Rattle.tree_build.specs.RunLaws.{kept-same}
 use Rattle.tree_build.specs.ListedLaws.{listedTo, present-few, present-next, listed-kept, listed-next, listed-all}
 use Rattle.tree_build.proofs.inner.list_present.Statement.{statement}
@@ -14,7 +14,7 @@ use Rattle.tree_build.proofs.inner.list_one.Reads as list-one-reads
 
 abbrev Inv-loop : tie.InvT-loop
 Inv-loop points order₀ t n₀ p₀ order n p =
-    (p ≤ t) × (n ≡ presentTo points p) × Kept 0 order₀ order 0 n × ((q : ℕ) → timesIn order 0 n q ≡ listedTo points p q)
+    (p ≤ t) × (n ≡ presentTo points p) × KeptBeside 0 order₀ order 0 n × ((q : ℕ) → timesIn order 0 n q ≡ listedTo points p q)
 
 abbrev μ-loop : tie.MeasureT-loop
 μ-loop points order₀ t n₀ p₀ order n p = t - p

@@ -4,7 +4,7 @@ use native.Mathlib.Nat.{add-zero}
 use native.Mathlib.Omega.{arith}
 use borrow.Author.Needs.{needs}
 use Rattle.tree_build.specs.Built.{runBounds}
-use Rattle.tree_build.specs.RunLaws.{place-within}
+use Rattle.tree_build.specs.RunLaws.{run-place-within}
 use Rattle.tree_build.specs.JoinLaws.{run-next}
 use Rattle.tree_build.proofs.inner.run_bounds.Statement.{statement}
 use Rattle.tree_build.proofs.inner.run_bounds.Tie as tie
@@ -23,7 +23,7 @@ abbrev μ-loop : tie.MeasureT-loop
 own-box-requires : tie.Need-own-box-requires Inv-loop μ-loop
 own-box-requires c κs =
     let s = c .before .before in
-    (omega arith, rw (add-zero (s .args .first)) at (place-within (s .args .points .now) (s .args .order .now) (s .args .first) (s .args .count) 0 (s .pre .1) (omega arith)))
+    (omega arith, rw (add-zero (s .args .first)) at (run-place-within (s .args .points .now) (s .args .order .now) (s .args .first) (s .args .count) 0 (s .pre .1) (omega arith)))
 
 -- src/inner.rt:110:5
 loop-holds : tie.Need-loop-holds Inv-loop μ-loop
@@ -38,7 +38,7 @@ add-own-box c = omega arith
 own-box-requires-2 : tie.Need-own-box-requires-2 Inv-loop μ-loop
 own-box-requires-2 c κs =
     let s = c .before .before .before .before .before in
-    (omega arith, place-within (s .args .points .now) (s .args .order .now) (s .args .first) (s .args .count) (c .before .loop .k) (s .pre .1) (omega arith))
+    (omega arith, run-place-within (s .args .points .now) (s .args .order .now) (s .args .first) (s .args .count) (c .before .loop .k) (s .pre .1) (omega arith))
 
 -- src/inner.rt:111:9
 join-requires : tie.Need-join-requires Inv-loop μ-loop
