@@ -11,3 +11,4 @@ pub mod WriteLaws
 pub mod ListedLaws
 pub mod GrownLaws
 pub mod MadeLaws
+pub mod BuildFigures
