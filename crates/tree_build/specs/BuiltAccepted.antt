@@ -1,19 +1,15 @@
 -- The builder's tree is accepted, for every scene whose points row 5 accepts and whose triangles are at most 4,096, and whatever the order of the triangles.
 -- Assumes nothing.
-use mathlib.Core.Path.{_≡_, refl, sym, ap, _∙_, subst}
+use mathlib.Core.Path.{_≡_, refl, sym, ap, _∙_}
 use mathlib.Core.Bool.{Bool, true, false, false≢true}
 use mathlib.Core.List.{List}
-use mathlib.Core.Logic.{_↔_}
-use Prim.Native.Nat.{ℕ, zero, suc, _+_, _-_, _*_, _/_, _≤_, _<_}
+use Prim.Native.Nat.{ℕ, zero, suc, _+_, _-_, _/_, _≤_, _<_}
 use native.Mathlib.Nat.{zero-add}
 use native.Mathlib.Omega.{arith}
 use lib.ListN.{length, getD}
 use lib.Ieee.{Float}
 use Rattle.names.specs.Numbers.{triangleLimit}
 use Rattle.limits.specs.Limits.{badPoints}
-use Rattle.triangle.specs.Places.{triangleAt}
-use Rattle.boxes.specs.Boxes.{paddedOf}
-use Rattle.boxes.specs.BoxLaws.{NumbersOf}
 use Rattle.tree.specs.Tree.{boxCount, presentAt, one, parentsTo, standsTo, Deep, root, left, right, AcceptedTree}
 use Rattle.tree.specs.SumLaws.{one-other, sum-hit}
 use Rattle.tree.specs.TestLaws.{present-within}
@@ -21,7 +17,7 @@ use Rattle.tree_build.specs.Built.{Built, timesIn, BuiltTree}
 use Rattle.tree_build.specs.RunLaws.{times-here}
 use Rattle.tree_build.specs.JoinLaws.{NumbersIn}
 use Rattle.tree_build.specs.PointLaws.{padded-numbers}
-use Rattle.tree_build.specs.BuiltLaws.{metTo, built-more, built-parents, built-stands}
+use Rattle.tree_build.specs.BuiltLaws.{built-parents, built-stands}
 use Rattle.tree_build.specs.EachBoxLaws.{BoxAt, box-at, built-follows, built-run, built-leaf, built-above, deep-box}
 
 deep-none : (nodes : List ℕ) {i d : ℕ} → boxCount nodes ≡ 0 → Deep nodes i d → d ≡ 0

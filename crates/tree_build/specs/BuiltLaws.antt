@@ -9,7 +9,7 @@ use lib.Dec.{eqb, leb}
 use lib.ListN.{length, getD}
 use lib.Ieee.{Float}
 use Rattle.boxes.specs.Boxes.{boundsAt}
-use Rattle.tree.specs.Tree.{boxCount, countAt, innerAt, leftAt, rightAt, firstAt, placeAt, sumTo, one, halvesOf, parentsTo, runTo, leafOf, standsTo}
+use Rattle.tree.specs.Tree.{countAt, innerAt, placeAt, sumTo, one, halvesOf, parentsTo, runTo, leafOf, standsTo}
 use Rattle.tree_build.specs.Built.{leafLimit, runBounds, BoxHolds, Built, leaf, pair, boxesWithin, boxesFor, timesIn}
 use Rattle.tree_build.specs.RunLaws.{sum-next, times-cut}
 

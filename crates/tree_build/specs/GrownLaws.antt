@@ -4,15 +4,15 @@ use mathlib.Core.Path.{_≡_, refl, sym, ap, ap₂, _∙_}
 use mathlib.Core.List.{List}
 use Prim.Native.Nat.{ℕ, zero, suc, _+_, _-_, _*_, _/_, _≤_, _<_}
 use native.Mathlib.Omega.{arith}
-use lib.ListN.{length, getD}
+use lib.ListN.{getD}
 use lib.Ieee.{Float, nan}
 use Rattle.triangle.specs.Places.{triangleAt}
 use Rattle.boxes.specs.declared.Bounds.{Bounds}
 use Rattle.boxes.specs.Boxes.{boundsAt, paddedOf}
 use Rattle.tree.specs.Tree.{countAt, leftAt, rightAt}
-use Rattle.tree_build.specs.Built.{joinOf, ownBox, runBounds, leafLimit, BoxHolds, Built, leaf, pair, PlacesIn, KeptBeside, Arranged, PutBounds, PutNode, Grown}
+use Rattle.tree_build.specs.Built.{joinOf, runBounds, leafLimit, BoxHolds, Built, leaf, pair, PlacesIn, Arranged, PutBounds, PutNode, Grown}
 use Rattle.tree_build.specs.RunLaws.{places-parts, places-arranged, kept-more, kept-through, arranged-same, arranged-through, arranged-left, arranged-right}
-use Rattle.tree_build.specs.BuiltLaws.{built-some, built-more}
+use Rattle.tree_build.specs.BuiltLaws.{built-more}
 
 -- ---- where the numbers stay, a tree stays
 

@@ -6,16 +6,14 @@ use mathlib.Core.Logic.{⊎-elim}
 use Prim.Native.Nat.{ℕ, zero, suc, _+_, _-_, _≤_, _<_}
 use native.Mathlib.Nat.{eq-or-lt-of-le, add-zero, add-assoc}
 use native.Mathlib.Omega.{arith}
-use lib.ListN.{getD}
 use lib.Ieee.{Float, le, lt, isNan}
 use Rattle.floats.specs.Choice.{largerOf, smallerOf}
 use Rattle.floats.specs.OrderLaws.{not-lt-le, le-numbers, lt-irreflexive}
 use Rattle.floats.specs.FiniteLaws.{larger-number, smaller-number, larger-not-below, smaller-not-above}
 use Rattle.vectors.specs.Vectors.{largerV, smallerV}
-use Rattle.vectors.specs.declared.Vec3.{Vec3}
 use Rattle.boxes.specs.declared.Bounds.{Bounds}
 use Rattle.boxes.specs.Boxes.{insideOf}
-use Rattle.boxes.specs.BoxLaws.{NotAbove, NumbersV, NumbersOf, inside-in, inside-out, inside-numbers, inside-transitive}
+use Rattle.boxes.specs.BoxLaws.{NumbersOf, inside-in, inside-out, inside-numbers, inside-transitive}
 use Rattle.tree_build.specs.Built.{joinOf, ownBox, runBounds}
 
 -- ---- two numbers

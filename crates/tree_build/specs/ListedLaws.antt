@@ -1,11 +1,11 @@
 -- The list of the present places, made one by one: each stands there once, and nothing else does. Assumes nothing.
 use mathlib.Core.Path.{_≡_, refl, sym, ap, _∙_}
-use mathlib.Core.Bool.{Bool, true, false, cond, false≢true}
+use mathlib.Core.Bool.{Bool, true, false, cond}
 use mathlib.Core.List.{List}
-use Prim.Native.Nat.{ℕ, zero, suc, _+_, _/_, _≤_, _<_}
+use Prim.Native.Nat.{ℕ, _+_, _/_, _≤_, _<_}
 use native.Mathlib.Nat.{zero-add}
 use native.Mathlib.Omega.{arith}
-use borrow.Author.Tests.{eqb-true, eqb-false, eq-eqb, ne-eqb}
+use borrow.Author.Tests.{eqb-true, eqb-false, ne-eqb}
 use lib.Dec.{eqb}
 use lib.ListN.{length, getD, set, length-set}
 use lib.Seq.{getD-set-same, getD-set-other}
@@ -13,7 +13,7 @@ use lib.Ieee.{Float}
 use Rattle.tree.specs.Tree.{presentAt, sumTo, one}
 use Rattle.tree.specs.SumLaws.{one-most, sum-less, sum-same, sum-ones, sum-none, sum-hit}
 use Rattle.tree.specs.TestLaws.{present-within}
-use Rattle.tree_build.specs.Built.{timesIn, presentTo, EachOnce, KeptBeside}
+use Rattle.tree_build.specs.Built.{timesIn, presentTo, KeptBeside}
 use Rattle.tree_build.specs.RunLaws.{sum-next, times-same}
 use Rattle.tree_build.specs.BuiltLaws.{same-test}
 

@@ -1,14 +1,14 @@
 -- What the builder leaves, of what its steps leave: nothing where a list is too short, no box where no triangle is present, else the tree at the lists' front.
 -- And that the tree which it makes is accepted. Assumes nothing.
 use mathlib.Core.Path.{_≡_, refl, sym, ap, ap₂, _∙_, subst}
-use mathlib.Core.Bool.{Bool, true, false, cond, _||_, false≢true}
-use mathlib.Core.List.{List, []}
-use Prim.Native.Nat.{ℕ, zero, suc, _+_, _-_, _*_, _/_, _≤_, _<_}
+use mathlib.Core.Bool.{Bool, true, false, _||_, false≢true}
+use mathlib.Core.List.{List}
+use Prim.Native.Nat.{ℕ, _-_, _*_, _/_, _≤_}
 use native.Mathlib.Nat.{zero-add}
 use native.Mathlib.Omega.{arith}
 use borrow.Author.Tests.{ltb-false}
 use lib.Dec.{ltb}
-use lib.ListN.{length, getD, take}
+use lib.ListN.{length, take}
 use lib.Seq.{length-take-le, getD-take}
 use lib.Ieee.{Float, nan}
 use Rattle.names.specs.Numbers.{triangleLimit}
@@ -18,7 +18,7 @@ use Rattle.tree.specs.SumLaws.{positive}
 use Rattle.tree.specs.TestLaws.{neither, present-within}
 use Rattle.tree_build.specs.declared.Sizes.{Sizes}
 use Rattle.tree_build.specs.declared.Sizes.the-variants.{TooShort, Tree}
-use Rattle.tree_build.specs.Built.{Built, boxesWithin, boxesFor, timesIn, presentTo, presentIn, PlacesIn, RunFits, KeptBeside, Arranged, Listed, Grown, shortLists, sizesOf, BuiltTree, Front, Made}
+use Rattle.tree_build.specs.Built.{boxesWithin, boxesFor, timesIn, presentIn, RunFits, KeptBeside, Listed, Grown, shortLists, sizesOf, Front, Made}
 use Rattle.tree_build.specs.RunLaws.{times-same, kept-same, kept-through}
 use Rattle.tree_build.specs.BuiltLaws.{built-most, built-more, built-boxes}
 use Rattle.tree_build.specs.GrownLaws.{built-same}

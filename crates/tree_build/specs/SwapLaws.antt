@@ -1,5 +1,5 @@
 -- Two places of a run that change their triangles leave the run the same triangles. Assumes nothing.
-use mathlib.Core.Path.{_≡_, refl, sym, ap, _∙_}
+use mathlib.Core.Path.{_≡_, refl, ap, _∙_}
 use mathlib.Core.List.{List}
 use mathlib.Core.Bool.{Bool, true, false}
 use mathlib.Core.Logic.{⊎-elim}
@@ -13,7 +13,7 @@ use lib.Seq.{getD-set-same, getD-set-other}
 use lib.Ieee.{Float}
 use Rattle.tree.specs.Tree.{sumTo, one}
 use Rattle.tree.specs.SumLaws.{sum-same}
-use Rattle.tree_build.specs.Built.{timesIn, RunIn, KeptBeside, Arranged}
+use Rattle.tree_build.specs.Built.{timesIn, RunIn, Arranged}
 use Rattle.tree_build.specs.RunLaws.{places-arranged}
 
 -- a sum one of whose terms changed
@@ -77,7 +77,7 @@ module _ (l : List ℕ) (first count a b : ℕ) where
       }
 
 -- a run stays one that may be put in order
-pub run-in : (points : List Float) (l m : List ℕ) (first count : ℕ) → RunIn points l first count → Arranged l m first count → RunIn points m first count
-run-in points l m first count r a =
+pub run-stays : (points : List Float) (l m : List ℕ) (first count : ℕ) → RunIn points l first count → Arranged l m first count → RunIn points m first count
+run-stays points l m first count r a =
     let s = a .kept .same in
     record { some = r .some; placesFew = r .placesFew; orderLong = omega (arith, r .orderLong); places = places-arranged points l m first count a (r .places) }

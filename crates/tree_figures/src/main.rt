@@ -1,5 +1,6 @@
-// The builder run on scenes: for each it prints how many boxes and places there are, and 1 if the tree is accepted; of five triangles in a row, named from
-// the far end, also the order of the places and the nodes. The crate's file stdout has what it must print.
+// The builder run on scenes of 0, 1, 4, 5 and 4,096 triangles in a row, on triangles that all stand at one place, and on absent ones. For each it prints how
+// many boxes and places there are, and 1 if the tree is accepted; of five triangles also the places in their order and the nodes. The row begins at the far
+// end, so that its order turns about.
 ghost use mathlib.Core.Path.{_≡_};
 ghost use Prim.Native.Nat.{_+_, _*_, _/_, _≤_, _<_};
 ghost use lib.ListN.{length};
@@ -60,7 +61,7 @@ fn list(l: &[u32], n: usize)
     io::write_all(1, b"\n");
 }
 
-// The first n triangles of a list.
+// Builds the tree of the first n triangles of a list.
 fn report(points: &[f32], n: usize)
     requires { ⌜ (length (now points) ≡ 36864) × (n ≤ 4096) ⌝ }
 {
@@ -78,7 +79,7 @@ fn report(points: &[f32], n: usize)
     }
 }
 
-// n triangles; step apart along x from the far end, the rows of 64 along y; each absent where side is 0.
+// 4,096 triangles along x, the first at the far end, each `step` from the one before.
 fn scene(points: &mut [f32], step: f32, side: f32)
     requires { ⌜ length (now points) ≡ 36864 ⌝ }
     ensures { λ _. ⌜ length (now (points .exit)) ≡ 36864 ⌝ }

@@ -1,34 +1,24 @@
 -- `tree_build::inner::arrange` meets its contract: both steps leave the run the same triangles.
 use Rattle.tree_build.specs.RunLaws.{arranged-through}
-use Rattle.tree_build.specs.SwapLaws.{run-in}
+use Rattle.tree_build.specs.SwapLaws.{run-stays}
 use borrow.Author.Needs.{needs}
 use Rattle.tree_build.proofs.inner.arrange.Statement.{statement}
 use Rattle.tree_build.proofs.inner.arrange.Tie as tie
-use Rattle.tree_build.proofs.inner.arrange.Reads as reads
-use Rattle.tree_build.proofs.inner.arrange.Lts as lts
-use Rattle.tree_build.proofs.inner.make_heap.Reads as make-heap-reads
-use Rattle.tree_build.proofs.inner.take_heap.Reads as take-heap-reads
-use Rattle.tree_build.proofs.inner.widest.Reads as widest-reads
 
--- src/inner.rt:186:9
 widest-requires : tie.Need-widest-requires
 widest-requires c κs = search needs
 
--- src/inner.rt:187:5
 make-heap-requires : tie.Need-make-heap-requires
 make-heap-requires c κs = search needs
 
--- src/inner.rt:188:5
 take-heap-requires : tie.Need-take-heap-requires
 take-heap-requires c κs =
     let s = c .before .before .before .before .before .before .before .before .before in
-    run-in (s .args .points .now) (s .args .order .now) _ (s .args .first) (s .args .count) (s .pre) (c .before .before .before .make-heap .ensures)
+    run-stays (s .args .points .now) (s .args .order .now) _ (s .args .first) (s .args .count) (s .pre) (c .before .before .before .make-heap .ensures)
 
--- src/inner.rt:182:1
 same-length : tie.Need-same-length
 same-length c = search needs
 
--- src/inner.rt:182:1
 returns : tie.Need-returns
 returns c = arranged-through (c .before .before .before .before .before .before .before .before .before .before .before .before .args .order .now) _ _ _ _ (c .before .before .before .before .before .before .make-heap .ensures) (c .before .before .take-heap .ensures)
 

@@ -4,58 +4,43 @@ use Rattle.tree_build.specs.MadeLaws.{long-lists, listed-fits, made-shor
 use borrow.Author.Needs.{needs}
 use Rattle.tree_build.proofs.inner.build.Statement.{statement}
 use Rattle.tree_build.proofs.inner.build.Tie as tie
-use Rattle.tree_build.proofs.inner.build.Reads as reads
-use Rattle.tree_build.proofs.inner.build.Lts as lts
-use Rattle.tree_build.proofs.inner.grow.Reads as grow-reads
-use Rattle.tree_build.proofs.inner.list_present.Reads as list-present-reads
-use Rattle.tree_build.proofs.inner.short.Reads as short-reads
 
--- src/inner.rt:22:8
 short-requires : tie.Need-short-requires
 short-requires c κs = search needs
 
--- src/inner.rt:23:9
 returns : tie.Need-returns
 returns c =
     let a = c .before .before .before .before .before .before .args in
     made-short (a .points .now) (a .boxes .now) (a .nodes .now) (a .order .now) (sym (c .before .short .ensures) ∙ c .if1 .taken)
 
--- src/inner.rt:25:9
 list-present-requires : tie.Need-list-present-requires
 list-present-requires c κs =
     let a = c .before .before .before .before .before .before .before .args in
     let g = long-lists _ _ _ _ (sym (c .before .before .short .ensures) ∙ c .before .if1 .left) in
     (g .orderLong, c .before .before .before .before .before .before .before .pre)
 
--- src/inner.rt:27:9
 same-length : tie.Need-same-length
 same-length c = search needs
 
--- src/inner.rt:27:9
 returns-2 : tie.Need-returns-2
 returns-2 c =
     let a = c .before .before .before .before .before .before .before .before .before .before .before .args in
     made-none (a .points .now) (a .boxes .now) (a .nodes .now) (a .order .now) _ _ (sym (c .before .before .before .before .before .before .short .ensures) ∙ c .before .before .before .before .before .if1 .left) (c .before .before .before .list-present .ensures) (c .if2 .taken)
 
--- src/inner.rt:29:9
 grow-requires : tie.Need-grow-requires
 grow-requires c κs =
     let a = c .before .before .before .before .before .before .before .before .before .before .before .before .before .before .args in
     listed-fits (a .points .now) (a .boxes .now) (a .nodes .now) (a .order .now) _ _ (c .before .before .before .before .before .before .before .before .before .before .before .before .before .before .pre) (sym (c .before .before .before .before .before .before .before .before .before .short .ensures) ∙ c .before .before .before .before .before .before .before .before .if1 .left) (c .before .before .before .before .before .before .list-present .ensures) (c .before .before .before .if2 .left)
 
--- src/inner.rt:18:1
 same-length-2 : tie.Need-same-length-2
 same-length-2 c = search needs
 
--- src/inner.rt:18:1
 same-length-3 : tie.Need-same-length-3
 same-length-3 c = search needs
 
--- src/inner.rt:18:1
 same-length-4 : tie.Need-same-length-4
 same-length-4 c = search needs
 
--- src/inner.rt:18:1
 returns-3 : tie.Need-returns-3
 returns-3 c =
     let a = c .before .before .before .before .before .before .before .before .before .before .before .before .before .before .before .before .before .before .before .before .before .args in

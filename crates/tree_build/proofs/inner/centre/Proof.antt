@@ -4,36 +4,25 @@ use Rattle.tree_build.specs.RunLaws.{run-place-within}
 use borrow.Author.Needs.{needs}
 use Rattle.tree_build.proofs.inner.centre.Statement.{statement}
 use Rattle.tree_build.proofs.inner.centre.Tie as tie
-use Rattle.tree_build.proofs.inner.centre.Reads as reads
-use Rattle.tree_build.proofs.inner.centre.Lts as lts
-use Rattle.tree.proofs.inner.word_at.Reads as word-at-reads
-use Rattle.triangle.proofs.inner.at.Reads as at-reads
-use Rattle.vectors.proofs.add.Reads as add-reads
 
--- src/inner.rt:342:69
 add-word-at : tie.Need-add-word-at
 add-word-at c = search needs
 
--- src/inner.rt:342:41
 word-at-requires : tie.Need-word-at-requires
 word-at-requires c κs = search needs
 
--- src/inner.rt:342:9
 at-requires : tie.Need-at-requires
 at-requires c κs =
     let s = c .before .before .before in
     let p = run-place-within (s .args .points .now) (s .args .order .now) (s .args .first) (s .args .count) (s .args .k) (s .pre .0 .places) (s .pre .1) in
     omega (arith, c .word-at .ensures .0)
 
--- src/inner.rt:343:18
 add-requires : tie.Need-add-requires
 add-requires c κs = search needs
 
--- src/inner.rt:343:5
 add-requires-2 : tie.Need-add-requires-2
 add-requires-2 c κs = search needs
 
--- src/inner.rt:339:1
 returns : tie.Need-returns
 returns c = search needs
 

@@ -1,3 +1,4 @@
+-- `tree_build::inner::list_present` meets its contract. The loop's invariant: what is listed is what is present below p, and nothing behind changed.
 use mathlib.Core.Path.{_≡_, refl, ap, _∙_}
 use Prim.Native.Nat.{ℕ, _-_, _/_, _≤_}
 use native.Mathlib.Omega.{arith}
@@ -8,9 +9,6 @@ use Rattle.tree_build.specs.RunLaws.{kept-same}
 use Rattle.tree_build.specs.ListedLaws.{listedTo, present-few, present-next, listed-kept, listed-next, listed-all}
 use Rattle.tree_build.proofs.inner.list_present.Statement.{statement}
 use Rattle.tree_build.proofs.inner.list_present.Tie as tie
-use Rattle.tree_build.proofs.inner.list_present.Reads as reads
-use Rattle.tree_build.proofs.inner.list_present.Lts as lts
-use Rattle.tree_build.proofs.inner.list_one.Reads as list-one-reads
 
 abbrev Inv-loop : tie.InvT-loop
 Inv-loop points order₀ t n₀ p₀ order n p =
@@ -19,12 +17,10 @@ Inv-loop points order₀ t n₀ p₀ order n p =
 abbrev μ-loop : tie.MeasureT-loop
 μ-loop points order₀ t n₀ p₀ order n p = t - p
 
--- src/inner.rt:25:5
 loop-holds : tie.Need-loop-holds Inv-loop μ-loop
 unfolding timesIn listedTo presentTo
 loop-holds c = (omega arith, refl, kept-same 0 _ 0 0, λ q. refl)
 
--- src/inner.rt:26:9
 list-one-requires : tie.Need-list-one-requires Inv-loop μ-loop
 list-one-requires c κs =
     let l = c .before .before .loop in
@@ -32,15 +28,12 @@ list-one-requires c κs =
     let f = present-few (c .before .before .before .before .before .args .points .now) (l .p) in
     (omega arith, omega arith)
 
--- src/inner.rt:27:9
 add-p : tie.Need-add-p Inv-loop μ-loop
 add-p c = omega arith
 
--- src/inner.rt:25:5
 loop-less : tie.Need-loop-less Inv-loop μ-loop
 loop-less c = omega arith
 
--- src/inner.rt:25:5
 loop-again : tie.Need-loop-again Inv-loop μ-loop
 loop-again c =
     let l = c .before .before .before .before .before .loop in
@@ -55,11 +48,9 @@ loop-again c =
       λ q. rw (o .ensures .1, o .ensures .0) (listed-next points (l .order) (l .n) (l .p) q (omega arith) (l .inv .3 q)),
     )
 
--- src/inner.rt:18:1
 same-length : tie.Need-same-length Inv-loop μ-loop
 same-length c = c .before .loop .inv .2 .same
 
--- src/inner.rt:18:1
 returns : tie.Need-returns Inv-loop μ-loop
 returns c =
     let l = c .before .loop in

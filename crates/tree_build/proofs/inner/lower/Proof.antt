@@ -3,12 +3,9 @@ use Prim.Native.Nat.{_-_}
 use native.Mathlib.Omega.{arith}
 use Rattle.tree_build.specs.Built.{Arranged}
 use Rattle.tree_build.specs.RunLaws.{arranged-same, arranged-through}
-use Rattle.tree_build.specs.SwapLaws.{run-in}
+use Rattle.tree_build.specs.SwapLaws.{run-stays}
 use Rattle.tree_build.proofs.inner.lower.Statement.{statement}
 use Rattle.tree_build.proofs.inner.lower.Tie as tie
-use Rattle.tree_build.proofs.inner.lower.Reads as reads
-use Rattle.tree_build.proofs.inner.lower.Lts as lts
-use Rattle.tree_build.proofs.inner.lower_once.Reads as lower-once-reads
 
 abbrev Inv-loop : tie.InvT-loop
 Inv-loop points order₀ first count axis from n k₀ order k = Arranged order₀ order first count
@@ -16,29 +13,23 @@ Inv-loop points order₀ first count axis from n k₀ order k = Arranged order�
 abbrev μ-loop : tie.MeasureT-loop
 μ-loop points order₀ first count axis from n k₀ order k = n - k
 
--- src/inner.rt:230:5
 loop-holds : tie.Need-loop-holds Inv-loop μ-loop
 loop-holds c = arranged-same _ _ _
 
--- src/inner.rt:231:9
 lower-once-requires : tie.Need-lower-once-requires Inv-loop μ-loop
 lower-once-requires c κs =
     let s = c .before .before .before .before .before in
-    (run-in (s .args .points .now) (s .args .order .now) _ (s .args .first) (s .args .count) (s .pre .0) (c .before .before .loop .inv), s .pre .1, c .before .loop-test .taken)
+    (run-stays (s .args .points .now) (s .args .order .now) _ (s .args .first) (s .args .count) (s .pre .0) (c .before .before .loop .inv), s .pre .1, c .before .loop-test .taken)
 
--- src/inner.rt:230:5
 loop-less : tie.Need-loop-less Inv-loop μ-loop
 loop-less c = let e = c .before .before .lower-once .ensures in omega (arith, e .1, e .2)
 
--- src/inner.rt:230:5
 loop-again : tie.Need-loop-again Inv-loop μ-loop
 loop-again c = arranged-through (c .before .before .before .before .before .before .before .before .args .order .now) _ _ _ _ (c .before .before .before .before .before .loop .inv) (c .before .before .lower-once .ensures .0)
 
--- src/inner.rt:217:1
 same-length : tie.Need-same-length Inv-loop μ-loop
 same-length c = c .before .loop .inv .kept .same
 
--- src/inner.rt:217:1
 returns : tie.Need-returns Inv-loop μ-loop
 returns c = c .before .loop .inv
 

@@ -1,3 +1,4 @@
+-- `tree_build::inner::run_bounds` meets its contract. The loop's invariant: the box is that around the run's first k triangles.
 use mathlib.Core.Path.{_≡_}
 use Prim.Native.Nat.{_-_, _≤_}
 use native.Mathlib.Nat.{add-zero}
@@ -8,10 +9,6 @@ use Rattle.tree_build.specs.RunLaws.{run-place-within}
 use Rattle.tree_build.specs.JoinLaws.{run-next}
 use Rattle.tree_build.proofs.inner.run_bounds.Statement.{statement}
 use Rattle.tree_build.proofs.inner.run_bounds.Tie as tie
-use Rattle.tree_build.proofs.inner.run_bounds.Reads as reads
-use Rattle.tree_build.proofs.inner.run_bounds.Lts as lts
-use Rattle.tree_build.proofs.inner.join.Reads as join-reads
-use Rattle.tree_build.proofs.inner.own_box.Reads as own-box-reads
 
 abbrev Inv-loop : tie.InvT-loop
 Inv-loop points order first count b₀ k₀ b k = (1 ≤ k) × (k ≤ count) × (b ≡ runBounds points order first (k - 1))
@@ -19,46 +16,37 @@ Inv-loop points order first count b₀ k₀ b k = (1 ≤ k) × (k ≤ count) × 
 abbrev μ-loop : tie.MeasureT-loop
 μ-loop points order first count b₀ k₀ b k = count - k
 
--- src/inner.rt:108:9
 own-box-requires : tie.Need-own-box-requires Inv-loop μ-loop
 own-box-requires c κs =
     let s = c .before .before in
     (omega arith, rw (add-zero (s .args .first)) at (run-place-within (s .args .points .now) (s .args .order .now) (s .args .first) (s .args .count) 0 (s .pre .1) (omega arith)))
 
--- src/inner.rt:110:5
 loop-holds : tie.Need-loop-holds Inv-loop μ-loop
 unfolding runBounds
 loop-holds c = (omega arith, omega arith, c .own-box .ensures)
 
--- src/inner.rt:111:44
 add-own-box : tie.Need-add-own-box Inv-loop μ-loop
 add-own-box c = omega arith
 
--- src/inner.rt:111:21
 own-box-requires-2 : tie.Need-own-box-requires-2 Inv-loop μ-loop
 own-box-requires-2 c κs =
     let s = c .before .before .before .before .before in
     (omega arith, run-place-within (s .args .points .now) (s .args .order .now) (s .args .first) (s .args .count) (c .before .loop .k) (s .pre .1) (omega arith))
 
--- src/inner.rt:111:9
 join-requires : tie.Need-join-requires Inv-loop μ-loop
 join-requires c κs = search needs
 
--- src/inner.rt:112:9
 add-k : tie.Need-add-k Inv-loop μ-loop
 add-k c = omega arith
 
--- src/inner.rt:110:5
 loop-less : tie.Need-loop-less Inv-loop μ-loop
 loop-less c = omega arith
 
--- src/inner.rt:110:5
 loop-again : tie.Need-loop-again Inv-loop μ-loop
 loop-again c =
     let l = c .before .before .before .loop in
     (omega arith, omega arith, rw (run-next _ _ _ (l .k) (l .inv .0), ← l .inv .2, ← c .before .own-box2 .ensures, ← c .join .ensures))
 
--- src/inner.rt:103:1
 returns : tie.Need-returns Inv-loop μ-loop
 returns c =
     let l = c .before .loop in

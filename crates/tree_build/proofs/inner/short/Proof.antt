@@ -1,19 +1,15 @@
+-- `tree_build::inner::short` meets its contract: the code is the definition.
 use Rattle.tree_build.specs.Built.{shortLists}
 use borrow.Author.Needs.{needs}
 use Rattle.tree_build.proofs.inner.short.Statement.{statement}
 use Rattle.tree_build.proofs.inner.short.Tie as tie
-use Rattle.tree_build.proofs.inner.short.Reads as reads
-use Rattle.tree_build.proofs.inner.short.Lts as lts
 
--- src/inner.rt:38:14
 mul-result : tie.Need-mul-result
 mul-result c = search needs
 
--- src/inner.rt:38:40
 mul-result-2 : tie.Need-mul-result-2
 mul-result-2 c = search needs
 
--- src/inner.rt:34:1
 returns : tie.Need-returns
 unfolding shortLists
 returns c = search needs

@@ -1,57 +1,44 @@
+-- `tree_build::inner::swap` meets its contract: what one place loses the other gets.
 use native.Mathlib.Omega.{arith}
 use lib.ListN.{length-set}
 use Rattle.tree_build.specs.SwapLaws.{swapped}
 use borrow.Author.Needs.{needs}
 use Rattle.tree_build.proofs.inner.swap.Statement.{statement}
 use Rattle.tree_build.proofs.inner.swap.Tie as tie
-use Rattle.tree_build.proofs.inner.swap.Reads as reads
-use Rattle.tree_build.proofs.inner.swap.Lts as lts
 
--- src/inner.rt:351:13
 add-i : tie.Need-add-i
 add-i c = search needs
 
--- src/inner.rt:352:13
 add-j : tie.Need-add-j
 add-j c = search needs
 
--- src/inner.rt:353:13
 mul-x : tie.Need-mul-x
 mul-x c = search needs
 
--- src/inner.rt:353:13
 slice-read-x : tie.Need-slice-read-x
 slice-read-x c = search needs
 
--- src/inner.rt:354:13
 mul-y : tie.Need-mul-y
 mul-y c = search needs
 
--- src/inner.rt:354:13
 slice-read-y : tie.Need-slice-read-y
 slice-read-y c = search needs
 
--- src/inner.rt:355:5
 mul-order : tie.Need-mul-order
 mul-order c = search needs
 
--- src/inner.rt:355:5
 slice-write-order : tie.Need-slice-write-order
 slice-write-order c = search needs
 
--- src/inner.rt:356:5
 mul-order-2 : tie.Need-mul-order-2
 mul-order-2 c = search needs
 
--- src/inner.rt:356:5
 slice-write-order-2 : tie.Need-slice-write-order-2
 slice-write-order-2 c = simp length-set (omega arith)
 
--- src/inner.rt:347:1
 same-length : tie.Need-same-length
 same-length c = search needs
 
--- src/inner.rt:347:1
 returns : tie.Need-returns
 returns c = swapped _ _ _ _ _ (omega arith) (omega arith) (omega arith)
 

@@ -3,13 +3,9 @@ use Prim.Native.Nat.{_≤_}
 use native.Mathlib.Omega.{arith}
 use Rattle.tree_build.specs.Built.{Arranged}
 use Rattle.tree_build.specs.RunLaws.{arranged-same, arranged-through}
-use Rattle.tree_build.specs.SwapLaws.{run-in}
+use Rattle.tree_build.specs.SwapLaws.{run-stays}
 use Rattle.tree_build.proofs.inner.take_heap.Statement.{statement}
 use Rattle.tree_build.proofs.inner.take_heap.Tie as tie
-use Rattle.tree_build.proofs.inner.take_heap.Reads as reads
-use Rattle.tree_build.proofs.inner.take_heap.Lts as lts
-use Rattle.tree_build.proofs.inner.lower.Reads as lower-reads
-use Rattle.tree_build.proofs.inner.swap.Reads as swap-reads
 
 abbrev Inv-loop : tie.InvT-loop
 Inv-loop points order₀ first count axis n₀ order n = (n ≤ count) × Arranged order₀ order first count
@@ -17,15 +13,12 @@ Inv-loop points order₀ first count axis n₀ order n = (n ≤ count) × Arrang
 abbrev μ-loop : tie.MeasureT-loop
 μ-loop points order₀ first count axis n₀ order n = n
 
--- src/inner.rt:209:5
 loop-holds : tie.Need-loop-holds Inv-loop μ-loop
 loop-holds c = (omega arith, arranged-same _ _ _)
 
--- src/inner.rt:210:9
 sub-n : tie.Need-sub-n Inv-loop μ-loop
 sub-n c = omega arith
 
--- src/inner.rt:211:9
 swap-requires : tie.Need-swap-requires Inv-loop μ-loop
 swap-requires c κs =
     let l = c .before .before .loop .inv in
@@ -33,28 +26,23 @@ swap-requires c κs =
     let r = c .before .before .before .before .before .pre in
     (omega arith, omega arith, omega arith)
 
--- src/inner.rt:212:9
 lower-requires : tie.Need-lower-requires Inv-loop μ-loop
 lower-requires c κs =
     let s = c .before .before .before .before .before .before .before .before .before in
     let l = c .before .before .before .before .before .before .loop .inv in
-    (run-in (s .args .points .now) (s .args .order .now) _ (s .args .first) (s .args .count) (s .pre) (arranged-through (s .args .order .now) _ _ _ _ (l .1) (c .before .before .before .swap .ensures)), omega arith)
+    (run-stays (s .args .points .now) (s .args .order .now) _ (s .args .first) (s .args .count) (s .pre) (arranged-through (s .args .order .now) _ _ _ _ (l .1) (c .before .before .before .swap .ensures)), omega arith)
 
--- src/inner.rt:209:5
 loop-less : tie.Need-loop-less Inv-loop μ-loop
 loop-less c = omega arith
 
--- src/inner.rt:209:5
 loop-again : tie.Need-loop-again Inv-loop μ-loop
 loop-again c =
     let o = c .before .before .before .before .before .before .before .before .before .before .before .before .args .order .now in
     (omega arith, arranged-through o _ _ _ _ (arranged-through o _ _ _ _ (c .before .before .before .before .before .before .before .before .before .loop .inv .1) (c .before .before .before .before .before .before .swap .ensures)) (c .before .before .lower .ensures))
 
--- src/inner.rt:204:1
 same-length : tie.Need-same-length Inv-loop μ-loop
 same-length c = c .before .loop .inv .1 .kept .same
 
--- src/inner.rt:204:1
 returns : tie.Need-returns Inv-loop μ-loop
 returns c = c .before .loop .inv .1
 
