@@ -53,7 +53,7 @@ module _ (points boxes : List Float) (nodes order : List ℕ) where
     pair : {at first count next : ℕ} (middle : ℕ) → leafLimit < count → BoxHolds at first count 0 (at + 1) middle → Built (at + 1) first (count / 2) middle
         → Built middle (first + count / 2) (count - count / 2) next → Built at first count next
 
--- how many boxes a run of m triangles has, by its length alone: halved fewer than k times, which fewer than m is
+-- how many boxes a run of m triangles has, by its length alone; k is more than the times that it is halved, for which m will do
 unfoldable pub boxesWithin : ℕ → ℕ → ℕ
 boxesWithin zero m = 0
 boxesWithin (suc k) m = cond (leb m leafLimit) 1 (1 + boxesWithin k (m / 2) + boxesWithin k (m - m / 2))
@@ -82,6 +82,7 @@ EachOnce points order n = (p : ℕ) → timesIn order 0 n p ≡ one (presentAt p
 abbrev pub PlacesIn : List Float → List ℕ → ℕ → ℕ → Type 0
 PlacesIn points order first count = (p : ℕ) → length points / 9 ≤ p → timesIn order first count p ≡ 0
 
+-- what putting a run in order asks
 pub record RunIn (points : List Float) (order : List ℕ) (first count : ℕ) : Type 0 where
   pub some : 1 ≤ count
   pub placesFew : first + count ≤ triangleLimit

@@ -1,4 +1,4 @@
--- The builder's tree: what it holds, that such a tree is accepted, and what its steps leave.
+-- The builder's tree: what it holds, what its steps leave, and that the tree which it makes is accepted (`built-accepted`, `made-accepted`).
 pub mod Built
 pub mod RunLaws
 pub mod SwapLaws
@@ -10,5 +10,6 @@ pub mod BuiltAccepted
 pub mod WriteLaws
 pub mod ListedLaws
 pub mod GrownLaws
+pub mod OneTreeLaws
 pub mod MadeLaws
 pub mod BuildFigures
