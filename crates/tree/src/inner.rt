@@ -208,7 +208,7 @@ fn is_missed(points: &[f32], seen: &[u8], p: usize) -> bool
 }
 
 // Whether the scene has a triangle at place p that is not absent.
-fn present(points: &[f32], p: usize) -> bool
+pub fn present(points: &[f32], p: usize) -> bool
     ensures { λ r. ⌜ r ≡ presentAt (now (points .entry)) p ⌝ }
 {
     if points.len() / 9 <= p {
