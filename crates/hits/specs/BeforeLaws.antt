@@ -14,16 +14,16 @@ use Rattle.vectors.specs.declared.Ray.{Ray}
 use Rattle.triangle.specs.Meet.{largest32}
 use Rattle.triangle.specs.Laws.{hit-met}
 use Rattle.triangle.specs.declared.Meet.the-variants.{Hit}
-use Rattle.panels.specs.Panels.{metAt}
-use Rattle.panels.specs.PanelLaws.{met-answered}
+use Rattle.panels.specs.Panels.{metBy}
+use Rattle.panels.specs.PanelLaws.{by-answered}
 use Rattle.hits.specs.Hits.{Struck, before}
 use Rattle.hits.specs.Order.{lt-eq, eq-lt, eq-transitive}
 
 -- a hit's distance is a number
-pub hit-number : (points : List Float) (uses kinds : List ℕ) (ray : Ray) (i : ℕ) (t u v : Float) (front : Bool) → metAt points uses kinds ray i ≡ Hit t u v front
-    → isNan t ≡ false
+pub hit-number : (boxed : Bool) (points : List Float) (uses kinds : List ℕ) (ray : Ray) (i : ℕ) (t u v : Float) (front : Bool)
+    → metBy boxed points uses kinds ray i ≡ Hit t u v front → isNan t ≡ false
 unfolding isNan le lt eq magnitudeOf
-hit-number points uses kinds ray i t u v front e = by t (hit-met ray _ t u v front (met-answered points uses kinds ray i t u v front e .0) .finite)
+hit-number boxed points uses kinds ray i t u v front e = by t (hit-met ray _ t u v front (by-answered boxed points uses kinds ray i t u v front e) .finite)
   where
     by : (x : Float) → le (magnitudeOf x) largest32 ≡ true → isNan x ≡ false
     by nan h = absurd (false≢true h)

@@ -1,6 +1,6 @@
 -- A scene as the lent lists hold it. Assumes nothing.
 use mathlib.Core.Path.{_≡_}
-use mathlib.Core.Bool.{Bool, false, cond, not, _||_}
+use mathlib.Core.Bool.{Bool, true, false, cond, not, _||_}
 use mathlib.Core.List.{List, [], _∷_}
 use Prim.Native.Nat.{ℕ, _*_, _<_, _≤_}
 use lib.Dec.{eqb}
@@ -18,9 +18,23 @@ pub record Scene : Type 0 where
   pub kinds : List ℕ
   -- seven a material: base colour RGB, emissive RGB, transmission
   pub numbers : List Float
+  -- whether it comes with a box tree: a triangle whose own padded box a ray passes over is then none of its candidates
+  pub boxed : Bool
+  -- the tree: six numbers a box, three whole numbers a box, places of triangles
+  pub boxes : List Float
+  pub nodes : List ℕ
+  pub order : List ℕ
 
+abbrev pub sceneFor : Bool → List Float → List ℕ → List ℕ → List Float → List Float → List ℕ → List ℕ → Scene
+sceneFor boxed ps us ks ns bs ds os =
+    record { points = ps; uses = us; kinds = ks; numbers = ns; boxed = boxed; boxes = bs; nodes = ds; order = os }
+
+-- without a tree, and with one
 abbrev pub sceneOf : List Float → List ℕ → List ℕ → List Float → Scene
-sceneOf ps us ks ns = record { points = ps; uses = us; kinds = ks; numbers = ns }
+sceneOf ps us ks ns = sceneFor false ps us ks ns [] [] []
+
+abbrev pub treeScene : List Float → List ℕ → List ℕ → List Float → List Float → List ℕ → List ℕ → Scene
+treeScene = sceneFor true
 
 -- the lists of a scene fit each other and the limits: what stands once rows 3, 4 and 6 have passed
 pub record Sound (s : Scene) : Type 0 where

@@ -1,6 +1,6 @@
 -- What it means that a triangle counts: what is met is what the test answers, but for the back of a panel, which is a miss.
 use mathlib.Core.Path.{_≡_, refl, sym, _∙_}
-use mathlib.Core.Bool.{Bool, true, false, cond, not, _||_, false≢true}
+use mathlib.Core.Bool.{Bool, true, false, cond, not, _&&_, _||_, false≢true}
 use mathlib.Core.Logic.{_↔_}
 use mathlib.Core.List.{List}
 use Prim.Native.Nat.{ℕ}
@@ -14,7 +14,7 @@ use Rattle.triangle.specs.Missed.{AllMiss, Missed}
 use Rattle.triangle.specs.Places.{triangleAt}
 use Rattle.triangle.specs.declared.Meet.{Meet}
 use Rattle.triangle.specs.declared.Meet.the-variants.{Miss, Hit}
-use Rattle.panels.specs.Panels.{kindAt, counts, stopsLight, countedOf, metAt}
+use Rattle.panels.specs.Panels.{kindAt, counts, stopsLight, countedOf, metAt, ownPassed, metBy}
 
 -- ---- kind and side
 
@@ -103,6 +103,41 @@ module _ (points : List Float) (uses kinds : List ℕ) (ray : Ray) (i : ℕ) whe
     λ f. counted-met t u v front (f .0) (counts-exactly (kindAt uses kinds i) front .1 (f .1)),
   )
 
+-- ---- with a box tree or without
+
+module _ (boxed : Bool) (points : List Float) (uses kinds : List ℕ) (ray : Ray) (i : ℕ) where
+  -- what is missed without one is missed with one
+  pub by-missed : metAt points uses kinds ray i ≡ Miss → metBy boxed points uses kinds ray i ≡ Miss
+  unfolding metBy
+  by-missed e = rw e (either (boxed && ownPassed points ray i))
+    where
+      either : (b : Bool) → cond b Miss Miss ≡ Miss
+      either true = refl
+      either false = refl
+
+  -- a hit with one is that hit without one, of a triangle whose own padded box is not passed over
+  pub by-met : (t u v : Float) (front : Bool) → metBy boxed points uses kinds ray i ≡ Hit t u v front
+      → (metAt points uses kinds ray i ≡ Hit t u v front) × (boxed && ownPassed points ray i ≡ false)
+  unfolding metBy
+  by-met t u v front e = by (boxed && ownPassed points ray i) refl e
+    where
+      by : (b : Bool) → boxed && ownPassed points ray i ≡ b → cond b Miss (metAt points uses kinds ray i) ≡ Hit t u v front
+          → (metAt points uses kinds ray i ≡ Hit t u v front) × (boxed && ownPassed points ray i ≡ false)
+      by true f g = absurd (false≢true cc)
+      by false f g = (g, f)
+
+  -- and one that the test answers
+  pub by-answered : (t u v : Float) (front : Bool) → metBy boxed points uses kinds ray i ≡ Hit t u v front → meetOf ray (triangleAt points i) ≡ Hit t u v front
+  by-answered t u v front e = met-answered points uses kinds ray i t u v front (by-met t u v front e .0) .0
+
+-- without one all is as the test answers it
+pub by-list : (points : List Float) (uses kinds : List ℕ) (ray : Ray) (i : ℕ) → metBy false points uses kinds ray i ≡ metAt points uses kinds ray i
+unfolding metBy
+by-list points uses kinds ray i = refl
+
 -- what a search passes over is not met
 pub all-missed-at : (points : List Float) (uses kinds : List ℕ) (ray : Ray) (i j : ℕ) → Missed points ray i j → AllMiss (metAt points uses kinds ray) i j
 all-missed-at points uses kinds ray i j m l p q = missed-at points uses kinds ray l (m l p q)
+
+pub all-missed-by : (boxed : Bool) (points : List Float) (uses kinds : List ℕ) (ray : Ray) (i j : ℕ) → Missed points ray i j → AllMiss (metBy boxed points uses kinds ray) i j
+all-missed-by boxed points uses kinds ray i j m l p q = by-missed boxed points uses kinds ray l (missed-at points uses kinds ray l (m l p q))

@@ -2,30 +2,29 @@
 use mathlib.Core.Path.{_≡_, refl, _∙_}
 use mathlib.Core.Logic.{⊎-elim}
 use mathlib.Core.Bool.{Bool}
-use mathlib.Core.List.{List}
+use mathlib.Core.List.{List, []}
 use Prim.Native.Nat.{ℕ, zero, suc, _≤_, _<_}
 use native.Mathlib.Nat.{eq-or-lt-of-le, le-of-suc-le-suc}
 use native.Mathlib.Omega.{arith}
 use lib.Ieee.{Float}
-use Rattle.names.specs.Scene.{Scene}
+use Rattle.names.specs.Scene.{Scene, sceneOf}
 use Rattle.vectors.specs.declared.Ray.{Ray}
 use Rattle.triangle.specs.Missed.{AllMiss}
 use Rattle.triangle.specs.declared.Meet.the-variants.{Miss, Hit}
-use Rattle.panels.specs.Panels.{metAt, meetAt}
+use Rattle.panels.specs.Panels.{meetAt}
 use Rattle.scan.specs.declared.Nearest.{Nearest}
 use Rattle.scan.specs.declared.Nearest.the-variants.{Nothing, At}
 use Rattle.scan.specs.Nearest.{nearerOf, nearestTo}
 use Rattle.hits.specs.Hits.{struck, insertOf, withMeet, hitsOf}
 
 -- what is the first hit from place i up to place n: none where all are missed; otherwise a hit, and all before it are missed
-abbrev pub FirstFrom : List Float → List ℕ → List ℕ → Ray → ℕ → ℕ → Nearest → Type 0
-FirstFrom points uses kinds ray i n Nothing = AllMiss (metAt points uses kinds ray) i n
-FirstFrom points uses kinds ray i n (At j t u v front) =
-    (i ≤ j) × (j < n) × AllMiss (metAt points uses kinds ray) i j × (metAt points uses kinds ray j ≡ Hit t u v front)
-
--- the same of a scene
 abbrev pub FirstOf : Scene → Ray → ℕ → ℕ → Nearest → Type 0
-FirstOf scene ray i n f = FirstFrom (scene .points) (scene .uses) (scene .kinds) ray i n f
+FirstOf scene ray i n Nothing = AllMiss (meetAt scene ray) i n
+FirstOf scene ray i n (At j t u v front) = (i ≤ j) × (j < n) × AllMiss (meetAt scene ray) i j × (meetAt scene ray j ≡ Hit t u v front)
+
+-- the same of the lists of a scene without a tree
+abbrev pub FirstFrom : List Float → List ℕ → List ℕ → Ray → ℕ → ℕ → Nearest → Type 0
+FirstFrom points uses kinds ray i n f = FirstOf (sceneOf points uses kinds []) ray i n f
 
 -- ---- what is missed changes nothing
 

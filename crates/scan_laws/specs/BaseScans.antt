@@ -18,7 +18,7 @@ use Rattle.triangle.specs.Meet.{meetOf}
 use Rattle.triangle.specs.Places.{triangleAt}
 use Rattle.triangle.specs.declared.Meet.{Meet}
 use Rattle.panels.specs.Panels.{kindAt, stopsLight, meetAt}
-use Rattle.panels.specs.PanelLaws.{plain-met}
+use Rattle.panels.specs.PanelLaws.{plain-met, by-list}
 use Rattle.hits.specs.Hits.{Struck, withMeet, hitsOf, placesOf}
 use Rattle.hits.specs.HitLaws.{places-below}
 use Rattle.scan.specs.Nearest.{nearerOf, nearestTo, nearestOf}
@@ -56,9 +56,9 @@ module _ (scene : Scene) (ray : Ray) where
   unfoldable pub transmittanceBase : Float
   transmittanceBase = passBase one32 (placesOf (hitsBase (length (scene .uses))))
 
-  module _ (none : NoPanels scene) where
+  module _ (treeless : scene .boxed ≡ false) (none : NoPanels scene) where
     tested : (i : ℕ) → i < length (scene .uses) → meetAt scene ray i ≡ testedAt i
-    tested i h = plain-met (scene .points) (scene .uses) (scene .kinds) ray i (none i h)
+    tested i h = rw treeless (by-list (scene .points) (scene .uses) (scene .kinds) ray i ∙ plain-met (scene .points) (scene .uses) (scene .kinds) ray i (none i h))
 
     nearest-to-base : (n : ℕ) → n ≤ length (scene .uses) → nearestTo scene ray n ≡ nearestBase n
     unfolding nearestTo nearestBase

@@ -64,7 +64,7 @@ hits-sorted scene ray (suc n) = by (meetAt scene ray n) refl (hits-sorted scene 
         put (struck t n) (hitsOf scene ray n)
         (λ g m f.
         let h = hits-only scene ray n m in
-        either t (g .distance) n (g .place) (hit-number _ _ _ ray _ t u v front e) (hit-number _ _ _ ray _ (g .distance) (h .first) (h .second) (h .front) (h .met)) (h .within) f)
+        either t (g .distance) n (g .place) (hit-number _ _ _ _ ray _ t u v front e) (hit-number _ _ _ _ ray _ (g .distance) (h .first) (h .second) (h .front) (h .met)) (h .within) f)
         s
 
 -- ---- and so each comes before all that follow

@@ -1,7 +1,7 @@
 -- The Rust's own scan for the nearest hit, the backs of panels left out, which the Rust has not: each hit's distance becomes the longest of what follows, and a later hit takes the place of what is held
 -- (raytracer.rs, trace_nearest). It answers what `nearestOf` answers, which tests every triangle over the whole ray and keeps the better.
 use mathlib.Core.Path.{_≡_, refl, sym, _∙_}
-use mathlib.Core.Bool.{Bool, true, false, cond, false≢true}
+use mathlib.Core.Bool.{Bool, true, false, cond, _&&_, false≢true}
 use Prim.Native.Nat.{ℕ, zero, suc, _<_}
 use native.Mathlib.Omega.{arith}
 use borrow.Author.Tests.{lt-ltb}
@@ -19,8 +19,8 @@ use Rattle.triangle.specs.Places.{triangleAt}
 use Rattle.triangle.specs.Laws.{hit-met}
 use Rattle.triangle.specs.declared.Meet.{Meet}
 use Rattle.triangle.specs.declared.Meet.the-variants.{Miss, Hit}
-use Rattle.panels.specs.Panels.{kindAt, counts, countedOf, metAt, meetAt}
-use Rattle.panels.specs.PanelLaws.{met-answered}
+use Rattle.panels.specs.Panels.{kindAt, counts, countedOf, metAt, ownPassed, metBy, meetAt}
+use Rattle.panels.specs.PanelLaws.{by-answered}
 use Rattle.scan.specs.Nearest.{beats, nearerOf, nearestTo, nearestOf}
 use Rattle.scan.specs.declared.Nearest.{Nearest}
 use Rattle.scan.specs.declared.Nearest.the-variants.{Nothing, At}
@@ -104,8 +104,13 @@ counted-beyond kind s (Hit t u v front) = by (lt s t) (counts kind front) refl r
 
 narrowed-met : (scene : Scene) (ray : Ray) (i : ℕ) (s : Float) → isNan s ≡ false → lt (ray .longest) s ≡ false
     → meetAt scene (narrowed ray s) i ≡ unlessBeyond s (meetAt scene ray i)
-unfolding metAt
-narrowed-met scene ray i s n h = rw (narrowed-test ray (triangleAt (scene .points) i) s n h) (counted-beyond _ s _)
+unfolding metBy metAt ownPassed
+narrowed-met scene ray i s n h = rw (narrowed-test ray (triangleAt (scene .points) i) s n h, counted-beyond (kindAt (scene .uses) (scene .kinds) i) s (meetOf ray (triangleAt (scene .points) i)))
+    (by (scene .boxed && ownPassed (scene .points) ray i) (countedOf (kindAt (scene .uses) (scene .kinds) i) (meetOf ray (triangleAt (scene .points) i))))
+  where
+    by : (b : Bool) (m : Meet) → cond b Miss (unlessBeyond s m) ≡ unlessBeyond s (cond b Miss m)
+    by true m = refl
+    by false m = refl
 
 -- ---- the two scans
 
@@ -136,7 +141,7 @@ module _ (scene : Scene) (ray : Ray) where
 
   holding : (n : ℕ) (t u v : Float) (front : Bool) → meetAt scene ray n ≡ Hit t u v front → Holding (suc n) n t (record { limit = t; hit = At n t u v front })
   holding n t u v front e =
-      record { below = omega arith; number = hit-number _ _ _ ray _ t u v front e; reached = hit-met ray _ t u v front (met-answered _ _ _ ray n t u v front e .0) .not-above; limit = refl }
+      record { below = omega arith; number = hit-number _ _ _ _ ray _ t u v front e; reached = hit-met ray _ t u v front (by-answered _ _ _ _ ray n t u v front e) .not-above; limit = refl }
 
   step : (n : ℕ) (b : Held) (c : Nearest) (m : Meet) → meetAt scene ray n ≡ m → Agrees n b c
       → Agrees (suc n) (taken b n (meetAt scene (narrowed ray (b .limit)) n)) (nearerOf c n m)
@@ -171,7 +176,7 @@ module _ (scene : Scene) (ray : Ray) where
           → Agrees (suc n) (taken b n (meetAt scene (narrowed ray (b .limit)) n)) (cond (beats t n s i) (At n t u v front) (At i s p q side))
       by x true z f g k = nearer (beats-nearer t s n i g) (lt-asymmetric t s g)
       by x false true f g k = nearer (beats-equal t s n i (h .below) g k) (eq-not-lt s t (eq-symmetric t s k))
-      by x false false f g k = farther (beats-not t s n i g k) (otherwise-below t s (hit-number _ _ _ ray _ t u v front e) (h .number) g k)
+      by x false false f g k = farther (beats-not t s n i g k) (otherwise-below t s (hit-number _ _ _ _ ray _ t u v front e) (h .number) g k)
 
   agrees : (n : ℕ) → Agrees n (narrowingTo scene ray n) (nearestTo scene ray n)
   unfolding narrowingTo nearestTo

@@ -47,4 +47,4 @@ module _ (scene : Scene) (ray : Ray) where
   unfolding nearestOf
   nearest-is-answered i t u v front h =
       nearest-best (length (scene .uses))
-      ∙ best-is-answered (meetAt scene ray) (λ j s p q side e. hit-number _ _ _ ray j s p q side e) (length (scene .uses)) i t u v front h
+      ∙ best-is-answered (meetAt scene ray) (λ j s p q side e. hit-number _ _ _ _ ray j s p q side e) (length (scene .uses)) i t u v front h

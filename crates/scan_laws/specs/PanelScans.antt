@@ -1,7 +1,7 @@
 -- What a panel is to both scans. "Material kind 2 is opaque from the front and absent from the back, for nearest hits as for transmittance": panels that a ray
 -- meets from the front, or not at all, may be made opaque, and those that it meets from the back, or not at all, absent, and neither answer changes.
 use mathlib.Core.Path.{_≡_, refl, sym, ap, _∙_}
-use mathlib.Core.Bool.{Bool, true, false, cond, false≢true}
+use mathlib.Core.Bool.{Bool, true, false, cond, _&&_, false≢true}
 use mathlib.Core.Logic.{_⊎_, ⊎-elim}
 use mathlib.Core.List.{List, [], _∷_, List·Memᴰ, List·Memᴰ·head, List·Memᴰ·tail}
 use Prim.Native.Nat.{ℕ, zero, suc, _≤_, _<_}
@@ -11,15 +11,15 @@ use lib.Ieee as Ieee
 use lib.Ieee.{Float, binary32}
 use Rattle.names.specs.Bits.{one32}
 use Rattle.names.specs.Numbers.{opaqueKind, panelKind}
-use Rattle.names.specs.Scene.{Scene, sceneOf}
+use Rattle.names.specs.Scene.{Scene, sceneFor}
 use Rattle.vectors.specs.declared.Ray.{Ray}
 use Rattle.triangle.specs.Meet.{absentOf, meetOf}
 use Rattle.triangle.specs.Laws.{absent-missed}
 use Rattle.triangle.specs.Places.{triangleAt}
 use Rattle.triangle.specs.declared.Meet.{Meet}
 use Rattle.triangle.specs.declared.Meet.the-variants.{Miss, Hit}
-use Rattle.panels.specs.Panels.{kindAt, counts, stopsLight, countedOf, metAt, meetAt}
-use Rattle.panels.specs.PanelLaws.{missed-at, front-met, panel-back}
+use Rattle.panels.specs.Panels.{kindAt, counts, stopsLight, countedOf, metAt, ownPassed, metBy, meetAt}
+use Rattle.panels.specs.PanelLaws.{missed-at, front-met, panel-back, by-missed}
 use Rattle.hits.specs.Hits.{Struck, withMeet, hitsOf, placesOf}
 use Rattle.hits.specs.HitLaws.{hits-only}
 use Rattle.scan_laws.specs.BaseScans.{NoPanels, nearestBase, transmittanceBase, nearest-base, transmittance-base}
@@ -75,6 +75,14 @@ module _ (a b : Scene) (ray : Ray) (alike : Alike a b ray) where
             ∙ ap (λ (hs : List Struck). passOf (b .uses) (b .kinds) (b .numbers) one32 (placesOf hs)) (hits-same n (omega arith) ∙ ap (λ (k : ℕ). hitsOf b ray k) (alike .long));
       }
 
+-- ---- the same scene with other kinds, and with other points
+
+abbrev pub withKinds : Scene → List ℕ → Scene
+withKinds s kinds = sceneFor (s .boxed) (s .points) (s .uses) kinds (s .numbers) (s .boxes) (s .nodes) (s .order)
+
+abbrev pub withPoints : Scene → List Float → Scene
+withPoints s points = sceneFor (s .boxed) points (s .uses) (s .kinds) (s .numbers) (s .boxes) (s .nodes) (s .order)
+
 -- ---- opaque from the front
 
 -- a triangle keeps its kind, or is a panel that the ray does not meet from the back, made opaque
@@ -85,13 +93,13 @@ MadeOpaque scene kinds ray i =
     × ((t u v : Float) → meetOf ray (triangleAt (scene .points) i) ≡ Hit t u v false → ⊥))
 
 pub opaque-from-front : (scene : Scene) (kinds : List ℕ) (ray : Ray) → ((i : ℕ) → i < length (scene .uses) → MadeOpaque scene kinds ray i)
-    → SameAnswers scene (sceneOf (scene .points) (scene .uses) kinds (scene .numbers)) ray
-unfolding metAt countedOf counts stopsLight
+    → SameAnswers scene (withKinds scene kinds) ray
+unfolding metBy metAt countedOf counts stopsLight
 opaque-from-front scene kinds ray f =
-    alike-same scene (sceneOf (scene .points) (scene .uses) kinds (scene .numbers)) ray
+    alike-same scene (withKinds scene kinds) ray
     (record {
       long = refl;
-      met = λ i h. ⊎-elim (λ e. rw e refl) (λ e. both i (meetOf ray (triangleAt (scene .points) i)) refl (e .0) (e .1) (e .2)) (f i h);
+      met = λ i h. ⊎-elim (λ e. rw e refl) (λ e. ap (cond (scene .boxed && ownPassed (scene .points) ray i) Miss) (both i (meetOf ray (triangleAt (scene .points) i)) refl (e .0) (e .1) (e .2))) (f i h);
       stops = λ i t u v front h m. ⊎-elim (λ e. rw e refl) (λ e. rw (e .0, e .1) refl) (f i h);
       passes = λ i h. refl;
     })
@@ -113,10 +121,10 @@ MadeAbsent scene points ray i =
     × ((t u v : Float) → meetOf ray (triangleAt (scene .points) i) ≡ Hit t u v true → ⊥))
 
 pub absent-from-back : (scene : Scene) (points : List Float) (ray : Ray) → ((i : ℕ) → i < length (scene .uses) → MadeAbsent scene points ray i)
-    → SameAnswers scene (sceneOf points (scene .uses) (scene .kinds) (scene .numbers)) ray
-unfolding metAt
+    → SameAnswers scene (withPoints scene points) ray
+unfolding metBy metAt ownPassed
 absent-from-back scene points ray f =
-    alike-same scene (sceneOf points (scene .uses) (scene .kinds) (scene .numbers)) ray
+    alike-same scene (withPoints scene points) ray
     (record {
       long = refl;
       met =
@@ -125,7 +133,7 @@ absent-from-back scene points ray f =
           (λ e. rw e refl)
           (λ e.
           gone i (meetOf ray (triangleAt (scene .points) i)) refl (e .0) (e .2)
-          ∙ sym (missed-at points (scene .uses) (scene .kinds) ray i (absent-missed ray (triangleAt points i) (e .1))))
+          ∙ sym (by-missed (scene .boxed) points (scene .uses) (scene .kinds) ray i (missed-at points (scene .uses) (scene .kinds) ray i (absent-missed ray (triangleAt points i) (e .1)))))
           (f i h);
       stops = λ i t u v front h m. refl;
       passes = λ i h. refl;
@@ -133,22 +141,22 @@ absent-from-back scene points ray f =
   where
     gone : (i : ℕ) (m : Meet) → meetOf ray (triangleAt (scene .points) i) ≡ m → kindAt (scene .uses) (scene .kinds) i ≡ panelKind
         → ((t u v : Float) → meetOf ray (triangleAt (scene .points) i) ≡ Hit t u v true → ⊥) → meetAt scene ray i ≡ Miss
-    gone i Miss e p n = missed-at (scene .points) (scene .uses) (scene .kinds) ray i e
+    gone i Miss e p n = by-missed (scene .boxed) (scene .points) (scene .uses) (scene .kinds) ray i (missed-at (scene .points) (scene .uses) (scene .kinds) ray i e)
     gone i (Hit t u v true) e p n = absurd (n t u v e)
-    gone i (Hit t u v false) e p n = panel-back (scene .points) (scene .uses) (scene .kinds) ray i t u v p e
+    gone i (Hit t u v false) e p n = by-missed (scene .boxed) (scene .points) (scene .uses) (scene .kinds) ray i (panel-back (scene .points) (scene .uses) (scene .kinds) ray i t u v p e)
 
 -- ---- both: a scene with panels is one of document 01's, ray by ray
 
 -- the backs made absent and the panels opaque, both answers are document 01's
-pub panels-base : (scene : Scene) (points : List Float) (kinds : List ℕ) (ray : Ray)
+pub panels-base : (scene : Scene) (points : List Float) (kinds : List ℕ) (ray : Ray) → scene .boxed ≡ false
     → ((i : ℕ) → i < length (scene .uses) → MadeAbsent scene points ray i)
-    → ((i : ℕ) → i < length (scene .uses) → MadeOpaque (sceneOf points (scene .uses) (scene .kinds) (scene .numbers)) kinds ray i)
-    → NoPanels (sceneOf points (scene .uses) kinds (scene .numbers))
-    → let b = sceneOf points (scene .uses) kinds (scene .numbers) in
+    → ((i : ℕ) → i < length (scene .uses) → MadeOpaque (withPoints scene points) kinds ray i)
+    → NoPanels (withKinds (withPoints scene points) kinds)
+    → let b = withKinds (withPoints scene points) kinds in
     (nearestOf scene ray ≡ nearestBase b ray (length (scene .uses))) × (transmittanceOf scene ray ≡ transmittanceBase b ray)
-panels-base scene points kinds ray gone solid none =
-    let a = sceneOf points (scene .uses) (scene .kinds) (scene .numbers) in
-    let b = sceneOf points (scene .uses) kinds (scene .numbers) in
+panels-base scene points kinds ray treeless gone solid none =
+    let a = withPoints scene points in
+    let b = withKinds (withPoints scene points) kinds in
     let p = absent-from-back scene points ray gone in
     let q = opaque-from-front a kinds ray solid in
-    (p .nearest ∙ q .nearest ∙ nearest-base b ray none, p .transmittance ∙ q .transmittance ∙ transmittance-base b ray none)
+    (p .nearest ∙ q .nearest ∙ nearest-base b ray treeless none, p .transmittance ∙ q .transmittance ∙ transmittance-base b ray treeless none)

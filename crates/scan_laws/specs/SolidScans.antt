@@ -18,7 +18,7 @@ use Rattle.triangle.specs.Meet.{meetOf}
 use Rattle.triangle.specs.Places.{triangleAt}
 use Rattle.triangle.specs.declared.Meet.the-variants.{Hit}
 use Rattle.panels.specs.Panels.{kindAt, stopsLight, meetAt}
-use Rattle.panels.specs.PanelLaws.{plain-met}
+use Rattle.panels.specs.PanelLaws.{plain-met, by-list}
 use Rattle.hits.specs.Hits.{hitsOf}
 use Rattle.scan.specs.Nearest.{nearestOf}
 use Rattle.scan.specs.Transmittance.{passOf, transmittanceOf}
@@ -41,9 +41,9 @@ module _ (scene : Scene) (ray : Ray) (sound : Sound scene) (none : otherKind (sc
   opaque-at : (i : ℕ) → i < length (scene .uses) → kindAt (scene .uses) (scene .kinds) i ≡ opaqueKind
   opaque-at i h = none-other (scene .kinds) .0 none (getD (scene .uses) i 0) (sound .within i h)
 
-  -- what is met of a triangle is what the test answers, from either side
-  pub solid-met : (i : ℕ) → i < length (scene .uses) → meetAt scene ray i ≡ meetOf ray (triangleAt (scene .points) i)
-  solid-met i h = plain-met (scene .points) (scene .uses) (scene .kinds) ray i (λ e. let o = opaque-at i h in absurd (omega arith))
+  -- what is met of a triangle without a box tree is what the test answers, from either side
+  pub solid-met : scene .boxed ≡ false → (i : ℕ) → i < length (scene .uses) → meetAt scene ray i ≡ meetOf ray (triangleAt (scene .points) i)
+  solid-met treeless i h = rw treeless (by-list (scene .points) (scene .uses) (scene .kinds) ray i ∙ plain-met (scene .points) (scene .uses) (scene .kinds) ray i (λ e. let o = opaque-at i h in absurd (omega arith)))
 
   -- any hit leaves nothing
   pub solid-stopped : (i : ℕ) (t u v : Float) (front : Bool) → i < length (scene .uses) → meetAt scene ray i ≡ Hit t u v front → transmittanceOf scene ray ≡ zero32

@@ -1,34 +1,32 @@
--- The plain scan "over the triangles whose own padded box is not passed over, ties by place as before". Absent triangles are misses of the test itself.
-use mathlib.Core.Bool.{Bool, cond}
-use mathlib.Core.List.{List, []}
-use Prim.Native.Nat.{ℕ, zero, suc}
-use lib.ListN.{length}
+-- The plain scan "over the triangles whose own padded box is not passed over, ties by place as before": the scan of a scene that comes with a box tree. Absent
+-- triangles are misses of the test itself.
+use mathlib.Core.Bool.{true, false}
+use mathlib.Core.List.{List}
+use Prim.Native.Nat.{ℕ}
 use lib.Ieee.{Float}
 use Rattle.names.specs.Bits.{one32}
-use Rattle.names.specs.Scene.{Scene}
+use Rattle.names.specs.Scene.{Scene, sceneFor}
 use Rattle.vectors.specs.declared.Ray.{Ray}
-use Rattle.triangle.specs.Places.{triangleAt}
 use Rattle.triangle.specs.declared.Meet.{Meet}
-use Rattle.triangle.specs.declared.Meet.the-variants.{Miss}
-use Rattle.panels.specs.Panels.{metAt}
-use Rattle.hits.specs.Hits.{Struck, withMeet, placesOf}
-use Rattle.scan.specs.Nearest.{nearerOf}
-use Rattle.scan.specs.Transmittance.{passOf}
+use Rattle.panels.specs.Panels.{metBy, meetAt}
+use Rattle.hits.specs.Hits.{Struck, withMeet, hitsOf, placesOf}
+use Rattle.scan.specs.Nearest.{nearerOf, nearestTo, nearestOf}
+use Rattle.scan.specs.Transmittance.{passOf, transmittanceOf}
 use Rattle.scan.specs.declared.Nearest.{Nearest}
-use Rattle.scan.specs.declared.Nearest.the-variants.{Nothing}
-use Rattle.boxes.specs.Boxes.{paddedOf, passedOver}
 
--- whether the own padded box of the triangle at place i is passed over
-unfoldable pub ownPassed : List Float → Ray → ℕ → Bool
-ownPassed points ray i = passedOver (ray .origin) (ray .direction) (paddedOf (triangleAt points i))
+-- a scene read with its tree, and without
+abbrev pub boxedOf : Scene → Scene
+boxedOf s = sceneFor true (s .points) (s .uses) (s .kinds) (s .numbers) (s .boxes) (s .nodes) (s .order)
 
--- what a scan through boxes meets of the triangle at place i: nothing where its own padded box is passed over, else what any scan meets
-unfoldable pub boxedAt : List Float → List ℕ → List ℕ → Ray → ℕ → Meet
-boxedAt points uses kinds ray i = cond (ownPassed points ray i) Miss (metAt points uses kinds ray i)
+abbrev pub plainOf : Scene → Scene
+plainOf s = sceneFor false (s .points) (s .uses) (s .kinds) (s .numbers) (s .boxes) (s .nodes) (s .order)
 
--- the same of a scene
+-- what a scan through boxes meets of the triangle at place i
+abbrev pub boxedAt : List Float → List ℕ → List ℕ → Ray → ℕ → Meet
+boxedAt = metBy true
+
 abbrev pub boxedMeetAt : Scene → Ray → ℕ → Meet
-boxedMeetAt scene ray i = boxedAt (scene .points) (scene .uses) (scene .kinds) ray i
+boxedMeetAt scene = meetAt (boxedOf scene)
 
 -- ---- the nearest
 
@@ -37,13 +35,12 @@ abbrev pub nearestStep : List Float → List ℕ → List ℕ → Ray → Neares
 nearestStep points uses kinds ray held i = nearerOf held i (boxedAt points uses kinds ray i)
 
 -- among the first n triangles
-unfoldable pub nearestBoxedTo : Scene → Ray → ℕ → Nearest
-nearestBoxedTo scene ray zero = Nothing
-nearestBoxedTo scene ray (suc i) = nearerOf (nearestBoxedTo scene ray i) i (boxedMeetAt scene ray i)
+abbrev pub nearestBoxedTo : Scene → Ray → ℕ → Nearest
+nearestBoxedTo scene = nearestTo (boxedOf scene)
 
 -- and among all
-unfoldable pub nearestBoxed : Scene → Ray → Nearest
-nearestBoxed scene ray = nearestBoxedTo scene ray (length (scene .uses))
+abbrev pub nearestBoxed : Scene → Ray → Nearest
+nearestBoxed scene = nearestOf (boxedOf scene)
 
 -- ---- the hits, by distance and then by place, and what passes
 
@@ -51,13 +48,12 @@ abbrev pub hitsStep : List Float → List ℕ → List ℕ → Ray → List Stru
 hitsStep points uses kinds ray held i = withMeet held i (boxedAt points uses kinds ray i)
 
 -- of the first n triangles
-unfoldable pub hitsBoxed : Scene → Ray → ℕ → List Struck
-hitsBoxed scene ray zero = []
-hitsBoxed scene ray (suc i) = withMeet (hitsBoxed scene ray i) i (boxedMeetAt scene ray i)
+abbrev pub hitsBoxed : Scene → Ray → ℕ → List Struck
+hitsBoxed scene = hitsOf (boxedOf scene)
 
 -- what is left of the light after these hits
 abbrev pub passHits : Scene → List Struck → Float
 passHits scene hs = passOf (scene .uses) (scene .kinds) (scene .numbers) one32 (placesOf hs)
 
-unfoldable pub transmittanceBoxed : Scene → Ray → Float
-transmittanceBoxed scene ray = passHits scene (hitsBoxed scene ray (length (scene .uses)))
+abbrev pub transmittanceBoxed : Scene → Ray → Float
+transmittanceBoxed scene = transmittanceOf (boxedOf scene)

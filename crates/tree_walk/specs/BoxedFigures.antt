@@ -12,14 +12,14 @@ use Rattle.vectors.specs.Vectors.{vec, addV, subV, dotV, crossV, largerV, small
 use Rattle.vectors.specs.declared.Ray.{Ray}
 use Rattle.triangle.specs.Meet.{absentOf, solvedOf, frontOf, judgedOf, meetOf}
 use Rattle.triangle.specs.Places.{triangleAt}
-use Rattle.panels.specs.Panels.{counts, countedOf, metAt}
-use Rattle.hits.specs.Hits.{before, insertOf, withMeet, placesOf}
+use Rattle.panels.specs.Panels.{counts, countedOf, metAt, ownPassed, metBy}
+use Rattle.hits.specs.Hits.{before, insertOf, withMeet, hitsOf, placesOf}
 use Rattle.scan.specs.Nearest.{beats, nearerOf, nearestTo, nearestOf}
 use Rattle.scan.specs.declared.Nearest.{Nearest}
 use Rattle.scan.specs.declared.Nearest.the-variants.{Nothing, At}
 use Rattle.boxes.specs.Boxes.{paddedOf, beyond, passedOver}
 use Rattle.tree.specs.TreeFigures.{raisedTo}
-use Rattle.tree_walk.specs.Boxed.{ownPassed, boxedAt, nearestBoxedTo, nearestBoxed, hitsBoxed}
+use Rattle.tree_walk.specs.Boxed.{nearestBoxed, hitsBoxed}
 
 -- both of one translucent material
 abbrev sheets : Scene
@@ -43,10 +43,10 @@ told (At i t u v front) = suc i
 
 -- down: the upper sheet is the nearer, and both are hit, the upper first
 pub down-boxed : told (nearestOf sheets down) ∷ told (nearestBoxed sheets down) ∷ placesOf (hitsBoxed sheets down 2) ≡ 2 ∷ 2 ∷ 1 ∷ 0 ∷ []
-unfolding raisedTo magnitudeOf largerOf smallerOf addV subV dotV crossV largerV smallerV absentOf solvedOf frontOf judgedOf meetOf triangleAt counts countedOf metAt before insertOf withMeet beats nearerOf nearestTo nearestOf paddedOf beyond passedOver ownPassed boxedAt nearestBoxedTo nearestBoxed hitsBoxed Ieee.ofBits Ieee.ofFields Ieee.odd Ieee.neg Ieee.le Ieee.lt Ieee.eq Ieee.isNan Ieee.add Ieee.sub Ieee.mul Ieee.div Ieee.round Ieee.sum Ieee.units Ieee.size Ieee.span Ieee.climb
+unfolding raisedTo magnitudeOf largerOf smallerOf addV subV dotV crossV largerV smallerV absentOf solvedOf frontOf judgedOf meetOf triangleAt counts countedOf metAt before insertOf withMeet beats nearerOf nearestTo nearestOf paddedOf beyond passedOver ownPassed metBy hitsOf Ieee.ofBits Ieee.ofFields Ieee.odd Ieee.neg Ieee.le Ieee.lt Ieee.eq Ieee.isNan Ieee.add Ieee.sub Ieee.mul Ieee.div Ieee.round Ieee.sum Ieee.units Ieee.size Ieee.span Ieee.climb
 down-boxed = refl
 
 -- up: the full scan answers the lower sheet, at −3/2; the boxed scan nothing
 pub up-boxed : told (nearestOf sheets up) ∷ told (nearestBoxed sheets up) ∷ placesOf (hitsBoxed sheets up 2) ≡ 1 ∷ 0 ∷ []
-unfolding raisedTo magnitudeOf largerOf smallerOf addV subV dotV crossV largerV smallerV absentOf solvedOf frontOf judgedOf meetOf triangleAt counts countedOf metAt before insertOf withMeet beats nearerOf nearestTo nearestOf paddedOf beyond passedOver ownPassed boxedAt nearestBoxedTo nearestBoxed hitsBoxed Ieee.ofBits Ieee.ofFields Ieee.odd Ieee.neg Ieee.le Ieee.lt Ieee.eq Ieee.isNan Ieee.add Ieee.sub Ieee.mul Ieee.div Ieee.round Ieee.sum Ieee.units Ieee.size Ieee.span Ieee.climb
+unfolding raisedTo magnitudeOf largerOf smallerOf addV subV dotV crossV largerV smallerV absentOf solvedOf frontOf judgedOf meetOf triangleAt counts countedOf metAt before insertOf withMeet beats nearerOf nearestTo nearestOf paddedOf beyond passedOver ownPassed metBy hitsOf Ieee.ofBits Ieee.ofFields Ieee.odd Ieee.neg Ieee.le Ieee.lt Ieee.eq Ieee.isNan Ieee.add Ieee.sub Ieee.mul Ieee.div Ieee.round Ieee.sum Ieee.units Ieee.size Ieee.span Ieee.climb
 up-boxed = refl

@@ -8,11 +8,11 @@ use Rattle.names.specs.Scene.{Scene}
 use Rattle.vectors.specs.declared.Ray.{Ray}
 use Rattle.triangle.specs.declared.Meet.{Meet}
 use Rattle.triangle.specs.declared.Meet.the-variants.{Miss, Hit}
-use Rattle.panels.specs.Panels.{meetAt}
+use Rattle.panels.specs.Panels.{ownPassed, metBy, meetAt}
 use Rattle.hits.specs.Hits.{Struck, struck, before, insertOf, withMeet, hitsOf}
 use Rattle.hits.specs.BeforeLaws.{before-trans}
 use Rattle.scan_laws.specs.HitOrder.{Sorted, none, more, hits-sorted, sorted-all}
-use Rattle.tree_walk.specs.Boxed.{ownPassed, boxedMeetAt, hitsBoxed}
+use Rattle.tree_walk.specs.Boxed.{plainOf, boxedMeetAt, hitsBoxed}
 use Rattle.tree_walk.specs.BoxedLaws.{boxed-over, boxed-met, boxed-missed}
 
 -- of these hits the ones whose triangle's own padded box is not passed over
@@ -60,14 +60,14 @@ module _ (points : List Float) (ray : Ray) (h : Struck) where
       by false true p q r = rw q r
       by false false p q r = rw (q, p, r) refl
 
-pub boxed-hits : (scene : Scene) (ray : Ray) (n : ℕ) → hitsBoxed scene ray n ≡ notPassed (scene .points) ray (hitsOf scene ray n)
-unfolding hitsBoxed hitsOf withMeet notPassed
+pub boxed-hits : (scene : Scene) (ray : Ray) (n : ℕ) → hitsBoxed scene ray n ≡ notPassed (scene .points) ray (hitsOf (plainOf scene) ray n)
+unfolding hitsOf withMeet notPassed
 boxed-hits scene ray zero = refl
-boxed-hits scene ray (suc n) = by (meetAt scene ray n) (ownPassed (scene .points) ray n) refl refl (boxed-hits scene ray n)
+boxed-hits scene ray (suc n) = by (meetAt (plainOf scene) ray n) (ownPassed (scene .points) ray n) refl refl (boxed-hits scene ray n)
   where
-    by : (m : Meet) (b : Bool) → meetAt scene ray n ≡ m → ownPassed (scene .points) ray n ≡ b → hitsBoxed scene ray n ≡ notPassed (scene .points) ray (hitsOf scene ray n)
-        → withMeet (hitsBoxed scene ray n) n (boxedMeetAt scene ray n) ≡ notPassed (scene .points) ray (withMeet (hitsOf scene ray n) n m)
+    by : (m : Meet) (b : Bool) → meetAt (plainOf scene) ray n ≡ m → ownPassed (scene .points) ray n ≡ b → hitsBoxed scene ray n ≡ notPassed (scene .points) ray (hitsOf (plainOf scene) ray n)
+        → withMeet (hitsBoxed scene ray n) n (boxedMeetAt scene ray n) ≡ notPassed (scene .points) ray (withMeet (hitsOf (plainOf scene) ray n) n m)
     by Miss b e o r = rw (boxed-missed scene ray n e) r
-    by (Hit t u v front) true e o r = rw (boxed-over scene ray n o) (r ∙ sym (left-out (scene .points) ray (struck t n) o (hitsOf scene ray n)))
+    by (Hit t u v front) true e o r = rw (boxed-over scene ray n o) (r ∙ sym (left-out (scene .points) ray (struck t n) o (hitsOf (plainOf scene) ray n)))
     by (Hit t u v front) false e o r =
-        rw (boxed-met scene ray n o, e) (ap (insertOf (struck t n)) r ∙ kept-in (scene .points) ray (struck t n) o (hitsOf scene ray n) (hits-sorted scene ray n))
+        rw (boxed-met scene ray n o, e) (ap (insertOf (struck t n)) r ∙ kept-in (scene .points) ray (struck t n) o (hitsOf (plainOf scene) ray n) (hits-sorted (plainOf scene) ray n))

@@ -15,8 +15,8 @@ use Rattle.triangle.specs.Laws.{absent-missed}
 use Rattle.triangle.specs.Places.{triangleAt}
 use Rattle.triangle.specs.declared.Meet.{Meet}
 use Rattle.triangle.specs.declared.Meet.the-variants.{Miss, Hit}
-use Rattle.panels.specs.Panels.{meetAt}
-use Rattle.panels.specs.PanelLaws.{missed-at}
+use Rattle.panels.specs.Panels.{ownPassed, metBy, meetAt}
+use Rattle.panels.specs.PanelLaws.{missed-at, by-missed}
 use Rattle.hits.specs.Hits.{hitsOf}
 use Rattle.hits.specs.BeforeLaws.{hit-number}
 use Rattle.scan.specs.Nearest.{nearerOf, nearestTo, nearestOf}
@@ -25,26 +25,26 @@ use Rattle.scan.specs.declared.Nearest.{Nearest}
 use Rattle.scan.specs.declared.Nearest.the-variants.{Nothing, At}
 use Rattle.scan_laws.specs.BestLaws.{bestTo, IsBest, AllMisses, best-is-best, nothing-is-misses, misses-is-nothing, best-is-answered}
 use Rattle.tree.specs.Tree.{presentAt}
-use Rattle.tree_walk.specs.Boxed.{ownPassed, boxedAt, boxedMeetAt, nearestBoxedTo, nearestBoxed, hitsBoxed, passHits, transmittanceBoxed}
+use Rattle.tree_walk.specs.Boxed.{boxedOf, plainOf, boxedAt, boxedMeetAt, nearestBoxedTo, nearestBoxed, hitsBoxed, passHits, transmittanceBoxed}
 use Rattle.tree_walk.specs.SwapLaws.{NumberMeet}
 
 module _ (scene : Scene) (ray : Ray) where
   -- ---- one triangle
 
   pub boxed-over : (i : ℕ) → ownPassed (scene .points) ray i ≡ true → boxedMeetAt scene ray i ≡ Miss
-  unfolding boxedAt
+  unfolding metBy
   boxed-over i h = rw h refl
 
-  pub boxed-met : (i : ℕ) → ownPassed (scene .points) ray i ≡ false → boxedMeetAt scene ray i ≡ meetAt scene ray i
-  unfolding boxedAt
+  pub boxed-met : (i : ℕ) → ownPassed (scene .points) ray i ≡ false → boxedMeetAt scene ray i ≡ meetAt (plainOf scene) ray i
+  unfolding metBy
   boxed-met i h = rw h refl
 
   -- a boxed hit is one of the scan without boxes, and its own box is not passed over
   pub boxed-hit : (i : ℕ) (t u v : Float) (front : Bool) → boxedMeetAt scene ray i ≡ Hit t u v front
-      → (meetAt scene ray i ≡ Hit t u v front) × (ownPassed (scene .points) ray i ≡ false)
+      → (meetAt (plainOf scene) ray i ≡ Hit t u v front) × (ownPassed (scene .points) ray i ≡ false)
   boxed-hit i t u v front e = by (ownPassed (scene .points) ray i) refl
     where
-      by : (b : Bool) → ownPassed (scene .points) ray i ≡ b → (meetAt scene ray i ≡ Hit t u v front) × (ownPassed (scene .points) ray i ≡ false)
+      by : (b : Bool) → ownPassed (scene .points) ray i ≡ b → (meetAt (plainOf scene) ray i ≡ Hit t u v front) × (ownPassed (scene .points) ray i ≡ false)
       by true h = let m = boxed-over i h in absurd (false≢true cc)
       by false h = (sym (boxed-met i h) ∙ e, h)
 
@@ -53,9 +53,9 @@ module _ (scene : Scene) (ray : Ray) where
     where
       by : (m : Meet) → boxedMeetAt scene ray i ≡ m → NumberMeet m
       by Miss e = tt
-      by (Hit t u v front) e = hit-number (scene .points) (scene .uses) (scene .kinds) ray i t u v front (boxed-hit i t u v front e .0)
+      by (Hit t u v front) e = hit-number false (scene .points) (scene .uses) (scene .kinds) ray i t u v front (boxed-hit i t u v front e .0)
 
-  pub boxed-missed : (i : ℕ) → meetAt scene ray i ≡ Miss → boxedMeetAt scene ray i ≡ Miss
+  pub boxed-missed : (i : ℕ) → meetAt (plainOf scene) ray i ≡ Miss → boxedMeetAt scene ray i ≡ Miss
   boxed-missed i e = by (ownPassed (scene .points) ray i) refl
     where
       by : (b : Bool) → ownPassed (scene .points) ray i ≡ b → boxedMeetAt scene ray i ≡ Miss
@@ -66,8 +66,8 @@ module _ (scene : Scene) (ray : Ray) where
   pub boxed-absent : (i : ℕ) → i < length (scene .points) / 9 → presentAt (scene .points) i ≡ false → boxedMeetAt scene ray i ≡ Miss
   unfolding presentAt
   boxed-absent i h e =
-      boxed-missed i (missed-at (scene .points) (scene .uses) (scene .kinds) ray i
-      (absent-missed ray (triangleAt (scene .points) i) (by (absentOf (triangleAt (scene .points) i)) (rw (lt-ltb i (length (scene .points) / 9) h) at e))))
+      boxed-missed i (by-missed false (scene .points) (scene .uses) (scene .kinds) ray i (missed-at (scene .points) (scene .uses) (scene .kinds) ray i
+      (absent-missed ray (triangleAt (scene .points) i) (by (absentOf (triangleAt (scene .points) i)) (rw (lt-ltb i (length (scene .points) / 9) h) at e)))))
     where
       by : (b : Bool) → not b ≡ false → b ≡ true
       by true k = refl
@@ -77,34 +77,34 @@ module _ (scene : Scene) (ray : Ray) where
 
   -- a triangle that the full scan hits and whose own padded box is passed over: the request's differences
   abbrev pub LeftOut : ℕ → Type 0
-  LeftOut i = (t : Float) × (u : Float) × (v : Float) × (front : Bool) × (meetAt scene ray i ≡ Hit t u v front) × (ownPassed (scene .points) ray i ≡ true)
+  LeftOut i = (t : Float) × (u : Float) × (v : Float) × (front : Bool) × (meetAt (plainOf scene) ray i ≡ Hit t u v front) × (ownPassed (scene .points) ray i ≡ true)
 
   -- where it is none of those, a triangle is met as before
-  pub boxed-same : (i : ℕ) → (LeftOut i → ⊥) → boxedMeetAt scene ray i ≡ meetAt scene ray i
-  boxed-same i none = by (ownPassed (scene .points) ray i) (meetAt scene ray i) refl refl
+  pub boxed-same : (i : ℕ) → (LeftOut i → ⊥) → boxedMeetAt scene ray i ≡ meetAt (plainOf scene) ray i
+  boxed-same i none = by (ownPassed (scene .points) ray i) (meetAt (plainOf scene) ray i) refl refl
     where
-      by : (b : Bool) (m : Meet) → ownPassed (scene .points) ray i ≡ b → meetAt scene ray i ≡ m → boxedMeetAt scene ray i ≡ meetAt scene ray i
+      by : (b : Bool) (m : Meet) → ownPassed (scene .points) ray i ≡ b → meetAt (plainOf scene) ray i ≡ m → boxedMeetAt scene ray i ≡ meetAt (plainOf scene) ray i
       by false m h e = boxed-met i h
       by true Miss h e = boxed-missed i e ∙ sym e
       by true (Hit t u v front) h e = absurd (none (t, u, v, front, e, h))
 
-  nearest-same-to : (n : ℕ) → ((i : ℕ) → i < n → LeftOut i → ⊥) → nearestBoxedTo scene ray n ≡ nearestTo scene ray n
-  unfolding nearestBoxedTo nearestTo
+  nearest-same-to : (n : ℕ) → ((i : ℕ) → i < n → LeftOut i → ⊥) → nearestBoxedTo scene ray n ≡ nearestTo (plainOf scene) ray n
+  unfolding nearestTo
   nearest-same-to zero h = refl
   nearest-same-to (suc n) h = rw (nearest-same-to n (λ i l. h i (omega arith)), boxed-same n (h n (omega arith)))
 
-  pub hits-same : (n : ℕ) → ((i : ℕ) → i < n → LeftOut i → ⊥) → hitsBoxed scene ray n ≡ hitsOf scene ray n
-  unfolding hitsBoxed hitsOf
+  pub hits-same : (n : ℕ) → ((i : ℕ) → i < n → LeftOut i → ⊥) → hitsBoxed scene ray n ≡ hitsOf (plainOf scene) ray n
+  unfolding hitsOf
   hits-same zero h = refl
   hits-same (suc n) h = rw (hits-same n (λ i l. h i (omega arith)), boxed-same n (h n (omega arith)))
 
   module _ (none : (i : ℕ) → i < length (scene .uses) → LeftOut i → ⊥) where
-    pub nearest-same : nearestBoxed scene ray ≡ nearestOf scene ray
-    unfolding nearestBoxed nearestOf
+    pub nearest-same : nearestBoxed scene ray ≡ nearestOf (plainOf scene) ray
+    unfolding nearestOf
     nearest-same = nearest-same-to (length (scene .uses)) none
 
-    pub transmittance-same : transmittanceBoxed scene ray ≡ transmittanceOf scene ray
-    unfolding transmittanceBoxed transmittanceOf
+    pub transmittance-same : transmittanceBoxed scene ray ≡ transmittanceOf (plainOf scene) ray
+    unfolding transmittanceOf
     transmittance-same = ap (passHits scene) (hits-same (length (scene .uses)) none)
 
   -- ---- what the nearest is
@@ -114,13 +114,13 @@ module _ (scene : Scene) (ray : Ray) where
   IsNearestBoxed n i t u v front = IsBest (boxedMeetAt scene ray) n i t u v front
 
   boxed-best : (n : ℕ) → nearestBoxedTo scene ray n ≡ bestTo (boxedMeetAt scene ray) n
-  unfolding nearestBoxedTo
+  unfolding nearestTo
   boxed-best zero = refl
   boxed-best (suc n) = ap (λ (b : Nearest). nearerOf b n (boxedMeetAt scene ray n)) (boxed-best n)
 
   -- a hit is answered exactly where it is the nearest
   pub boxed-exactly : (i : ℕ) (t u v : Float) (front : Bool) → (nearestBoxed scene ray ≡ At i t u v front) ↔ IsNearestBoxed (length (scene .uses)) i t u v front
-  unfolding nearestBoxed
+  unfolding nearestOf
   boxed-exactly i t u v front =
       let n = length (scene .uses) in (
         λ e. best-is-best (boxedMeetAt scene ray) n i t u v front (sym (boxed-best n) ∙ e),
@@ -128,11 +128,11 @@ module _ (scene : Scene) (ray : Ray) where
       )
     where
       number : (j : ℕ) (s p q : Float) (side : Bool) → boxedMeetAt scene ray j ≡ Hit s p q side → isNan s ≡ false
-      number j s p q side e = hit-number (scene .points) (scene .uses) (scene .kinds) ray j s p q side (boxed-hit j s p q side e .0)
+      number j s p q side e = hit-number false (scene .points) (scene .uses) (scene .kinds) ray j s p q side (boxed-hit j s p q side e .0)
 
   -- and nothing exactly where all are missed
   pub boxed-nothing : (nearestBoxed scene ray ≡ Nothing) ↔ AllMisses (boxedMeetAt scene ray) (length (scene .uses))
-  unfolding nearestBoxed
+  unfolding nearestOf
   boxed-nothing =
       let n = length (scene .uses) in (
         λ e. nothing-is-misses (boxedMeetAt scene ray) n (sym (boxed-best n) ∙ e),

@@ -15,9 +15,11 @@ use Rattle.names.specs.Scene.{Scene, Sound}
 use Rattle.vectors.specs.declared.Ray.{Ray}
 use Rattle.triangle.specs.declared.Meet.{Meet}
 use Rattle.triangle.specs.declared.Meet.the-variants.{Miss}
-use Rattle.hits.specs.Hits.{Struck, withMeet}
+use Rattle.hits.specs.Hits.{Struck, withMeet, hitsOf}
 use Rattle.hits.specs.Merge.{Numbers}
-use Rattle.scan.specs.Nearest.{nearerOf}
+use Rattle.scan.specs.Nearest.{nearerOf, nearestTo, nearestOf}
+use Rattle.scan.specs.Transmittance.{transmittanceOf}
+use Rattle.panels.specs.Panels.{ownPassed}
 use Rattle.scan.specs.declared.Nearest.{Nearest}
 use Rattle.scan.specs.declared.Nearest.the-variants.{Nothing}
 use Rattle.boxes.specs.Boxes.{boundsAt, passedOver}
@@ -25,7 +27,7 @@ use Rattle.tree.specs.Tree.{boxCount, countAt, innerAt, leftAt, rightAt, placeA
 use Rattle.tree.specs.SumLaws.{positive}
 use Rattle.tree.specs.TestLaws.{present-within}
 use Rattle.tree.specs.AcceptedLaws.{leaf-present, halves-passed, triangles-passed}
-use Rattle.tree_walk.specs.Boxed.{ownPassed, boxedMeetAt, nearestStep, nearestBoxedTo, nearestBoxed, hitsStep, hitsBoxed, passHits, transmittanceBoxed}
+use Rattle.tree_walk.specs.Boxed.{boxedMeetAt, nearestStep, nearestBoxedTo, nearestBoxed, hitsStep, hitsBoxed, passHits, transmittanceBoxed}
 use Rattle.tree_walk.specs.Walk.{runVisit, nodeVisit, treeVisit, nearestThrough, hitsThrough, transmittanceThrough, TreeFits}
 use Rattle.tree_walk.specs.SwapLaws.{NumberHeld, nearer-swap, nearer-number, hits-swap, hits-numbers}
 use Rattle.tree_walk.specs.BoxedLaws.{boxed-over, boxed-number, boxed-absent}
@@ -119,12 +121,12 @@ module _ (points boxes : List Float) (nodes order : List ℕ) (t : AcceptedTree 
 -- ---- of a scene
 
 nearest-scan : (scene : Scene) (ray : Ray) (n : ℕ) → scanFrom (nearestStep (scene .points) (scene .uses) (scene .kinds) ray) Nothing n ≡ nearestBoxedTo scene ray n
-unfolding nearestBoxedTo
+unfolding nearestTo
 nearest-scan scene ray zero = refl
 nearest-scan scene ray (suc n) = ap (λ (b : Nearest). nearerOf b n (boxedMeetAt scene ray n)) (nearest-scan scene ray n)
 
 hits-scan : (scene : Scene) (ray : Ray) (n : ℕ) → scanFrom (hitsStep (scene .points) (scene .uses) (scene .kinds) ray) [] n ≡ hitsBoxed scene ray n
-unfolding hitsBoxed
+unfolding hitsOf
 hits-scan scene ray zero = refl
 hits-scan scene ray (suc n) = ap (λ (hs : List Struck). withMeet hs n (boxedMeetAt scene ray n)) (hits-scan scene ray n)
 
@@ -156,7 +158,7 @@ module _ (scene : Scene) (sound : Sound scene) (boxes : List Float) (nodes order
 
   -- the nearest hit through an accepted tree
   pub walk-nearest : (ray : Ray) → nearestThrough scene boxes nodes order ray ≡ nearestBoxed scene ray
-  unfolding nearestThrough nearestBoxed
+  unfolding nearestThrough nearestOf
   walk-nearest ray =
       walk-scan (scene .points) boxes nodes order t ray (nearestStep (scene .points) (scene .uses) (scene .kinds) ray)
       (λ b p h. nearer-missed b p (boxedMeetAt scene ray p) (boxed-over scene ray p h))
@@ -184,7 +186,7 @@ module _ (scene : Scene) (sound : Sound scene) (boxes : List Float) (nodes order
 
   -- and what passes
   pub walk-transmittance : (ray : Ray) → transmittanceThrough scene boxes nodes order ray ≡ transmittanceBoxed scene ray
-  unfolding transmittanceThrough transmittanceBoxed
+  unfolding transmittanceThrough transmittanceOf
   walk-transmittance ray = ap (passHits scene) (walk-hits ray)
 
 -- two accepted trees of one scene give the same answers

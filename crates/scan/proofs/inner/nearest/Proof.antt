@@ -1,14 +1,15 @@
 -- `scan::inner::nearest` meets its contract. The loop's invariant: what is held is the nearest among the first i. What the search passes over, and what is not
 -- met, changes nothing, and what is met is one step of the definition.
 use mathlib.Core.Path.{_≡_, refl, sym, _∙_}
+use mathlib.Core.Bool.{false}
 use Prim.Native.Nat.{_≤_, _<_, _-_}
 use native.Mathlib.Omega.{arith}
 use native.Mathlib.Numerals.{add-one}
 use lib.ListN.{length}
 use Rattle.names.specs.Scene.{sceneOf}
 use Rattle.triangle.specs.Missed.{AllMiss, missed-one}
-use Rattle.panels.specs.Panels.{metAt}
-use Rattle.panels.specs.PanelLaws.{all-missed-at}
+use Rattle.panels.specs.Panels.{metBy}
+use Rattle.panels.specs.PanelLaws.{by-list, all-missed-by}
 use Rattle.scan.specs.FirstHit.{nearest-over, nearest-first}
 use Rattle.scan.specs.Nearest.{nearestTo, nearestOf}
 use borrow.Author.Needs.{needs}
@@ -33,8 +34,8 @@ first-open-requires c κs = (omega arith, omega arith)
 passed-over : (c : tie.After-first-open Inv-loop μ-loop)
     → let at = c .before .before in
     let a = at .before .before .before .before .before .args in
-    AllMiss (metAt (a .points .now) (a .uses .now) (a .kinds .now) (a .ray)) (at .loop .i) (c .first-open .result)
-passed-over c = all-missed-at _ _ _ _ _ _ (c .first-open .ensures .2)
+    AllMiss (metBy false (a .points .now) (a .uses .now) (a .kinds .now) (a .ray)) (at .loop .i) (c .first-open .result)
+passed-over c = all-missed-by false _ _ _ _ _ _ (c .first-open .ensures .2)
 
 returns : tie.Need-returns Inv-loop μ-loop
 unfolding nearestOf
@@ -67,7 +68,7 @@ loop-again c =
     let at = f .before .before .loop in (
       omega arith,
       at .inv .1
-          ∙ sym (nearest-over _ _ _ _ (omega arith) (missed-one _ _ _ (passed-over f) (sym (m .meet-at .ensures) ∙ c .enum-told .given .1))),
+          ∙ sym (nearest-over _ _ _ _ (omega arith) (missed-one _ _ _ (passed-over f) (by-list _ _ _ _ _ ∙ sym (m .meet-at .ensures) ∙ c .enum-told .given .1))),
     )
 
 enum-known-m : tie.Need-enum-known-m Inv-loop μ-loop
@@ -89,7 +90,7 @@ loop-again-2 c =
     let scene = sceneOf (a .points .now) (a .uses .now) (a .kinds .now) (a .numbers .now) in (
       omega arith,
       rw (add-one, c .nearer .ensures, at .inv .1)
-          (sym (nearest-first scene _ _ (length (a .uses .now)) _ _ _ _ _ (omega arith, omega arith, passed-over f, sym (m .meet-at .ensures) ∙ h .m .given .1))),
+          (sym (nearest-first scene _ _ (length (a .uses .now)) _ _ _ _ _ (omega arith, omega arith, passed-over f, by-list _ _ _ _ _ ∙ sym (m .meet-at .ensures) ∙ h .m .given .1))),
     )
 
 returns-2 : tie.Need-returns-2 Inv-loop μ-loop

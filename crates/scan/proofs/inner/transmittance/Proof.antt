@@ -174,7 +174,7 @@ loop-again-2 c =
           ∙ insert-all-append [] (paired (take (at .m) (at .distances)) (take (at .m) (at .places))) _
           ∙ rw (at .inv .4, add-one) (sym (hits-first scene _ _ _ _ _ _ _ _ g)),
       subst (λ (l : List Struck). Numbers l) (sym one)
-          (numbers-append (paired (take (at .m) (at .distances)) (take (at .m) (at .places))) _ (at .inv .5) (hit-number _ _ _ _ _ _ _ _ _ (g .3), tt)),
+          (numbers-append (paired (take (at .m) (at .distances)) (take (at .m) (at .places))) _ (at .inv .5) (hit-number _ _ _ _ _ _ _ _ _ _ (g .3), tt)),
       rw (add-one, hits-first scene _ _ _ _ _ _ _ _ g)
           (none-opaque-put (a .uses .now) (a .kinds .now) (struck (h .f .given .0 .1 .0) (h .f .given .0 .0)) (hitsOf scene (a .ray) (at .i)) (clear-hit (c .before)) (at .inv .6)),
       c .one-more .ensures .0,

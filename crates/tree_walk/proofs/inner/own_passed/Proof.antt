@@ -1,5 +1,5 @@
 -- `tree_walk::inner::own_passed` meets its contract: the triangle, its box and the question are the definition's.
-use Rattle.tree_walk.specs.Boxed.{ownPassed}
+use Rattle.panels.specs.Panels.{ownPassed}
 use borrow.Author.Needs.{needs}
 use Rattle.tree_walk.proofs.inner.own_passed.Statement.{statement}
 use Rattle.tree_walk.proofs.inner.own_passed.Tie as tie

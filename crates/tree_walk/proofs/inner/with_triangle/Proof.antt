@@ -6,10 +6,11 @@ use lib.Ieee.{Float}
 use Rattle.names.specs.Scene.{sceneOf}
 use Rattle.vectors.specs.declared.Ray.{Ray}
 use Rattle.triangle.specs.declared.Meet.the-variants.{Miss}
-use Rattle.panels.specs.Panels.{metAt}
+use Rattle.panels.specs.Panels.{metAt, metBy}
+use Rattle.panels.specs.PanelLaws.{by-list}
 use Rattle.scan.specs.Nearest.{nearerOf}
 use Rattle.scan.specs.declared.Nearest.{Nearest}
-use Rattle.tree_walk.specs.Boxed.{boxedAt, nearestStep}
+use Rattle.tree_walk.specs.Boxed.{nearestStep}
 use Rattle.tree_walk.specs.BoxedLaws.{boxed-missed}
 use borrow.Author.Needs.{needs}
 use Rattle.tree_walk.proofs.inner.with_triangle.Statement.{statement}
@@ -18,7 +19,7 @@ use Rattle.tree_walk.proofs.inner.with_triangle.Tie as tie
 missed : (points : List Float) (uses kinds : List ℕ) (ray : Ray) (best : Nearest) (i : ℕ) → metAt points uses kinds ray i ≡ Miss
     → best ≡ nearestStep points uses kinds ray best i
 unfolding nearerOf
-missed points uses kinds ray best i e = rw (boxed-missed (sceneOf points uses kinds []) ray i e) refl
+missed points uses kinds ray best i e = rw (boxed-missed (sceneOf points uses kinds []) ray i (by-list points uses kinds ray i ∙ e)) refl
 
 meet-at-requires : tie.Need-meet-at-requires
 meet-at-requires c κs = search needs
@@ -33,7 +34,7 @@ own-passed-requires : tie.Need-own-passed-requires
 own-passed-requires c κs = search needs
 
 returns : tie.Need-returns
-unfolding boxedAt nearerOf
+unfolding metBy nearerOf
 returns c = rw (← c .before .own-passed .ensures, c .if1 .taken)
 
 nearer-requires : tie.Need-nearer-requires
@@ -43,7 +44,7 @@ returns-2 : tie.Need-returns-2
 returns-2 c = missed _ _ _ _ _ _ (sym (c .before .before .meet-at .ensures) ∙ c .enum-told .given .1)
 
 returns-3 : tie.Need-returns-3
-unfolding boxedAt
+unfolding metBy
 returns-3 c =
     rw (
       c .nearer .ensures,
