@@ -194,13 +194,14 @@ module _ (points boxes : List Float) (nodes order depths seen : List ℕ) (start
       by true q = let g = good m (omega arith) .pair q .left in absurd (omega (arith, g .follows, g .within))
       by false q = (placeAt nodes order m 0, good m (omega arith) .run q .places 0 (positive (countAt nodes m) (eqb-false (countAt nodes m) 0 q)) .present)
 
-  pub found-accepted : GoodLists boxes nodes
+  pub found-accepted : GoodLists points boxes nodes order
       → ((p : ℕ) → presentAt points p ≡ true → getD (seenTo nodes order seen (boxCount nodes)) p 0 ≡ 0 → ⊥)
       → AcceptedTree points boxes nodes order
   found-accepted lists met =
       record {
         nodesFit = lists .nodesFit;
         boxesFit = lists .boxesFit;
+        orderFits = lists .orderFits;
         oneParent = parents-one;
         standsOnce = once;
         othersNowhere = λ p e. omega (arith, stands-most (boxCount nodes) (omega arith) p, ap one e);

@@ -80,8 +80,9 @@ badBoxAt points boxes nodes order depths seen i = badBox points boxes nodes orde
 unfoldable pub missed : List Float → List ℕ → ℕ → Bool
 missed points seen p = presentAt points p && eqb (getD seen p 0) 0
 
-unfoldable pub wrongLists : List Float → List ℕ → Bool
-wrongLists boxes nodes = not (eqb (length nodes) (boxCount nodes * 3)) || not (eqb (length boxes) (boxCount nodes * 6))
+unfoldable pub wrongLists : List Float → List Float → List ℕ → List ℕ → Bool
+wrongLists points boxes nodes order =
+    not (eqb (length nodes) (boxCount nodes * 3)) || not (eqb (length boxes) (boxCount nodes * 6)) || ltb (length points / 9) (length order)
 
 -- ---- the test
 
@@ -96,7 +97,7 @@ unfoldable pub acceptedBy : List Float → List Float → List ℕ → List ℕ 
 acceptedBy points boxes nodes order =
     not
     (ltb boxLimit (boxCount nodes)
-    || wrongLists boxes nodes
+    || wrongLists points boxes nodes order
     || any (badBoxAt points boxes nodes order firstDepths noneSeen) (boxCount nodes) 0
     || any (missed points (seenTo nodes order noneSeen (boxCount nodes))) (length points / 9) 0)
 

@@ -42,24 +42,28 @@ none-any f m n = go (any f m 0) refl
 
 -- ---- the lists
 
-pub record GoodLists (boxes : List Float) (nodes : List ℕ) : Type 0 where
+pub record GoodLists (points boxes : List Float) (nodes order : List ℕ) : Type 0 where
   pub nodesFit : length nodes ≡ boxCount nodes * 3
   pub boxesFit : length boxes ≡ boxCount nodes * 6
+  pub orderFits : length order ≤ length points / 9
 
-pub lists-out : (boxes : List Float) (nodes : List ℕ) → wrongLists boxes nodes ≡ false → GoodLists boxes nodes
+pub lists-out : (points boxes : List Float) (nodes order : List ℕ) → wrongLists points boxes nodes order ≡ false → GoodLists points boxes nodes order
 unfolding wrongLists
-lists-out boxes nodes e =
+lists-out points boxes nodes order e =
     let a = eqb (length nodes) (boxCount nodes * 3) in
     let b = eqb (length boxes) (boxCount nodes * 6) in
-    let p = neither (not a) (not b) e in
+    let p = neither (not a || not b) (ltb (length points / 9) (length order)) e in
+    let q = neither (not a) (not b) (p .0) in
     record {
-      nodesFit = eqb-true (length nodes) (boxCount nodes * 3) (not-false a (p .0));
-      boxesFit = eqb-true (length boxes) (boxCount nodes * 6) (not-false b (p .1));
+      nodesFit = eqb-true (length nodes) (boxCount nodes * 3) (not-false a (q .0));
+      boxesFit = eqb-true (length boxes) (boxCount nodes * 6) (not-false b (q .1));
+      orderFits = ltb-false (length points / 9) (length order) (p .1);
     }
 
-pub lists-in : (boxes : List Float) (nodes : List ℕ) → GoodLists boxes nodes → wrongLists boxes nodes ≡ false
+pub lists-in : (points boxes : List Float) (nodes order : List ℕ) → GoodLists points boxes nodes order → wrongLists points boxes nodes order ≡ false
 unfolding wrongLists
-lists-in boxes nodes g = rw (eq-eqb (length nodes) (boxCount nodes * 3) (g .nodesFit), eq-eqb (length boxes) (boxCount nodes * 6) (g .boxesFit)) refl
+lists-in points boxes nodes order g =
+    rw (eq-eqb (length nodes) (boxCount nodes * 3) (g .nodesFit), eq-eqb (length boxes) (boxCount nodes * 6) (g .boxesFit), le-ltb (length points / 9) (length order) (g .orderFits)) refl
 
 -- ---- a present triangle
 

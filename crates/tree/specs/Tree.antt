@@ -85,6 +85,8 @@ pub record AcceptedTree (points boxes : List Float) (nodes order : List ℕ) : T
   -- the lists fit each other
   pub nodesFit : length nodes ≡ boxCount nodes * 3
   pub boxesFit : length boxes ≡ boxCount nodes * 6
+  -- the order is no longer than the triangles are many
+  pub orderFits : length order ≤ length points / 9
   pub oneParent : (j : ℕ) → 0 < j → j < boxCount nodes → parentsTo nodes (boxCount nodes) j ≡ 1
   pub standsOnce : (p : ℕ) → presentAt points p ≡ true → standsTo nodes order (boxCount nodes) p ≡ 1
   -- an absent triangle, or a place past the list, stands nowhere

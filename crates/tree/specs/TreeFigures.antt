@@ -32,6 +32,10 @@ two = raisedTo zero32 ++ raisedTo one32
 abbrev three : List Float
 three = two ++ raisedTo two32
 
+-- an absent triangle
+abbrev flat : List Float
+flat = replicate 9 zero32
+
 -- a box between two heights
 unfoldable pub boxFrom : Float → Float → List Float
 boxFrom low high = minusOne ∷ minusOne ∷ low ∷ two32 ∷ two32 ∷ high ∷ []
@@ -45,16 +49,16 @@ halves = boxFrom minusOne half32 ++ boxFrom half32 two32
 
 -- ---- accepted
 
--- one leaf, in either order, whose third number is not asked; an infinite box; an inner box with two leaves, either one first; what the order holds past the runs is
--- not asked; no box over no triangle, and over one that is absent
+-- one leaf, in either order, whose third number is not asked; an infinite box; an inner box with two leaves, either one first; what the order holds outside the runs is
+-- not asked, while it is no longer than the triangles are many, absent ones too; no box over no triangle, and over one that is absent
 pub accepted-trees :
     acceptedBy two both (2 ∷ 0 ∷ 7 ∷ []) (0 ∷ 1 ∷ [])
     ∷ acceptedBy two both (2 ∷ 0 ∷ 7 ∷ []) (1 ∷ 0 ∷ [])
     ∷ acceptedBy two (boxFrom minusOne inf32) (2 ∷ 0 ∷ 0 ∷ []) (0 ∷ 1 ∷ [])
     ∷ acceptedBy two (both ++ halves) (0 ∷ 1 ∷ 2 ∷ 1 ∷ 0 ∷ 0 ∷ 1 ∷ 1 ∷ 0 ∷ []) (0 ∷ 1 ∷ [])
-    ∷ acceptedBy two (both ++ halves) (0 ∷ 2 ∷ 1 ∷ 1 ∷ 1 ∷ 0 ∷ 1 ∷ 2 ∷ 0 ∷ []) (9 ∷ 0 ∷ 1 ∷ 0 ∷ [])
+    ∷ acceptedBy (two ++ flat ++ flat) (both ++ halves) (0 ∷ 2 ∷ 1 ∷ 1 ∷ 1 ∷ 0 ∷ 1 ∷ 2 ∷ 0 ∷ []) (9 ∷ 0 ∷ 1 ∷ 0 ∷ [])
     ∷ acceptedBy [] [] [] []
-    ∷ acceptedBy (zero32 ∷ zero32 ∷ zero32 ∷ zero32 ∷ zero32 ∷ zero32 ∷ zero32 ∷ zero32 ∷ zero32 ∷ []) [] [] (0 ∷ [])
+    ∷ acceptedBy flat [] [] (0 ∷ [])
     ∷ []
     ≡ true ∷ true ∷ true ∷ true ∷ true ∷ true ∷ true ∷ []
 unfolding raisedTo boxFrom any largerOf smallerOf addV subV dotV crossV largerV smallerV absentOf triangleAt boundsAt paddedOf atMost insideOf countAt leftAt rightAt placeAt presentAt markPair depthsTo seeRun seenTo badHalf badPair badPlace badRun badBox missed wrongLists firstDepths noneSeen acceptedBy Ieee.ofBits Ieee.ofFields Ieee.odd Ieee.neg Ieee.le Ieee.lt Ieee.eq Ieee.isNan Ieee.add Ieee.sub Ieee.mul Ieee.round Ieee.sum Ieee.units Ieee.size Ieee.span Ieee.climb
@@ -64,14 +68,14 @@ accepted-trees = refl
 
 -- each is refused for one thing: a triangle is missing; one stands twice, in one leaf and in two; an absent one stands in a leaf, and a place past the list; a run goes
 -- past the order; a bound is NaN, of a leaf and of an inner box; a leaf's box holds a triangle and not its padding; a half does not lie inside; a box has two parents, and is
--- both halves of one; it stands before its parent; a half is past the list; a box has no parent; the first is its own half; nodes or boxes are left over; no box stands
--- over a triangle, and one over none
+-- both halves of one; it stands before its parent; a half is past the list; a box has no parent; the first is its own half; nodes or boxes are left over; the order is
+-- longer than the triangles are many; no box stands over a triangle, and one over none
 pub refused-trees :
     acceptedBy two both (1 ∷ 0 ∷ 0 ∷ []) (0 ∷ 1 ∷ [])
-    ∷ acceptedBy two both (3 ∷ 0 ∷ 0 ∷ []) (0 ∷ 1 ∷ 0 ∷ [])
+    ∷ acceptedBy (two ++ flat) both (3 ∷ 0 ∷ 0 ∷ []) (0 ∷ 1 ∷ 0 ∷ [])
     ∷ acceptedBy two (both ++ both ++ both) (0 ∷ 1 ∷ 2 ∷ 2 ∷ 0 ∷ 0 ∷ 1 ∷ 1 ∷ 0 ∷ []) (0 ∷ 1 ∷ [])
-    ∷ acceptedBy (zero32 ∷ zero32 ∷ zero32 ∷ zero32 ∷ zero32 ∷ zero32 ∷ zero32 ∷ zero32 ∷ zero32 ∷ []) both (1 ∷ 0 ∷ 0 ∷ []) (0 ∷ [])
-    ∷ acceptedBy two both (3 ∷ 0 ∷ 0 ∷ []) (0 ∷ 1 ∷ 2 ∷ [])
+    ∷ acceptedBy flat both (1 ∷ 0 ∷ 0 ∷ []) (0 ∷ [])
+    ∷ acceptedBy (two ++ flat) both (3 ∷ 0 ∷ 0 ∷ []) (0 ∷ 1 ∷ 3 ∷ [])
     ∷ acceptedBy two both (2 ∷ 1 ∷ 0 ∷ []) (0 ∷ 1 ∷ [])
     ∷ acceptedBy two (boxFrom nan two32) (2 ∷ 0 ∷ 0 ∷ []) (0 ∷ 1 ∷ [])
     ∷ acceptedBy two (boxFrom nan two32 ++ halves) (0 ∷ 1 ∷ 2 ∷ 1 ∷ 0 ∷ 0 ∷ 1 ∷ 1 ∷ 0 ∷ []) (0 ∷ 1 ∷ [])
@@ -85,10 +89,11 @@ pub refused-trees :
     ∷ acceptedBy two (both ++ both) (0 ∷ 0 ∷ 1 ∷ 2 ∷ 0 ∷ 0 ∷ []) (0 ∷ 1 ∷ [])
     ∷ acceptedBy two both (2 ∷ 0 ∷ 0 ∷ 0 ∷ []) (0 ∷ 1 ∷ [])
     ∷ acceptedBy two (both ++ both) (2 ∷ 0 ∷ 0 ∷ []) (0 ∷ 1 ∷ [])
+    ∷ acceptedBy two both (2 ∷ 0 ∷ 0 ∷ []) (0 ∷ 1 ∷ 0 ∷ [])
     ∷ acceptedBy two [] [] []
     ∷ acceptedBy [] both (0 ∷ 0 ∷ 0 ∷ []) []
     ∷ []
-    ≡ replicate 20 false
+    ≡ replicate 21 false
 unfolding raisedTo boxFrom any largerOf smallerOf addV subV dotV crossV largerV smallerV absentOf triangleAt boundsAt paddedOf atMost insideOf countAt leftAt rightAt placeAt presentAt markPair depthsTo seeRun seenTo badHalf badPair badPlace badRun badBox missed wrongLists firstDepths noneSeen acceptedBy Ieee.ofBits Ieee.ofFields Ieee.odd Ieee.neg Ieee.le Ieee.lt Ieee.eq Ieee.isNan Ieee.add Ieee.sub Ieee.mul Ieee.round Ieee.sum Ieee.units Ieee.size Ieee.span Ieee.climb
 refused-trees = refl
 

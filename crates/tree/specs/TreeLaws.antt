@@ -44,7 +44,7 @@ module _ (points boxes : List Float) (nodes order : List ℕ) (few : length poin
   unfolding acceptedBy missed
   out e =
       let a = ltb boxLimit (boxCount nodes) in
-      let b = wrongLists boxes nodes in
+      let b = wrongLists points boxes nodes order in
       let c = any bad (boxCount nodes) 0 in
       let d = any lost (length points / 9) 0 in
       let p = neither (a || b || c) d (not-true (a || b || c || d) e) in
@@ -52,7 +52,7 @@ module _ (points boxes : List Float) (nodes order : List ℕ) (few : length poin
       let r = neither a b (q .0) in
       found-accepted points boxes nodes order firstDepths noneSeen (starts points nodes (ltb-false boxLimit (boxCount nodes) (r .0)) few)
       (λ i h. box-out points boxes nodes order i _ _ (any-none bad (boxCount nodes) (q .1) i h))
-      (lists-out boxes nodes (r .1))
+      (lists-out points boxes nodes order (r .1))
       (λ i f z. false≢true (sym (any-none lost (length points / 9) (p .1) i (present-within points i f)) ∙ rw (f, eq-eqb _ 0 z) refl))
 
   within : AcceptedTree points boxes nodes order → acceptedBy points boxes nodes order ≡ true
@@ -63,7 +63,7 @@ module _ (points boxes : List Float) (nodes order : List ℕ) (few : length poin
       let s = starts points nodes small few in
       rw (
         le-ltb boxLimit (boxCount nodes) small,
-        lists-in boxes nodes (record { nodesFit = t .nodesFit; boxesFit = t .boxesFit }),
+        lists-in points boxes nodes order (record { nodesFit = t .nodesFit; boxesFit = t .boxesFit; orderFits = t .orderFits }),
         none-any bad (boxCount nodes) (λ i h. box-in points boxes nodes order i _ _ (held-good points boxes nodes order firstDepths noneSeen s t i h)),
         none-any lost (length points / 9) (λ p h. by s p (presentAt points p) refl),
       ) refl

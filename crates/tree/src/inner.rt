@@ -2,7 +2,7 @@
 // triangle is marked once at most before the pass ends, so that the work is linear in boxes and triangles, whatever the lists hold.
 ghost use mathlib.Core.Path.{_≡_};
 ghost use mathlib.Core.Bool.{false, not, _||_};
-ghost use lib.Dec.{eqb};
+ghost use lib.Dec.{eqb, ltb};
 ghost use Prim.Native.Nat.{_+_, _*_, _/_, _≤_, _<_};
 ghost use lib.ListN.{length, getD};
 ghost use Rattle.names.specs.Numbers.{triangleLimit};
@@ -25,7 +25,7 @@ pub fn accepted(points: &[f32], boxes: &[f32], nodes: &[u32], order: &[u32]) -> 
     if BOX_LIMIT < n {
         return false;
     }
-    if wrong_lists(boxes.len(), nodes.len(), n) {
+    if wrong_lists(points.len() / 9, boxes.len(), nodes.len(), order.len(), n) {
         return false;
     }
     let mut depths = [0u8; BOX_LIMIT];
@@ -37,12 +37,12 @@ pub fn accepted(points: &[f32], boxes: &[f32], nodes: &[u32], order: &[u32]) -> 
     !any_missed(points, &seen)
 }
 
-// Whether the lists do not fit n boxes.
-fn wrong_lists(boxes: usize, nodes: usize, n: usize) -> bool
+// Whether the lists do not fit n boxes, or the order is longer than the triangles are many.
+fn wrong_lists(triangles: usize, boxes: usize, nodes: usize, order: usize, n: usize) -> bool
     requires { ⌜ n ≤ boxLimit ⌝ }
-    ensures { λ r. ⌜ r ≡ not (eqb nodes (n * 3)) || not (eqb boxes (n * 6)) ⌝ }
+    ensures { λ r. ⌜ r ≡ not (eqb nodes (n * 3)) || not (eqb boxes (n * 6)) || ltb triangles order ⌝ }
 {
-    (nodes != n * 3) | (boxes != n * 6)
+    (nodes != n * 3) | (boxes != n * 6) | (triangles < order)
 }
 
 // Whether some box is bad; where none is, the triangles of all leaves are marked.

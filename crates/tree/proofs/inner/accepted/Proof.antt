@@ -16,7 +16,7 @@ use Rattle.tree.proofs.inner.accepted.Statement.{statement}
 use Rattle.tree.proofs.inner.accepted.Tie as tie
 
 -- what the definition says once the lists fit
-judged : (points boxes : List Float) (nodes order : List ℕ) (r b m : Bool) → ltb boxLimit (boxCount nodes) ≡ false → wrongLists boxes nodes ≡ false
+judged : (points boxes : List Float) (nodes order : List ℕ) (r b m : Bool) → ltb boxLimit (boxCount nodes) ≡ false → wrongLists points boxes nodes order ≡ false
     → r ≡ any (badBoxAt points boxes nodes order firstDepths noneSeen) (boxCount nodes) 0 → r ≡ b
     → any (missed points (seenTo nodes order noneSeen (boxCount nodes))) (length points / 9) 0 ≡ m
     → not (b || m) ≡ acceptedBy points boxes nodes order
@@ -52,7 +52,7 @@ any-bad-requires : tie.Need-any-bad-requires
 unfolding wrongLists
 any-bad-requires c κs =
     let a = c .before .before .before .before .before .before .before .before .before .args in
-    let l = lists-out (a .boxes .now) (a .nodes .now) (sym (c .before .before .before .wrong-lists .ensures) ∙ c .before .before .if2 .left) in
+    let l = lists-out (a .points .now) (a .boxes .now) (a .nodes .now) (a .order .now) (sym (c .before .before .before .wrong-lists .ensures) ∙ c .before .before .if2 .left) in
     record { nodesFit = l .nodesFit; boxesFit = l .boxesFit; depthsFit = c .before .before .before .before .if1 .left; seenFit = c .before .before .before .before .before .before .before .before .before .pre }
 
 returns-3 : tie.Need-returns-3
