@@ -127,7 +127,7 @@ fn one_more(i: usize, n: usize) -> usize
 }
 
 // The product of the transmissions at these places, in order. None stops light: the scan ends at the first that does.
-fn product(uses: &[u32], numbers: &[f32], places: &[usize]) -> f32
+pub fn product(uses: &[u32], numbers: &[f32], places: &[usize]) -> f32
     requires { ⌜ ((i : ℕ) → i < length (now uses) → getD (now uses) i 0 * 7 + 6 < length (now numbers)) ⌝ }
     requires { ⌜ ((j : ℕ) → j < length (now places) → getD (now places) j 0 < length (now uses)) ⌝ }
     ensures { λ r. ⌜ r ≡ clearPassOf (now (uses .entry)) (now (numbers .entry)) one32 (now (places .entry)) ⌝ }
@@ -191,7 +191,7 @@ pub fn first_hit(
 
 // A place from i up to n before which all are missed: the first that the ray may meet, or n. The loop over runs knows nothing of what follows a hit, so that
 // the compiler keeps all that it needs in registers.
-fn first_open(points: &[f32], from: usize, n: usize, ray: Ray) -> usize
+pub fn first_open(points: &[f32], from: usize, n: usize, ray: Ray) -> usize
     requires { ⌜ (from ≤ n) × (n * 9 ≤ length (now points)) ⌝ }
     ensures { λ r. ⌜ (from ≤ r) × (r ≤ n) × Missed (now (points .entry)) ray from r ⌝ }
 {
