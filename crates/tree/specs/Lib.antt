@@ -9,4 +9,6 @@ pub mod FoundLaws
 pub mod HeldLaws
 pub mod TreeLaws
 pub mod DepthLaws
+pub mod Trees
+pub mod TreesLaws
 pub mod TreeFigures

@@ -9,6 +9,7 @@ ghost use Rattle.names.specs.Numbers.{triangleLimit};
 ghost use Rattle.lists.specs.Any.{any};
 ghost use Rattle.tree.specs.Tree.{boxCount, countAt, presentAt};
 ghost use Rattle.tree.specs.Test.{boxLimit, markPair, markBox, seeRun, seeBox, seenTo, badHalf, badPair, badPlace, badRun, badBox, badBoxAt, missed, acceptedBy, TestFit};
+ghost use Rattle.tree.specs.Trees.{notAccepted};
 use boxes::Bounds;
 use names::DEPTH_LIMIT;
 use names::TRIANGLE_LIMIT;
@@ -35,6 +36,23 @@ pub fn accepted(points: &[f32], boxes: &[f32], nodes: &[u32], order: &[u32]) -> 
         return false;
     }
     !any_missed(points, &seen)
+}
+
+// Whether a scene comes with a tree and that is not accepted.
+pub fn not_accepted(
+    boxed: bool,
+    points: &[f32],
+    boxes: &[f32],
+    nodes: &[u32],
+    order: &[u32],
+) -> bool
+    requires { ⌜ length (now points) / 9 ≤ triangleLimit ⌝ }
+    ensures { λ r. ⌜ r ≡ notAccepted boxed (now (points .entry)) (now (boxes .entry)) (now (nodes .entry)) (now (order .entry)) ⌝ }
+{
+    if boxed {
+        return !accepted(points, boxes, nodes, order);
+    }
+    false
 }
 
 // Whether the lists do not fit n boxes, or the order is longer than the triangles are many.
