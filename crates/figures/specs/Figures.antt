@@ -22,10 +22,11 @@ use Rattle.grid.specs.declared.Axes.{Axes}
 use Rattle.grid.specs.declared.Corners.{Corners}
 use Rattle.grid.specs.Grid.{edgesOf, smallestEdgeOf}
 use Rattle.limits.specs.Limits.{within, upTo, outsideV, badAxes, badCorners, badEdges, wrongShare, wrongScene, tooMany, badPoints, badTriangle, badKinds, badFrom, badUses, badMaterials, badRay, badLights}
+use Rattle.tree.specs.Trees.{notAccepted}
 use Rattle.lists.specs.Some.{some}
 use Rattle.triangle.specs.Meet.{absentOf, solvedOf, frontOf, judgedOf, meetOf}
 use Rattle.triangle.specs.Places.{triangleAt}
-use Rattle.panels.specs.Panels.{counts, stopsLight, countedOf, metAt}
+use Rattle.panels.specs.Panels.{counts, stopsLight, countedOf, metAt, metBy}
 use Rattle.hits.specs.Hits.{before, insertOf, withMeet, hitsOf}
 use Rattle.scan.specs.Transmittance.{passOf, transmittanceOf}
 use Rattle.rays.specs.Rays.{meetRefusal, valuesOfTest, meetValues, wrongScratch, transmittanceRefusal}
@@ -173,7 +174,7 @@ abbrev givens : List Figure → List (List ℕ)
 givens l = map (λ (f : Figure). f .given) l
 
 computed-figures : answers computed ≡ givens computed
-unfolding computed meetAnswer passing sampled masked blurAnswer looked triangleQ pointsQ downFrom stacked sheets upToCorner firstOf unlessRefused fold tab any magnitudeOf largerOf smallerOf toward rootOf addV subV scaleV dotV crossV lengthV edgesOf within upTo outsideV badAxes badCorners badEdges wrongShare wrongScene tooMany badPoints badTriangle badKinds badFrom badUses badMaterials badRay badLights some absentOf solvedOf frontOf judgedOf meetOf triangleAt counts stopsLight countedOf metAt before insertOf withMeet hitsOf passOf transmittanceOf meetRefusal valuesOfTest meetValues wrongScratch transmittanceRefusal lightBlurOf squareAt meanAt meanIn around along wrongBlurLists lightBlurRefusal smallestEdgeOf densityOf countOf sideFrom sideOf shareOf pointOf cellOn indexWithin cellOf sampleCell sampledIn touches occupiedIn occupiedEntry occupiedOf activeIn activeEntry activeOf markedCount packed wordsOf wrongMasks masksRefusal clamped clampedCell betweenOf cellsFrom cellsOf blendOf blendedOf badLightCells lightAtOf Ieee.ofBits Ieee.ofFields Ieee.odd Ieee.toBits Ieee.neg Ieee.le Ieee.lt Ieee.eq Ieee.isNan Ieee.add Ieee.sub Ieee.mul Ieee.div Ieee.ofInt Ieee.toUnsigned Ieee.round Ieee.sum Ieee.units Ieee.size Ieee.span Ieee.climb
+unfolding computed meetAnswer passing sampled masked blurAnswer looked triangleQ pointsQ downFrom stacked sheets upToCorner firstOf unlessRefused fold tab any magnitudeOf largerOf smallerOf toward rootOf addV subV scaleV dotV crossV lengthV edgesOf within upTo outsideV badAxes badCorners badEdges wrongShare wrongScene tooMany badPoints badTriangle badKinds badFrom badUses badMaterials badRay badLights some absentOf solvedOf frontOf judgedOf meetOf triangleAt counts stopsLight countedOf metAt metBy before insertOf withMeet hitsOf passOf transmittanceOf meetRefusal valuesOfTest meetValues wrongScratch transmittanceRefusal lightBlurOf squareAt meanAt meanIn around along wrongBlurLists lightBlurRefusal smallestEdgeOf densityOf countOf sideFrom sideOf shareOf pointOf cellOn indexWithin cellOf sampleCell sampledIn touches occupiedIn occupiedEntry occupiedOf activeIn activeEntry activeOf markedCount packed wordsOf wrongMasks masksRefusal clamped clampedCell betweenOf cellsFrom cellsOf blendOf blendedOf badLightCells lightAtOf Ieee.ofBits Ieee.ofFields Ieee.odd Ieee.toBits Ieee.neg Ieee.le Ieee.lt Ieee.eq Ieee.isNan Ieee.add Ieee.sub Ieee.mul Ieee.div Ieee.ofInt Ieee.toUnsigned Ieee.round Ieee.sum Ieee.units Ieee.size Ieee.span Ieee.climb notAccepted
 computed-figures = refl
 
 bake-figures : answers bakes ≡ givens bakes

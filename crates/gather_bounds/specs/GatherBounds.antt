@@ -130,7 +130,7 @@ each-colour v h = within-each colourLimit v 1 16 colour-value h
 
 pub modest : (g : GatherInput) → Rows g → Modest (g .scene)
 modest g r =
-    let q = sound (g .scene .points) (g .scene .uses) (g .scene .kinds) (g .scene .numbers) (r .lists) (r .many) (r .materials) in
+    let q = sound (g .scene) (r .lists) (r .many) (r .materials) in
     let n = materials-row (g .scene .uses) (g .scene .kinds) (g .scene .numbers) .0 (r .materials) .1 in
     record {
       sound = q;

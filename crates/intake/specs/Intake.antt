@@ -1,4 +1,4 @@
--- What a bake is handed, and when it is refused: rows 1 to 7, 19, 9, 10 and 13 in that order. The mask's unused bits and the lights are tested always, the
+-- What a bake is handed, and when it is refused: rows 1 to 7, 19, 16, 9, 10 and 13 in that order. The mask's unused bits and the lights are tested always, the
 -- volume's coefficients exactly when the next voxel lies strictly between 0 and the voxel count, the contents of scratch never. Assumes nothing.
 use mathlib.Core.Bool.{Bool, true, false, _&&_, _||_}
 use mathlib.Core.List.{List, [], _∷_}
@@ -17,6 +17,7 @@ use Rattle.grid.specs.Grid.{voxels}
 use Rattle.limits.specs.declared.Light.{Light}
 use Rattle.limits.specs.declared.Ambient.{Ambient}
 use Rattle.limits.specs.Limits.{badAxes, badGrid, wrongLength, shortHits, wrongScene, sceneRows, badLight, badAmbient, badSky, lampCount, wrongLamps, badLamps, pastCount, belowCost, badLights, badCoefficients}
+use Rattle.tree.specs.Trees.{badTree}
 use Rattle.marks.specs.Marks.{markedBelow}
 use Rattle.words.specs.Words.{wordCount, entriesOf, unusedSet}
 
@@ -134,6 +135,7 @@ module _ (b : BakeInput) where
       ∷ sceneRows (b .solid) (b .scene)
       (row 7 (badLighting (b .light) (b .ambient) (b .sky))
       ∷ row 19 (badLamps (b .lamps))
+      ∷ row 16 (badTree (b .scene))
       ∷ row 9 (badProgress voxelCount activeEntries (lampCount (b .lamps)) (s .progress))
       ∷ row 10 (belowCost (lampCount (b .lamps)) allowance)
       ∷ row 13 (badContents (b .active) (b .lights) (s .volume) (s .progress .next) voxelCount)

@@ -16,6 +16,8 @@ use Rattle.spread.specs.declared.Progress.{Progress}
 use Rattle.spread.specs.Spread.{progressOf, atZero, Stage}
 use Rattle.grid.specs.Grid.{AxesWithin}
 use Rattle.limits.specs.Limits.{badAxes, badGrid, wrongScene, wrongLength, wrongLamps, shortHits, tooMany, badPoints, badMaterialsFor, belowCost, lampCount, badLamps, badLights}
+use Rattle.tree.specs.Trees.{badTree, TreeStands}
+use Rattle.tree.specs.TreesLaws.{sound-tree}
 use Rattle.marks.specs.Marks.{markedBelow}
 use Rattle.words.specs.Words.{wordCount, unusedSet, Tidy}
 use Rattle.limits.specs.LimitsLaws.{either, any-of-three, axes-row, sound, materials-for, solid-same, long-hits, room, lamps-row}
@@ -31,6 +33,7 @@ pub record BakePassed (b : BakeInput) (s : Stage Float) (a : ℕ) : Type 0 where
   pub materials : badMaterialsFor (b .solid) (b .scene .uses) (b .scene .kinds) (b .scene .numbers) ≡ false
   pub lighting : badLighting (b .light) (b .ambient) (b .sky) ≡ false
   pub lamps : badLamps (b .lamps) ≡ false
+  pub tree : badTree (b .scene) ≡ false
   pub progress : badProgress (voxelCount b) (activeEntries b) (lampCount (b .lamps)) (s .progress) ≡ false
   pub allowance : belowCost (lampCount (b .lamps)) a ≡ false
   pub contents : badContents (b .active) (b .lights) (s .volume) (s .progress .next) (voxelCount b) ≡ false
@@ -39,6 +42,7 @@ pub record BakePassed (b : BakeInput) (s : Stage Float) (a : ℕ) : Type 0 where
 pub record Fits (b : BakeInput) (s : Stage Float) (a : ℕ) : Type 0 where
   pub axes : AxesWithin (b .axes)
   pub scene : Sound (b .scene)
+  pub tree : TreeStands (b .scene)
   pub sky : length (b .sky) ≡ skyNumbers
   pub lamps : lampCount (b .lamps) ≤ lampLimit
   -- the words of the mask, none of their unused bits set
@@ -128,8 +132,8 @@ module _ (b : BakeInput) (s : Stage Float) (a : ℕ) where
     where
       back : BakePassed b s a → firstOf (bakeRows b s a) ≡ 0
       back p =
-          rw (p .axes, p .grid, p .lists, p .few, p .points, p .materials, p .lighting, p .lamps, p .progress, p .allowance, p .contents)
-          (none-given (later (later (later (later (later (later (later (later (later (later (later none))))))))))))
+          rw (p .axes, p .grid, p .lists, p .few, p .points, p .materials, p .lighting, p .lamps, p .tree, p .progress, p .allowance, p .contents)
+          (none-given (later (later (later (later (later (later (later (later (later (later (later (later none)))))))))))))
 
       out : NoneHolds (bakeRows b s a) → BakePassed b s a
       out h =
@@ -141,7 +145,8 @@ module _ (b : BakeInput) (s : Stage Float) (a : ℕ) where
           let r₆ = passes (r₅ .1) in
           let r₇ = passes (r₆ .1) in
           let r₁₉ = passes (r₇ .1) in
-          let r₉ = passes (r₁₉ .1) in
+          let r₁₆ = passes (r₁₉ .1) in
+          let r₉ = passes (r₁₆ .1) in
           let r₁₀ = passes (r₉ .1) in
           let r₁₃ = passes (r₁₀ .1) in
           record {
@@ -153,6 +158,7 @@ module _ (b : BakeInput) (s : Stage Float) (a : ℕ) where
             materials = r₆ .0;
             lighting = r₇ .0;
             lamps = r₁₉ .0;
+            tree = r₁₆ .0;
             progress = r₉ .0;
             allowance = r₁₀ .0;
             contents = r₁₃ .0;
@@ -165,9 +171,11 @@ module _ (b : BakeInput) (s : Stage Float) (a : ℕ) where
   fits p =
       let r = either _ _ .0 (p .lists) in
       let l = long (r .1) in
+      let fitting = sound (b .scene) (r .0) (p .few) (materials-for (b .solid) (b .scene .uses) (b .scene .kinds) (b .scene .numbers) (p .materials)) in
       record {
         axes = axes-row (b .axes) .0 (p .axes);
-        scene = sound (b .scene .points) (b .scene .uses) (b .scene .kinds) (b .scene .numbers) (r .0) (p .few) (materials-for (b .solid) (b .scene .uses) (b .scene .kinds) (b .scene .numbers) (p .materials));
+        scene = fitting;
+        tree = sound-tree (b .scene) fitting (p .tree);
         sky = l .sky;
         lamps = lamps-row (b .lamps) .0 (p .lamps) .0;
         active = record { long = l .active; clean = any-of-three (unusedSet (b .active) (voxelCount b)) (badLights (b .lights)) _ .0 (p .contents) .0 };
@@ -199,6 +207,7 @@ module _ (b : BakeInput) (s : Stage Float) (a : ℕ) where
         materials = p .materials;
         lighting = p .lighting;
         lamps = p .lamps;
+        tree = p .tree;
         progress = progress-row b (t .progress) .1 q;
         allowance = le-ltb _ _ h;
         contents = any-of-three (unusedSet (b .active) (voxelCount b)) (badLights (b .lights)) _ .1 (k .0, k .1, g);
@@ -226,6 +235,7 @@ bake-refusal-same b s a o h k =
     ∷ row 6 bad
     ∷ row 7 (badLighting (b .light) (b .ambient) (b .sky))
     ∷ row 19 (badLamps (b .lamps))
+    ∷ row 16 (badTree (b .scene))
     ∷ row 9 (badProgress n (activeEntries b) (lampCount (b .lamps)) (s .progress))
     ∷ row 10 (belowCost (lampCount (b .lamps)) a)
     ∷ row 13 (badContents (b .active) (b .lights) (s .volume) (s .progress .next) n)

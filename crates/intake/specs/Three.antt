@@ -18,6 +18,7 @@ use Rattle.vectors.specs.declared.Vec3.{Vec3}
 use Rattle.grid.specs.Grid.{edgesOf}
 use Rattle.lists.specs.Some.{some}
 use Rattle.limits.specs.Limits.{within, upTo, outsideV, badAxes, badCorners, badEdges, wrongShare, wrongScene, tooMany, badPoints, badKinds, badFrom, badUses, badMaterials, badDirection, badLight, badAmbient, badSky, lampAt, badLamp, badLamps, badLights, badCoefficients}
+use Rattle.tree.specs.Trees.{notAccepted}
 use Rattle.words.specs.Words.{entriesOf, unusedSet}
 use Rattle.intake.specs.Intake.{BakeInput, inputOf, solidInput, wrongLengths, wrongBakeLists, badLighting, badProgress, badVolume, badContents, bakeRows, bakeRefusal}
 
@@ -58,17 +59,17 @@ abbrev pub begun : Stage Float
 begun = stage atZero (replicate 48 zero32) (replicate 48 zero32)
 
 pub three-accepted : (bakeRefusal three begun 384 ≡ 0) × (bakeRefusal three begun 383 ≡ 10)
-unfolding bakeRefusal bakeRows firstOf some within upTo outsideV badAxes badCorners badEdges wrongShare wrongScene tooMany badPoints badKinds badFrom badUses badMaterials otherKind badDirection badLight badAmbient badSky unusedSet badLights badCoefficients wrongLengths wrongBakeLists badLighting badLamp badLamps lampAt any badProgress entriesOf tab fold badVolume badContents edgesOf dotV ofBits ofInt Ieee.add Ieee.sub Ieee.mul Ieee.div Ieee.neg Ieee.le Ieee.lt Ieee.eq
+unfolding bakeRefusal bakeRows firstOf some within upTo outsideV badAxes badCorners badEdges wrongShare wrongScene tooMany badPoints badKinds badFrom badUses badMaterials otherKind badDirection badLight badAmbient badSky unusedSet badLights badCoefficients wrongLengths wrongBakeLists badLighting badLamp badLamps lampAt any badProgress entriesOf tab fold badVolume badContents edgesOf dotV ofBits ofInt Ieee.add Ieee.sub Ieee.mul Ieee.div Ieee.neg Ieee.le Ieee.lt Ieee.eq notAccepted
 three-accepted = (refl, refl)
 
 -- with a lamp 448 are asked for; and 19 comes before 9 and 10
 pub lit-accepted : (bakeRefusal threeLit begun 448 ≡ 0) × (bakeRefusal threeLit begun 447 ≡ 10) × (bakeRefusal (threeWith (replicate 54 one32)) begun 0 ≡ 19)
-unfolding bakeRefusal bakeRows firstOf some within upTo outsideV badAxes badCorners badEdges wrongShare wrongScene tooMany badPoints badKinds badFrom badUses badMaterials otherKind badDirection badLight badAmbient badSky unusedSet badLights badCoefficients wrongLengths wrongBakeLists badLighting badLamp badLamps lampAt any badProgress entriesOf tab fold badVolume badContents edgesOf dotV ofBits ofInt Ieee.add Ieee.sub Ieee.mul Ieee.div Ieee.neg Ieee.le Ieee.lt Ieee.eq
+unfolding bakeRefusal bakeRows firstOf some within upTo outsideV badAxes badCorners badEdges wrongShare wrongScene tooMany badPoints badKinds badFrom badUses badMaterials otherKind badDirection badLight badAmbient badSky unusedSet badLights badCoefficients wrongLengths wrongBakeLists badLighting badLamp badLamps lampAt any badProgress entriesOf tab fold badVolume badContents edgesOf dotV ofBits ofInt Ieee.add Ieee.sub Ieee.mul Ieee.div Ieee.neg Ieee.le Ieee.lt Ieee.eq notAccepted
 lit-accepted = (refl, refl, refl)
 
 -- three voxels take one word, in which bit 3 is the first unused: the word 15 is refused 13, and two words or none are refused 3
 pub mask-judged : (bakeRefusal (threeOf (15 ∷ []) []) begun 384 ≡ 13) × (bakeRefusal (threeOf (7 ∷ 0 ∷ []) []) begun 384 ≡ 3) × (bakeRefusal (threeOf [] []) begun 384 ≡ 3)
-unfolding bakeRefusal bakeRows firstOf some within upTo outsideV badAxes badCorners badEdges wrongShare wrongScene tooMany badPoints badKinds badFrom badUses badMaterials otherKind badDirection badLight badAmbient badSky unusedSet badLights badCoefficients wrongLengths wrongBakeLists badLighting badLamp badLamps lampAt any badProgress entriesOf tab fold badVolume badContents edgesOf dotV ofBits ofInt Ieee.add Ieee.sub Ieee.mul Ieee.div Ieee.neg Ieee.le Ieee.lt Ieee.eq
+unfolding bakeRefusal bakeRows firstOf some within upTo outsideV badAxes badCorners badEdges wrongShare wrongScene tooMany badPoints badKinds badFrom badUses badMaterials otherKind badDirection badLight badAmbient badSky unusedSet badLights badCoefficients wrongLengths wrongBakeLists badLighting badLamp badLamps lampAt any badProgress entriesOf tab fold badVolume badContents edgesOf dotV ofBits ofInt Ieee.add Ieee.sub Ieee.mul Ieee.div Ieee.neg Ieee.le Ieee.lt Ieee.eq notAccepted
 mask-judged = (refl, refl, refl)
 
 -- progress with voxel 0 done, whose rays were 64 to 384, or to 448 with a lamp; with none done, whose rays are 0; with all done, 192 to 1,152; with voxels 0
@@ -85,7 +86,7 @@ pub progress-judged : (map (λ (r : ℕ). bakeRefusal three (under 1 r) 384) (63
     × (bakeRefusal (threeOf (15 ∷ []) []) (under 1 63) 383 ≡ 9)
     × (bakeRefusal (threeWith (replicate 54 one32)) (under 0 1) 384 ≡ 19)
     × (bakeRefusal (inputOf (three .axes) (three .corners) (three .scene) (record { direction = vec zero32 zero32 zero32; colour = vec one32 one32 one32 }) (three .ambient) (three .sky) [] (three .active) (three .lights) 0 0) (under 0 1) 384 ≡ 7)
-unfolding bakeRefusal bakeRows firstOf some within upTo outsideV badAxes badCorners badEdges wrongShare wrongScene tooMany badPoints badKinds badFrom badUses badMaterials otherKind badDirection badLight badAmbient badSky unusedSet badLights badCoefficients wrongLengths wrongBakeLists badLighting badLamp badLamps lampAt any badProgress entriesOf tab fold badVolume badContents edgesOf dotV ofBits ofInt Ieee.add Ieee.sub Ieee.mul Ieee.div Ieee.neg Ieee.le Ieee.lt Ieee.eq
+unfolding bakeRefusal bakeRows firstOf some within upTo outsideV badAxes badCorners badEdges wrongShare wrongScene tooMany badPoints badKinds badFrom badUses badMaterials otherKind badDirection badLight badAmbient badSky unusedSet badLights badCoefficients wrongLengths wrongBakeLists badLighting badLamp badLamps lampAt any badProgress entriesOf tab fold badVolume badContents edgesOf dotV ofBits ofInt Ieee.add Ieee.sub Ieee.mul Ieee.div Ieee.neg Ieee.le Ieee.lt Ieee.eq notAccepted
 progress-judged = (refl, refl, refl, refl, refl, refl, refl, refl, refl)
 
 -- the same grid about one triangle: with hit scratch for it the bake takes all three kinds, and refuses 3 without. For solid walls, without hit scratch, it takes
@@ -111,5 +112,5 @@ pub solid-judged : (map (λ (kind : ℕ). bakeRefusal (solidAbout kind zero32 (v
     × (bakeRefusal (solidAbout 1 zero32 (vec zero32 zero32 one32)) (under 4 192) 383 ≡ 6)
     × (bakeRefusal (solidAbout 1 inf32 (vec zero32 zero32 one32)) begun 384 ≡ 5)
     × (bakeRefusal (solidAbout 1 zero32 (vec zero32 zero32 one32)) (stage atZero [] []) 384 ≡ 3)
-unfolding bakeRefusal bakeRows firstOf some within upTo outsideV badAxes badCorners badEdges wrongShare wrongScene tooMany badPoints badKinds badFrom badUses badMaterials otherKind badDirection badLight badAmbient badSky unusedSet badLights badCoefficients wrongLengths wrongBakeLists badLighting badLamp badLamps lampAt any badProgress entriesOf tab fold badVolume badContents edgesOf dotV ofBits ofInt Ieee.add Ieee.sub Ieee.mul Ieee.div Ieee.neg Ieee.le Ieee.lt Ieee.eq
+unfolding bakeRefusal bakeRows firstOf some within upTo outsideV badAxes badCorners badEdges wrongShare wrongScene tooMany badPoints badKinds badFrom badUses badMaterials otherKind badDirection badLight badAmbient badSky unusedSet badLights badCoefficients wrongLengths wrongBakeLists badLighting badLamp badLamps lampAt any badProgress entriesOf tab fold badVolume badContents edgesOf dotV ofBits ofInt Ieee.add Ieee.sub Ieee.mul Ieee.div Ieee.neg Ieee.le Ieee.lt Ieee.eq notAccepted
 solid-judged = (refl, refl, refl, refl, refl, refl, refl)

@@ -3,7 +3,7 @@ ghost use mathlib.Core.Path.{_≡_};
 ghost use Prim.Native.Nat.{_≤_};
 ghost use lib.ListN.{length};
 ghost use Rattle.names.specs.Numbers.{voxelLimit, lampLimit, voxelCost};
-ghost use Rattle.names.specs.Scene.{sceneOf};
+ghost use Rattle.names.specs.Scene.{sceneFor};
 ghost use Rattle.limits.specs.Limits.{lampCount};
 ghost use Rattle.words.specs.Words.{wordCount, entriesOf};
 ghost use Rattle.spread.specs.Spread.{stage};
@@ -27,6 +27,10 @@ pub fn judge(
     uses: &[u32],
     kinds: &[u8],
     numbers: &[f32],
+    boxed: bool,
+    boxes: &[f32],
+    nodes: &[u32],
+    order: &[u32],
     light: Light,
     ambient: Ambient,
     sky: &[f32],
@@ -41,7 +45,7 @@ pub fn judge(
     allowance: u64,
 ) -> u32
     ensures { λ r. ⌜ r ≡ bakeRefusal
-        (inputFor solid axes corners (sceneOf (now (points .entry)) (now (uses .entry)) (now (kinds .entry)) (now (numbers .entry)))
+        (inputFor solid axes corners (sceneFor boxed (now (points .entry)) (now (uses .entry)) (now (kinds .entry)) (now (numbers .entry)) (now (boxes .entry)) (now (nodes .entry)) (now (order .entry)))
         light ambient (now (sky .entry)) (now (lamps .entry)) (now (active .entry)) (now (lights .entry)) distances places)
         (stage progress (now (volume .entry)) (now (scratch .entry))) allowance ⌝ }
 {
@@ -83,6 +87,9 @@ pub fn judge(
     }
     if limits::inner::bad_lamps(lamps) {
         return 19;
+    }
+    if tree::inner::not_accepted(boxed, points, boxes, nodes, order) {
+        return 16;
     }
     let cost = voxel_cost(lamps);
     if bad_progress(n, active, lamps, progress) {

@@ -17,7 +17,7 @@ use lib.Ieee.{Float, nan, inf, fin, isNan}
 use Rattle.names.specs.Bits.{one32}
 use Rattle.names.specs.Numbers.{axisLimit, triangleLimit, materialLimit, opaqueKind, lastKind, lampLimit, pointLimit, edgeLimit, colourLimit, lightDirectionLimit, originLimit, directionLimit, shortestLimit, positionLimit, lightLimit, coefficientLimit, thinLimit}
 use Rattle.names.specs.Refusals.{Row, row, firstOf}
-use Rattle.names.specs.Scene.{Scene, sceneOf, Sound, otherKind, HitsFit}
+use Rattle.names.specs.Scene.{Scene, Sound, otherKind, HitsFit}
 use Rattle.names.specs.SolidLaws.{none-other, room-most, solid-room}
 use Rattle.vectors.specs.declared.Vec3.{Vec3}
 use Rattle.vectors.specs.declared.Ray.{Ray}
@@ -328,22 +328,28 @@ room false s distancesLength placesLength e f =
     let m = room-most s in
     (omega (arith, m, p .0), omega (arith, m, p .1))
 
+-- ---- 3 and 4 passed: the points are of no more triangles than the limit
+
+pub few-points : (points : List Float) (uses kinds : List ℕ) (numbers : List Float) → wrongScene points uses kinds numbers ≡ false
+    → tooMany (length uses) (length kinds) ≡ false → length points / 9 ≤ triangleLimit
+few-points points uses kinds numbers p q = omega (arith, scene-row points uses kinds numbers .0 p .0, many-row (length uses) (length kinds) .0 q .0)
+
 -- ---- 3, 4 and 6 passed: the lists of a scene fit
 
-pub sound : (points : List Float) (uses kinds : List ℕ) (numbers : List Float)
-    → wrongScene points uses kinds numbers ≡ false
-    → tooMany (length uses) (length kinds) ≡ false
-    → badMaterials uses kinds numbers ≡ false
-    → Sound (sceneOf points uses kinds numbers)
-sound points uses kinds numbers p q r =
-    let s = scene-row points uses kinds numbers .0 p in
-    let t = many-row (length uses) (length kinds) .0 q in
+pub sound : (scene : Scene)
+    → wrongScene (scene .points) (scene .uses) (scene .kinds) (scene .numbers) ≡ false
+    → tooMany (length (scene .uses)) (length (scene .kinds)) ≡ false
+    → badMaterials (scene .uses) (scene .kinds) (scene .numbers) ≡ false
+    → Sound scene
+sound scene p q r =
+    let s = scene-row (scene .points) (scene .uses) (scene .kinds) (scene .numbers) .0 p in
+    let t = many-row (length (scene .uses)) (length (scene .kinds)) .0 q in
     record {
       points = s .0;
       numbers = s .1;
       triangles = t .0;
       materials = t .1;
-      within = uses-row uses (length kinds) .0 (materials-row uses kinds numbers .0 r .2);
+      within = uses-row (scene .uses) (length (scene .kinds)) .0 (materials-row (scene .uses) (scene .kinds) (scene .numbers) .0 r .2);
     }
 
 -- ---- 7

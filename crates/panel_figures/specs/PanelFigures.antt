@@ -15,9 +15,10 @@ use Rattle.vectors.specs.Vectors.{vec, subV, dotV, crossV}
 use Rattle.vectors.specs.declared.Ray.{Ray}
 use Rattle.vectors.specs.declared.Triangle.{Triangle}
 use Rattle.limits.specs.Limits.{within, upTo, outsideV, wrongShare, wrongScene, tooMany, badPoints, badTriangle, badKinds, badFrom, badUses, badMaterials, badRay}
+use Rattle.tree.specs.Trees.{notAccepted}
 use Rattle.triangle.specs.Meet.{absentOf, solvedOf, frontOf, judgedOf, meetOf}
 use Rattle.triangle.specs.Places.{triangleAt}
-use Rattle.panels.specs.Panels.{counts, stopsLight, countedOf, metAt}
+use Rattle.panels.specs.Panels.{counts, stopsLight, countedOf, metAt, metBy}
 use Rattle.hits.specs.Hits.{before, insertOf, withMeet, hitsOf}
 use Rattle.scan.specs.Nearest.{beats, nearerOf, nearestTo, nearestOf}
 use Rattle.scan.specs.Transmittance.{passOf, transmittanceOf}
@@ -87,7 +88,7 @@ onBack place light = 0 ∷ 1 ∷ place ∷ 0 ∷ 0x3f800000 ∷ 0 ∷ light ∷ 
 pub both-sides : map (λ (kind : ℕ). sceneTold (hallOf (sheetAt zero32) (kind ∷ [])) rayDown) (0 ∷ 1 ∷ 2 ∷ [])
     ++ map (λ (kind : ℕ). sceneTold (hallOf (sheetAt zero32) (kind ∷ [])) rayUp) (0 ∷ 1 ∷ 2 ∷ [])
     ≡ onFront 0 0 ∷ onFront 0 0x3f000000 ∷ onFront 0 0 ∷ onBack 0 0 ∷ onBack 0 0x3f000000 ∷ clear ∷ []
-unfolding rayAlong rayDown rayUp sheetAt turnedAt hallOf nearestTold lightTold sceneTold firstOf unlessRefused magnitudeOf subV dotV crossV within upTo outsideV wrongShare wrongScene tooMany badPoints badKinds badFrom badUses badMaterials badRay some absentOf solvedOf frontOf judgedOf meetOf triangleAt counts stopsLight countedOf metAt before insertOf withMeet hitsOf beats nearerOf nearestTo nearestOf passOf transmittanceOf nearestRefusal scanValues nearestValues wrongScratch transmittanceRefusal Ieee.ofBits Ieee.ofFields Ieee.odd Ieee.toBits Ieee.neg Ieee.le Ieee.lt Ieee.eq Ieee.isNan Ieee.add Ieee.sub Ieee.mul Ieee.div Ieee.round Ieee.sum Ieee.units Ieee.size Ieee.span Ieee.climb
+unfolding rayAlong rayDown rayUp sheetAt turnedAt hallOf nearestTold lightTold sceneTold firstOf unlessRefused magnitudeOf subV dotV crossV within upTo outsideV wrongShare wrongScene tooMany badPoints badKinds badFrom badUses badMaterials badRay some absentOf solvedOf frontOf judgedOf meetOf triangleAt counts stopsLight countedOf metAt metBy before insertOf withMeet hitsOf beats nearerOf nearestTo nearestOf passOf transmittanceOf nearestRefusal scanValues nearestValues wrongScratch transmittanceRefusal Ieee.ofBits Ieee.ofFields Ieee.odd Ieee.toBits Ieee.neg Ieee.le Ieee.lt Ieee.eq Ieee.isNan Ieee.add Ieee.sub Ieee.mul Ieee.div Ieee.round Ieee.sum Ieee.units Ieee.size Ieee.span Ieee.climb notAccepted
 both-sides = refl
 
 -- ---- a back face nearer than a front face
@@ -97,7 +98,7 @@ pub nearer-back : map (λ (kind : ℕ). sceneTold (hallOf (turnedAt half32 ++ sh
     ++ map (λ (kind : ℕ). sceneTold (hallOf (sheetAt zero32 ++ turnedAt half32) (kind ∷ 2 ∷ [])) rayDown) (0 ∷ 1 ∷ 2 ∷ [])
     ++ (sceneTold (hallOf (turnedAt half32) (2 ∷ [])) rayDown ∷ [])
     ≡ onFront 1 0 ∷ onFront 1 0x3f000000 ∷ onFront 1 0 ∷ onFront 0 0 ∷ onFront 0 0x3f000000 ∷ onFront 0 0 ∷ clear ∷ []
-unfolding rayAlong rayDown rayUp sheetAt turnedAt hallOf nearestTold lightTold sceneTold firstOf unlessRefused magnitudeOf subV dotV crossV within upTo outsideV wrongShare wrongScene tooMany badPoints badKinds badFrom badUses badMaterials badRay some absentOf solvedOf frontOf judgedOf meetOf triangleAt counts stopsLight countedOf metAt before insertOf withMeet hitsOf beats nearerOf nearestTo nearestOf passOf transmittanceOf nearestRefusal scanValues nearestValues wrongScratch transmittanceRefusal Ieee.ofBits Ieee.ofFields Ieee.odd Ieee.toBits Ieee.neg Ieee.le Ieee.lt Ieee.eq Ieee.isNan Ieee.add Ieee.sub Ieee.mul Ieee.div Ieee.round Ieee.sum Ieee.units Ieee.size Ieee.span Ieee.climb
+unfolding rayAlong rayDown rayUp sheetAt turnedAt hallOf nearestTold lightTold sceneTold firstOf unlessRefused magnitudeOf subV dotV crossV within upTo outsideV wrongShare wrongScene tooMany badPoints badKinds badFrom badUses badMaterials badRay some absentOf solvedOf frontOf judgedOf meetOf triangleAt counts stopsLight countedOf metAt metBy before insertOf withMeet hitsOf beats nearerOf nearestTo nearestOf passOf transmittanceOf nearestRefusal scanValues nearestValues wrongScratch transmittanceRefusal Ieee.ofBits Ieee.ofFields Ieee.odd Ieee.toBits Ieee.neg Ieee.le Ieee.lt Ieee.eq Ieee.isNan Ieee.add Ieee.sub Ieee.mul Ieee.div Ieee.round Ieee.sum Ieee.units Ieee.size Ieee.span Ieee.climb notAccepted
 nearer-back = refl
 
 -- ---- coincident triangles of kinds 0, 1 and 2, in every order
@@ -111,19 +112,19 @@ three = sheetAt zero32 ++ sheetAt zero32 ++ sheetAt zero32
 
 -- from above the last of the list; from below the last that is no panel
 pub coincident-front : map (λ (uses : List ℕ). sceneTold (hallOf three uses) rayDown) orders ≡ replicate 6 (onFront 2 0)
-unfolding rayAlong rayDown rayUp sheetAt turnedAt hallOf nearestTold lightTold sceneTold firstOf unlessRefused magnitudeOf subV dotV crossV within upTo outsideV wrongShare wrongScene tooMany badPoints badKinds badFrom badUses badMaterials badRay some absentOf solvedOf frontOf judgedOf meetOf triangleAt counts stopsLight countedOf metAt before insertOf withMeet hitsOf beats nearerOf nearestTo nearestOf passOf transmittanceOf nearestRefusal scanValues nearestValues wrongScratch transmittanceRefusal Ieee.ofBits Ieee.ofFields Ieee.odd Ieee.toBits Ieee.neg Ieee.le Ieee.lt Ieee.eq Ieee.isNan Ieee.add Ieee.sub Ieee.mul Ieee.div Ieee.round Ieee.sum Ieee.units Ieee.size Ieee.span Ieee.climb
+unfolding rayAlong rayDown rayUp sheetAt turnedAt hallOf nearestTold lightTold sceneTold firstOf unlessRefused magnitudeOf subV dotV crossV within upTo outsideV wrongShare wrongScene tooMany badPoints badKinds badFrom badUses badMaterials badRay some absentOf solvedOf frontOf judgedOf meetOf triangleAt counts stopsLight countedOf metAt metBy before insertOf withMeet hitsOf beats nearerOf nearestTo nearestOf passOf transmittanceOf nearestRefusal scanValues nearestValues wrongScratch transmittanceRefusal Ieee.ofBits Ieee.ofFields Ieee.odd Ieee.toBits Ieee.neg Ieee.le Ieee.lt Ieee.eq Ieee.isNan Ieee.add Ieee.sub Ieee.mul Ieee.div Ieee.round Ieee.sum Ieee.units Ieee.size Ieee.span Ieee.climb notAccepted
 coincident-front = refl
 
 pub coincident-back : map (λ (uses : List ℕ). sceneTold (hallOf three uses) rayUp) orders
     ≡ onBack 1 0 ∷ onBack 2 0 ∷ onBack 1 0 ∷ onBack 2 0 ∷ onBack 2 0 ∷ onBack 2 0 ∷ []
-unfolding rayAlong rayDown rayUp sheetAt turnedAt hallOf nearestTold lightTold sceneTold firstOf unlessRefused magnitudeOf subV dotV crossV within upTo outsideV wrongShare wrongScene tooMany badPoints badKinds badFrom badUses badMaterials badRay some absentOf solvedOf frontOf judgedOf meetOf triangleAt counts stopsLight countedOf metAt before insertOf withMeet hitsOf beats nearerOf nearestTo nearestOf passOf transmittanceOf nearestRefusal scanValues nearestValues wrongScratch transmittanceRefusal Ieee.ofBits Ieee.ofFields Ieee.odd Ieee.toBits Ieee.neg Ieee.le Ieee.lt Ieee.eq Ieee.isNan Ieee.add Ieee.sub Ieee.mul Ieee.div Ieee.round Ieee.sum Ieee.units Ieee.size Ieee.span Ieee.climb
+unfolding rayAlong rayDown rayUp sheetAt turnedAt hallOf nearestTold lightTold sceneTold firstOf unlessRefused magnitudeOf subV dotV crossV within upTo outsideV wrongShare wrongScene tooMany badPoints badKinds badFrom badUses badMaterials badRay some absentOf solvedOf frontOf judgedOf meetOf triangleAt counts stopsLight countedOf metAt metBy before insertOf withMeet hitsOf beats nearerOf nearestTo nearestOf passOf transmittanceOf nearestRefusal scanValues nearestValues wrongScratch transmittanceRefusal Ieee.ofBits Ieee.ofFields Ieee.odd Ieee.toBits Ieee.neg Ieee.le Ieee.lt Ieee.eq Ieee.isNan Ieee.add Ieee.sub Ieee.mul Ieee.div Ieee.round Ieee.sum Ieee.units Ieee.size Ieee.span Ieee.climb notAccepted
 coincident-back = refl
 
 -- without the opaque one the panel alone stops light, and from the front alone
 pub coincident-pair : map (λ (uses : List ℕ). sceneTold (hallOf (sheetAt zero32 ++ sheetAt zero32) uses) rayDown) ((1 ∷ 2 ∷ []) ∷ (2 ∷ 1 ∷ []) ∷ [])
     ++ map (λ (uses : List ℕ). sceneTold (hallOf (sheetAt zero32 ++ sheetAt zero32) uses) rayUp) ((1 ∷ 2 ∷ []) ∷ (2 ∷ 1 ∷ []) ∷ [])
     ≡ onFront 1 0 ∷ onFront 1 0 ∷ onBack 0 0x3f000000 ∷ onBack 1 0x3f000000 ∷ []
-unfolding rayAlong rayDown rayUp sheetAt turnedAt hallOf nearestTold lightTold sceneTold firstOf unlessRefused magnitudeOf subV dotV crossV within upTo outsideV wrongShare wrongScene tooMany badPoints badKinds badFrom badUses badMaterials badRay some absentOf solvedOf frontOf judgedOf meetOf triangleAt counts stopsLight countedOf metAt before insertOf withMeet hitsOf beats nearerOf nearestTo nearestOf passOf transmittanceOf nearestRefusal scanValues nearestValues wrongScratch transmittanceRefusal Ieee.ofBits Ieee.ofFields Ieee.odd Ieee.toBits Ieee.neg Ieee.le Ieee.lt Ieee.eq Ieee.isNan Ieee.add Ieee.sub Ieee.mul Ieee.div Ieee.round Ieee.sum Ieee.units Ieee.size Ieee.span Ieee.climb
+unfolding rayAlong rayDown rayUp sheetAt turnedAt hallOf nearestTold lightTold sceneTold firstOf unlessRefused magnitudeOf subV dotV crossV within upTo outsideV wrongShare wrongScene tooMany badPoints badKinds badFrom badUses badMaterials badRay some absentOf solvedOf frontOf judgedOf meetOf triangleAt counts stopsLight countedOf metAt metBy before insertOf withMeet hitsOf beats nearerOf nearestTo nearestOf passOf transmittanceOf nearestRefusal scanValues nearestValues wrongScratch transmittanceRefusal Ieee.ofBits Ieee.ofFields Ieee.odd Ieee.toBits Ieee.neg Ieee.le Ieee.lt Ieee.eq Ieee.isNan Ieee.add Ieee.sub Ieee.mul Ieee.div Ieee.round Ieee.sum Ieee.units Ieee.size Ieee.span Ieee.climb notAccepted
 coincident-pair = refl
 
 -- ---- the determinant at the limit

@@ -10,6 +10,7 @@ use Rattle.vectors.specs.Vectors.{vec}
 use Rattle.vectors.specs.declared.Ray.{Ray}
 use Rattle.vectors.specs.declared.Triangle.{Triangle}
 use Rattle.limits.specs.Limits.{within, upTo, outsideV, wrongShare, wrongScene, tooMany, badPoints, badTriangle, badKinds, badFrom, badUses, badMaterials, badRay}
+use Rattle.tree.specs.Trees.{notAccepted}
 use Rattle.lists.specs.Some.{some}
 use Rattle.rays.specs.Rays.{meetRefusal, nearestRefusal, wrongScratch, transmittanceRefusal, solidTransmittanceRefusal}
 
@@ -36,11 +37,11 @@ unfolding meetRefusal down Q firstOf badTriangle badRay outsideV within upTo ofB
 meet-accepted = refl
 
 pub nearest-accepted : nearestRefusal hall down ≡ 0
-unfolding nearestRefusal hall down firstOf wrongScene wrongShare tooMany badPoints badMaterials badKinds badFrom badUses some badRay outsideV within upTo ofBits ofFields odd neg le lt eq isNan
+unfolding nearestRefusal hall down firstOf wrongScene wrongShare tooMany badPoints badMaterials badKinds badFrom badUses some badRay outsideV within upTo ofBits ofFields odd neg le lt eq isNan notAccepted
 nearest-accepted = refl
 
 pub transmittance-accepted : transmittanceRefusal hall down (zero32 ∷ []) (0 ∷ []) ≡ 0
-unfolding transmittanceRefusal wrongScratch hall down firstOf wrongScene wrongShare tooMany badPoints badMaterials badKinds badFrom badUses some badRay outsideV within upTo ofBits ofFields odd neg le lt eq isNan
+unfolding transmittanceRefusal wrongScratch hall down firstOf wrongScene wrongShare tooMany badPoints badMaterials badKinds badFrom badUses some badRay outsideV within upTo ofBits ofFields odd neg le lt eq isNan notAccepted
 transmittance-accepted = refl
 
 -- the engine of solid walls takes it too, without hit scratch. Beside a material of another kind, which no triangle uses, it refuses it with 6: before a bad
@@ -57,5 +58,5 @@ pub solid-transmittance-accepted : (solidTransmittanceRefusal hall down ≡ 0) �
     × (map (λ (kind : ℕ). solidTransmittanceRefusal (besideKind kind zero32) down) (0 ∷ 1 ∷ 2 ∷ 3 ∷ []) ≡ 0 ∷ 6 ∷ 6 ∷ 6 ∷ [])
     × (solidTransmittanceRefusal (besideKind 1 zero32) unbounded ≡ 6)
     × (solidTransmittanceRefusal (besideKind 1 inf32) down ≡ 5)
-unfolding solidTransmittanceRefusal transmittanceRefusal wrongScratch besideKind hall down unbounded firstOf wrongScene wrongShare tooMany badPoints badMaterials badKinds badFrom badUses some otherKind badRay outsideV within upTo ofBits ofFields odd neg le lt eq isNan
+unfolding solidTransmittanceRefusal transmittanceRefusal wrongScratch besideKind hall down unbounded firstOf wrongScene wrongShare tooMany badPoints badMaterials badKinds badFrom badUses some otherKind badRay outsideV within upTo ofBits ofFields odd neg le lt eq isNan notAccepted
 solid-transmittance-accepted = (refl, refl, refl, refl, refl)

@@ -140,7 +140,7 @@ scene-sound : (solid wrong : Bool) (scene : Scene) (ray : Ray) → (wrong ≡ fa
 scene-sound solid wrong scene ray w e =
     let p = passed (scanRows solid wrong scene ray) (scene-numbered solid wrong scene ray) e in
     let m = p .1 .1 .1 .0 in
-    (p .0, sound _ _ _ _ (w (p .0)) (p .1 .0) (materials-for solid (scene .uses) (scene .kinds) (scene .numbers) m), m)
+    (p .0, sound scene (w (p .0)) (p .1 .0) (materials-for solid (scene .uses) (scene .kinds) (scene .numbers) m), m)
 
 pub nearest-sound : (scene : Scene) (ray : Ray) → nearestRefusal scene ray ≡ 0 → Sound scene
 unfolding nearestRefusal

@@ -14,6 +14,7 @@ use Rattle.grid.specs.Grid.{edgesOf}
 use Rattle.grid.specs.declared.Axes.{Axes}
 use Rattle.grid.specs.declared.Corners.{Corners}
 use Rattle.limits.specs.Limits.{within, upTo, outsideV, badAxes, badCorners, badEdges, wrongShare, wrongScene, tooMany, badPoints, badKinds, badFrom, badUses, badMaterials, badDirection}
+use Rattle.tree.specs.Trees.{notAccepted}
 use Rattle.lists.specs.Some.{some}
 use Rattle.lists.specs.Any.{any}
 use Rattle.words.specs.Words.{unusedSet}
@@ -32,11 +33,11 @@ abbrev pub emptyScene : Scene
 emptyScene = sceneOf [] [] [] []
 
 pub sun-accepted : sunRefusal false oneVoxel unitBox emptyScene upward (1 ∷ []) 1 1 0 0 ≡ 0
-unfolding sunRefusal wrongSun oneVoxel unitBox upward firstOf badAxes badCorners badEdges edgesOf wrongScene wrongShare tooMany badPoints badKinds badFrom badUses badMaterials badDirection unusedSet any some outsideV within dotV ofBits ofFields odd neg le lt eq add sub mul div ofInt round sum units size climb span
+unfolding sunRefusal wrongSun oneVoxel unitBox upward firstOf badAxes badCorners badEdges edgesOf wrongScene wrongShare tooMany badPoints badKinds badFrom badUses badMaterials badDirection unusedSet any some outsideV within dotV ofBits ofFields odd neg le lt eq add sub mul div ofInt round sum units size climb span notAccepted
 sun-accepted = refl
 
 pub sun-bit-refused : sunRefusal false oneVoxel unitBox emptyScene upward (3 ∷ []) 1 1 0 0 ≡ 13
-unfolding sunRefusal wrongSun oneVoxel unitBox upward firstOf badAxes badCorners badEdges edgesOf wrongScene wrongShare tooMany badPoints badKinds badFrom badUses badMaterials badDirection unusedSet any some outsideV within dotV ofBits ofFields odd neg le lt eq add sub mul div ofInt round sum units size climb span
+unfolding sunRefusal wrongSun oneVoxel unitBox upward firstOf badAxes badCorners badEdges edgesOf wrongScene wrongShare tooMany badPoints badKinds badFrom badUses badMaterials badDirection unusedSet any some outsideV within dotV ofBits ofFields odd neg le lt eq add sub mul div ofInt round sum units size climb span notAccepted
 sun-bit-refused = refl
 
 -- one triangle is accepted between solid walls without hit scratch, and refused 3 by the other engine, which with it takes all three kinds. Of another kind than
@@ -52,5 +53,5 @@ pub solid-sun-accepted : (map (λ (kind : ℕ). sunRefusal true oneVoxel unitBox
     × (sunRefusal true oneVoxel unitBox (oneWall 1 zero32) upward (3 ∷ []) 1 1 0 0 ≡ 6)
     × (sunRefusal true oneVoxel unitBox (oneWall 2 zero32) (vec zero32 zero32 zero32) (1 ∷ []) 1 1 0 0 ≡ 6)
     × (sunRefusal true oneVoxel unitBox (oneWall 1 inf32) upward (1 ∷ []) 1 1 0 0 ≡ 5)
-unfolding sunRefusal wrongSun oneVoxel unitBox upward firstOf badAxes badCorners badEdges edgesOf wrongScene wrongShare tooMany badPoints badKinds badFrom badUses badMaterials otherKind badDirection unusedSet any some outsideV within upTo dotV ofBits ofFields odd neg le lt eq add sub mul div ofInt round sum units size climb span
+unfolding sunRefusal wrongSun oneVoxel unitBox upward firstOf badAxes badCorners badEdges edgesOf wrongScene wrongShare tooMany badPoints badKinds badFrom badUses badMaterials otherKind badDirection unusedSet any some outsideV within upTo dotV ofBits ofFields odd neg le lt eq add sub mul div ofInt round sum units size climb span notAccepted
 solid-sun-accepted = (refl, refl, refl, refl, refl, refl)

@@ -235,7 +235,7 @@ sun-ready solid axes corners scene direction active lightLength scratchLength di
     record {
       traceable = record {
         axes-fit = axes-row axes .0 (p .0);
-        scene-fits = sound _ _ _ _ (f .0) (p .1 .1 .1 .0) (materials-for solid (scene .uses) (scene .kinds) (scene .numbers) m);
+        scene-fits = sound scene (f .0) (p .1 .1 .1 .0) (materials-for solid (scene .uses) (scene .kinds) (scene .numbers) m);
         hits-fit = room solid scene distancesLength placesLength (b .1) m;
       };
       tidy = record { long = right _ _ (f .1); clean = p .1 .1 .1 .1 .1 .1 .1 .0 };

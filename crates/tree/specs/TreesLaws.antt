@@ -4,14 +4,19 @@ use mathlib.Core.Bool.{Bool, true, false, not, _&&_, false≢true}
 use mathlib.Core.List.{List}
 use mathlib.Core.Logic.{_↔_}
 use Prim.Native.Nat.{ℕ, _/_, _≤_}
+use native.Mathlib.Omega.{arith}
 use lib.ListN.{length}
 use lib.Ieee.{Float}
 use Rattle.names.specs.Numbers.{triangleLimit}
-use Rattle.names.specs.Scene.{Scene, sceneOf, treeScene}
+use Rattle.names.specs.Scene.{Scene, Sound, treeScene}
 use Rattle.tree.specs.Tree.{AcceptedTree}
 use Rattle.tree.specs.Test.{acceptedBy}
 use Rattle.tree.specs.TreeLaws.{accepted-exactly}
 use Rattle.tree.specs.Trees.{notAccepted, badTree, TreeStands}
+
+-- a scene whose lists fit each other has no more triangles than the limit
+pub few-triangles : (scene : Scene) → Sound scene → length (scene .points) / 9 ≤ triangleLimit
+few-triangles scene s = omega (arith, s .points, s .triangles)
 
 pub tree-row : (scene : Scene) → length (scene .points) / 9 ≤ triangleLimit → (badTree scene ≡ false) ↔ TreeStands scene
 unfolding notAccepted
@@ -32,6 +37,10 @@ tree-row scene few = (
     stands true true h = refl
     stands true false h = absurd (false≢true (h refl))
     stands false b h = refl
+
+-- of a scene whose lists fit each other
+pub sound-tree : (scene : Scene) → Sound scene → badTree scene ≡ false → TreeStands scene
+sound-tree scene s e = tree-row scene (few-triangles scene s) .0 e
 
 -- a scene without a tree passes
 pub treeless-row : (scene : Scene) → scene .boxed ≡ false → badTree scene ≡ false

@@ -52,7 +52,7 @@ further-requires c κs = search needs
 
 all-rays-requires : tie.Need-all-rays-requires
 all-rays-requires c κs =
-    let scene = sound _ _ _ _ (sym (c .before .before .before .before .before .before .before .wrong-scene .ensures) ∙ c .before .before .before .before .before .before .if2 .left) (sym (c .before .before .before .before .before .too-many .ensures) ∙ c .before .before .before .before .if3 .left) (sym (c .before .before .before .bad-materials-for .ensures) ∙ c .before .before .if4 .left) in
+    let scene = sound _ (sym (c .before .before .before .before .before .before .before .wrong-scene .ensures) ∙ c .before .before .before .before .before .before .if2 .left) (sym (c .before .before .before .before .before .too-many .ensures) ∙ c .before .before .before .before .if3 .left) (sym (c .before .before .before .bad-materials-for .ensures) ∙ c .before .before .if4 .left) in
     (scene, axes-row _ .0 (sym (c .before .before .before .before .before .before .before .before .before .bad-axes .ensures) ∙ c .before .before .before .before .before .before .before .before .if1 .left))
 
 half-requires : tie.Need-half-requires

@@ -4,7 +4,7 @@ use borrow.Author.Tests.{lt-ltb, le-ltb}
 use mathlib.Core.Path.{sym, _∙_}
 use Rattle.names.specs.Refusals.{row-holds, row-passed, rows-passed}
 use Rattle.grid.specs.GridLaws.{voxels-most}
-use Rattle.limits.specs.LimitsLaws.{either, axes-row, lamps-row}
+use Rattle.limits.specs.LimitsLaws.{either, axes-row, lamps-row, few-points}
 use Rattle.intake.specs.Intake.{bakeRefusal, bakeRows}
 use Rattle.intake.specs.IntakeLaws.{long}
 use Rattle.intake.proofs.Lists.{lists-row}
@@ -111,49 +111,50 @@ returns-8 c =
     (row-passed _ _ _ _ (sym (c .before .before .before .bad-lighting .ensures) ∙ c .before .before .if7 .left)
     (row-holds _ _ _ (sym (c .before .bad-lamps .ensures) ∙ c .if8 .taken))))))))
 
-voxel-cost-requires : tie.Need-voxel-cost-requires
-voxel-cost-requires c κs = lamps-row _ .0 (sym (c .before .bad-lamps .ensures) ∙ c .if8 .left) .0
-
-bad-progress-requires : tie.Need-bad-progress-requires
-bad-progress-requires c κs =
-    let t = c .before .before .before .before .before .before .before .before .before .before .before in (
-      rw (t .before .before .before .voxel-count .ensures)
-          (voxels-most _ (axes-row _ .0 (sym (t .before .before .before .before .before .before .before .bad-axes .ensures) ∙ t .before .before .before .before .before .before .if1 .left))),
-      long (sym (t .before .wrong-lengths .ensures) ∙ either (t .before .before .wrong-scene .result) _ .0 (t .if3 .left) .1) .active,
-      lamps-row _ .0 (sym (c .before .before .bad-lamps .ensures) ∙ c .before .if8 .left) .0,
-    )
+not-accepted-requires : tie.Need-not-accepted-requires
+not-accepted-requires c κs =
+    let t = c .before .before .before .before .before .before .before .before .before .before in
+    few-points _ _ _ _ (sym (t .before .before .wrong-scene .ensures) ∙ either _ _ .0 (t .if3 .left) .0)
+    (sym (c .before .before .before .before .before .before .before .before .before .too-many .ensures) ∙ c .before .before .before .before .before .before .before .before .if4 .left)
 
 returns-9 : tie.Need-returns-9
 unfolding bakeRefusal bakeRows
 returns-9 c =
-    row-passed _ _ _ _ (sym (c .before .before .before .before .before .before .before .before .before .before .before .before .before .before .before .before .before .before .before .before .bad-axes .ensures) ∙ c .before .before .before .before .before .before .before .before .before .before .before .before .before .before .before .before .before .before .before .if1 .left)
-    (row-passed _ _ _ _ (sym (c .before .before .before .before .before .before .before .before .before .before .before .before .before .before .before .before .before .before .bad-grid .ensures) ∙ c .before .before .before .before .before .before .before .before .before .before .before .before .before .before .before .before .before .if2 .left)
-    (row-passed _ _ _ _ (lists-row _ _ (c .before .before .before .before .before .before .before .before .before .before .before .before .before .before .before .before .voxel-count .ensures) (c .before .before .before .before .before .before .before .before .before .before .before .before .before .before .before .wrong-scene .ensures) (c .before .before .before .before .before .before .before .before .before .before .before .before .before .before .wrong-lengths .ensures) (c .before .before .before .before .before .before .before .before .before .before .before .before .before .if3 .left))
-    (row-passed _ _ _ _ (sym (c .before .before .before .before .before .before .before .before .before .before .before .before .too-many .ensures) ∙ c .before .before .before .before .before .before .before .before .before .before .before .if4 .left)
-    (row-passed _ _ _ _ (sym (c .before .before .before .before .before .before .before .before .before .before .bad-points .ensures) ∙ c .before .before .before .before .before .before .before .before .before .if5 .left)
-    (row-passed _ _ _ _ (sym (c .before .before .before .before .before .before .before .before .bad-materials-for .ensures) ∙ c .before .before .before .before .before .before .before .if6 .left)
-    (row-passed _ _ _ _ (sym (c .before .before .before .before .before .before .bad-lighting .ensures) ∙ c .before .before .before .before .before .if7 .left)
-    (row-passed _ _ _ _ (sym (c .before .before .before .before .bad-lamps .ensures) ∙ c .before .before .before .if8 .left)
-    (row-holds _ _ _ (rw (c .before .before .before .before .before .before .before .before .before .before .before .before .before .before .before .before .voxel-count .ensures) at (sym (c .before .bad-progress .ensures) ∙ c .if9 .taken))))))))))
+    row-passed _ _ _ _ (sym (c .before .before .before .before .before .before .before .before .before .before .before .before .before .before .before .before .before .before .before .bad-axes .ensures) ∙ c .before .before .before .before .before .before .before .before .before .before .before .before .before .before .before .before .before .before .if1 .left)
+    (row-passed _ _ _ _ (sym (c .before .before .before .before .before .before .before .before .before .before .before .before .before .before .before .before .before .bad-grid .ensures) ∙ c .before .before .before .before .before .before .before .before .before .before .before .before .before .before .before .before .if2 .left)
+    (row-passed _ _ _ _ (lists-row _ _ (c .before .before .before .before .before .before .before .before .before .before .before .before .before .before .before .voxel-count .ensures) (c .before .before .before .before .before .before .before .before .before .before .before .before .before .before .wrong-scene .ensures) (c .before .before .before .before .before .before .before .before .before .before .before .before .before .wrong-lengths .ensures) (c .before .before .before .before .before .before .before .before .before .before .before .before .if3 .left))
+    (row-passed _ _ _ _ (sym (c .before .before .before .before .before .before .before .before .before .before .before .too-many .ensures) ∙ c .before .before .before .before .before .before .before .before .before .before .if4 .left)
+    (row-passed _ _ _ _ (sym (c .before .before .before .before .before .before .before .before .before .bad-points .ensures) ∙ c .before .before .before .before .before .before .before .before .if5 .left)
+    (row-passed _ _ _ _ (sym (c .before .before .before .before .before .before .before .bad-materials-for .ensures) ∙ c .before .before .before .before .before .before .if6 .left)
+    (row-passed _ _ _ _ (sym (c .before .before .before .before .before .bad-lighting .ensures) ∙ c .before .before .before .before .if7 .left)
+    (row-passed _ _ _ _ (sym (c .before .before .before .bad-lamps .ensures) ∙ c .before .before .if8 .left)
+    (row-holds _ _ _ (sym (c .before .not-accepted .ensures) ∙ c .if9 .taken)))))))))
+
+voxel-cost-requires : tie.Need-voxel-cost-requires
+voxel-cost-requires c κs = lamps-row _ .0 (sym (c .before .before .before .bad-lamps .ensures) ∙ c .before .before .if8 .left) .0
+
+bad-progress-requires : tie.Need-bad-progress-requires
+bad-progress-requires c κs =
+    let t = c .before .before .before .before .before .before .before .before .before .before .before .before .before in (
+      rw (t .before .before .before .voxel-count .ensures)
+          (voxels-most _ (axes-row _ .0 (sym (t .before .before .before .before .before .before .before .bad-axes .ensures) ∙ t .before .before .before .before .before .before .if1 .left))),
+      long (sym (t .before .wrong-lengths .ensures) ∙ either (t .before .before .wrong-scene .result) _ .0 (t .if3 .left) .1) .active,
+      lamps-row _ .0 (sym (c .before .before .before .before .bad-lamps .ensures) ∙ c .before .before .before .if8 .left) .0,
+    )
 
 returns-10 : tie.Need-returns-10
 unfolding bakeRefusal bakeRows
 returns-10 c =
-    row-passed _ _ _ _ (sym (c .before .before .before .before .before .before .before .before .before .before .before .before .before .before .before .before .before .before .before .before .before .bad-axes .ensures) ∙ c .before .before .before .before .before .before .before .before .before .before .before .before .before .before .before .before .before .before .before .before .if1 .left)
-    (row-passed _ _ _ _ (sym (c .before .before .before .before .before .before .before .before .before .before .before .before .before .before .before .before .before .before .before .bad-grid .ensures) ∙ c .before .before .before .before .before .before .before .before .before .before .before .before .before .before .before .before .before .before .if2 .left)
-    (row-passed _ _ _ _ (lists-row _ _ (c .before .before .before .before .before .before .before .before .before .before .before .before .before .before .before .before .before .voxel-count .ensures) (c .before .before .before .before .before .before .before .before .before .before .before .before .before .before .before .before .wrong-scene .ensures) (c .before .before .before .before .before .before .before .before .before .before .before .before .before .before .before .wrong-lengths .ensures) (c .before .before .before .before .before .before .before .before .before .before .before .before .before .before .if3 .left))
-    (row-passed _ _ _ _ (sym (c .before .before .before .before .before .before .before .before .before .before .before .before .before .too-many .ensures) ∙ c .before .before .before .before .before .before .before .before .before .before .before .before .if4 .left)
-    (row-passed _ _ _ _ (sym (c .before .before .before .before .before .before .before .before .before .before .before .bad-points .ensures) ∙ c .before .before .before .before .before .before .before .before .before .before .if5 .left)
-    (row-passed _ _ _ _ (sym (c .before .before .before .before .before .before .before .before .before .bad-materials-for .ensures) ∙ c .before .before .before .before .before .before .before .before .if6 .left)
-    (row-passed _ _ _ _ (sym (c .before .before .before .before .before .before .before .bad-lighting .ensures) ∙ c .before .before .before .before .before .before .if7 .left)
-    (row-passed _ _ _ _ (sym (c .before .before .before .before .before .bad-lamps .ensures) ∙ c .before .before .before .before .if8 .left)
-    (row-passed _ _ _ _ (rw (c .before .before .before .before .before .before .before .before .before .before .before .before .before .before .before .before .before .voxel-count .ensures) at (sym (c .before .before .bad-progress .ensures) ∙ c .before .if9 .left))
-    (row-holds _ _ _ (lt-ltb _ _ (rw (c .before .before .before .voxel-cost .ensures) at (c .if10 .taken))))))))))))
-
-bad-contents-requires : tie.Need-bad-contents-requires
-bad-contents-requires c κs =
-    let t = c .before .before .before .before .before .before .before .before .before .before .before .before .before .before in
-    long (sym (t .before .wrong-lengths .ensures) ∙ either (t .before .before .wrong-scene .result) _ .0 (t .if3 .left) .1) .active
+    row-passed _ _ _ _ (sym (c .before .before .before .before .before .before .before .before .before .before .before .before .before .before .before .before .before .before .before .before .before .before .bad-axes .ensures) ∙ c .before .before .before .before .before .before .before .before .before .before .before .before .before .before .before .before .before .before .before .before .before .if1 .left)
+    (row-passed _ _ _ _ (sym (c .before .before .before .before .before .before .before .before .before .before .before .before .before .before .before .before .before .before .before .before .bad-grid .ensures) ∙ c .before .before .before .before .before .before .before .before .before .before .before .before .before .before .before .before .before .before .before .if2 .left)
+    (row-passed _ _ _ _ (lists-row _ _ (c .before .before .before .before .before .before .before .before .before .before .before .before .before .before .before .before .before .before .voxel-count .ensures) (c .before .before .before .before .before .before .before .before .before .before .before .before .before .before .before .before .before .wrong-scene .ensures) (c .before .before .before .before .before .before .before .before .before .before .before .before .before .before .before .before .wrong-lengths .ensures) (c .before .before .before .before .before .before .before .before .before .before .before .before .before .before .before .if3 .left))
+    (row-passed _ _ _ _ (sym (c .before .before .before .before .before .before .before .before .before .before .before .before .before .before .too-many .ensures) ∙ c .before .before .before .before .before .before .before .before .before .before .before .before .before .if4 .left)
+    (row-passed _ _ _ _ (sym (c .before .before .before .before .before .before .before .before .before .before .before .before .bad-points .ensures) ∙ c .before .before .before .before .before .before .before .before .before .before .before .if5 .left)
+    (row-passed _ _ _ _ (sym (c .before .before .before .before .before .before .before .before .before .before .bad-materials-for .ensures) ∙ c .before .before .before .before .before .before .before .before .before .if6 .left)
+    (row-passed _ _ _ _ (sym (c .before .before .before .before .before .before .before .before .bad-lighting .ensures) ∙ c .before .before .before .before .before .before .before .if7 .left)
+    (row-passed _ _ _ _ (sym (c .before .before .before .before .before .before .bad-lamps .ensures) ∙ c .before .before .before .before .before .if8 .left)
+    (row-passed _ _ _ _ (sym (c .before .before .before .before .not-accepted .ensures) ∙ c .before .before .before .if9 .left)
+    (row-holds _ _ _ (rw (c .before .before .before .before .before .before .before .before .before .before .before .before .before .before .before .before .before .before .voxel-count .ensures) at (sym (c .before .bad-progress .ensures) ∙ c .if10 .taken)))))))))))
 
 returns-11 : tie.Need-returns-11
 unfolding bakeRefusal bakeRows
@@ -166,25 +167,47 @@ returns-11 c =
     (row-passed _ _ _ _ (sym (c .before .before .before .before .before .before .before .before .before .before .before .bad-materials-for .ensures) ∙ c .before .before .before .before .before .before .before .before .before .before .if6 .left)
     (row-passed _ _ _ _ (sym (c .before .before .before .before .before .before .before .before .before .bad-lighting .ensures) ∙ c .before .before .before .before .before .before .before .before .if7 .left)
     (row-passed _ _ _ _ (sym (c .before .before .before .before .before .before .before .bad-lamps .ensures) ∙ c .before .before .before .before .before .before .if8 .left)
-    (row-passed _ _ _ _ (rw (c .before .before .before .before .before .before .before .before .before .before .before .before .before .before .before .before .before .before .before .voxel-count .ensures) at (sym (c .before .before .before .before .bad-progress .ensures) ∙ c .before .before .before .if9 .left))
-    (row-passed _ _ _ _ (le-ltb _ _ (rw (c .before .before .before .before .before .voxel-cost .ensures) at (c .before .before .if10 .left)))
-    (row-holds _ _ _ (rw (c .before .before .before .before .before .before .before .before .before .before .before .before .before .before .before .before .before .before .before .voxel-count .ensures) at (sym (c .before .bad-contents .ensures) ∙ c .if11 .taken))))))))))))
+    (row-passed _ _ _ _ (sym (c .before .before .before .before .before .not-accepted .ensures) ∙ c .before .before .before .before .if9 .left)
+    (row-passed _ _ _ _ (rw (c .before .before .before .before .before .before .before .before .before .before .before .before .before .before .before .before .before .before .before .voxel-count .ensures) at (sym (c .before .before .bad-progress .ensures) ∙ c .before .if10 .left))
+    (row-holds _ _ _ (lt-ltb _ _ (rw (c .before .before .before .voxel-cost .ensures) at (c .if11 .taken)))))))))))))
+
+bad-contents-requires : tie.Need-bad-contents-requires
+bad-contents-requires c κs =
+    let t = c .before .before .before .before .before .before .before .before .before .before .before .before .before .before .before .before in
+    long (sym (t .before .wrong-lengths .ensures) ∙ either (t .before .before .wrong-scene .result) _ .0 (t .if3 .left) .1) .active
 
 returns-12 : tie.Need-returns-12
 unfolding bakeRefusal bakeRows
 returns-12 c =
-    row-passed _ _ _ _ (sym (c .before .before .before .before .before .before .before .before .before .before .before .before .before .before .before .before .before .before .before .before .before .before .before .bad-axes .ensures) ∙ c .before .before .before .before .before .before .before .before .before .before .before .before .before .before .before .before .before .before .before .before .before .before .if1 .left)
-    (row-passed _ _ _ _ (sym (c .before .before .before .before .before .before .before .before .before .before .before .before .before .before .before .before .before .before .before .before .before .bad-grid .ensures) ∙ c .before .before .before .before .before .before .before .before .before .before .before .before .before .before .before .before .before .before .before .before .if2 .left)
-    (row-passed _ _ _ _ (lists-row _ _ (c .before .before .before .before .before .before .before .before .before .before .before .before .before .before .before .before .before .before .before .voxel-count .ensures) (c .before .before .before .before .before .before .before .before .before .before .before .before .before .before .before .before .before .before .wrong-scene .ensures) (c .before .before .before .before .before .before .before .before .before .before .before .before .before .before .before .before .before .wrong-lengths .ensures) (c .before .before .before .before .before .before .before .before .before .before .before .before .before .before .before .before .if3 .left))
-    (row-passed _ _ _ _ (sym (c .before .before .before .before .before .before .before .before .before .before .before .before .before .before .before .too-many .ensures) ∙ c .before .before .before .before .before .before .before .before .before .before .before .before .before .before .if4 .left)
-    (row-passed _ _ _ _ (sym (c .before .before .before .before .before .before .before .before .before .before .before .before .before .bad-points .ensures) ∙ c .before .before .before .before .before .before .before .before .before .before .before .before .if5 .left)
-    (row-passed _ _ _ _ (sym (c .before .before .before .before .before .before .before .before .before .before .before .bad-materials-for .ensures) ∙ c .before .before .before .before .before .before .before .before .before .before .if6 .left)
-    (row-passed _ _ _ _ (sym (c .before .before .before .before .before .before .before .before .before .bad-lighting .ensures) ∙ c .before .before .before .before .before .before .before .before .if7 .left)
-    (row-passed _ _ _ _ (sym (c .before .before .before .before .before .before .before .bad-lamps .ensures) ∙ c .before .before .before .before .before .before .if8 .left)
-    (row-passed _ _ _ _ (rw (c .before .before .before .before .before .before .before .before .before .before .before .before .before .before .before .before .before .before .before .voxel-count .ensures) at (sym (c .before .before .before .before .bad-progress .ensures) ∙ c .before .before .before .if9 .left))
-    (row-passed _ _ _ _ (le-ltb _ _ (rw (c .before .before .before .before .before .voxel-cost .ensures) at (c .before .before .if10 .left)))
-    (row-passed _ _ _ _ (rw (c .before .before .before .before .before .before .before .before .before .before .before .before .before .before .before .before .before .before .before .voxel-count .ensures) at (sym (c .before .bad-contents .ensures) ∙ c .if11 .left))
-    rows-passed))))))))))
+    row-passed _ _ _ _ (sym (c .before .before .before .before .before .before .before .before .before .before .before .before .before .before .before .before .before .before .before .before .before .before .before .before .before .bad-axes .ensures) ∙ c .before .before .before .before .before .before .before .before .before .before .before .before .before .before .before .before .before .before .before .before .before .before .before .before .if1 .left)
+    (row-passed _ _ _ _ (sym (c .before .before .before .before .before .before .before .before .before .before .before .before .before .before .before .before .before .before .before .before .before .before .before .bad-grid .ensures) ∙ c .before .before .before .before .before .before .before .before .before .before .before .before .before .before .before .before .before .before .before .before .before .before .if2 .left)
+    (row-passed _ _ _ _ (lists-row _ _ (c .before .before .before .before .before .before .before .before .before .before .before .before .before .before .before .before .before .before .before .before .before .voxel-count .ensures) (c .before .before .before .before .before .before .before .before .before .before .before .before .before .before .before .before .before .before .before .before .wrong-scene .ensures) (c .before .before .before .before .before .before .before .before .before .before .before .before .before .before .before .before .before .before .before .wrong-lengths .ensures) (c .before .before .before .before .before .before .before .before .before .before .before .before .before .before .before .before .before .before .if3 .left))
+    (row-passed _ _ _ _ (sym (c .before .before .before .before .before .before .before .before .before .before .before .before .before .before .before .before .before .too-many .ensures) ∙ c .before .before .before .before .before .before .before .before .before .before .before .before .before .before .before .before .if4 .left)
+    (row-passed _ _ _ _ (sym (c .before .before .before .before .before .before .before .before .before .before .before .before .before .before .before .bad-points .ensures) ∙ c .before .before .before .before .before .before .before .before .before .before .before .before .before .before .if5 .left)
+    (row-passed _ _ _ _ (sym (c .before .before .before .before .before .before .before .before .before .before .before .before .before .bad-materials-for .ensures) ∙ c .before .before .before .before .before .before .before .before .before .before .before .before .if6 .left)
+    (row-passed _ _ _ _ (sym (c .before .before .before .before .before .before .before .before .before .before .before .bad-lighting .ensures) ∙ c .before .before .before .before .before .before .before .before .before .before .if7 .left)
+    (row-passed _ _ _ _ (sym (c .before .before .before .before .before .before .before .before .before .bad-lamps .ensures) ∙ c .before .before .before .before .before .before .before .before .if8 .left)
+    (row-passed _ _ _ _ (sym (c .before .before .before .before .before .before .before .not-accepted .ensures) ∙ c .before .before .before .before .before .before .if9 .left)
+    (row-passed _ _ _ _ (rw (c .before .before .before .before .before .before .before .before .before .before .before .before .before .before .before .before .before .before .before .before .before .voxel-count .ensures) at (sym (c .before .before .before .before .bad-progress .ensures) ∙ c .before .before .before .if10 .left))
+    (row-passed _ _ _ _ (le-ltb _ _ (rw (c .before .before .before .before .before .voxel-cost .ensures) at (c .before .before .if11 .left)))
+    (row-holds _ _ _ (rw (c .before .before .before .before .before .before .before .before .before .before .before .before .before .before .before .before .before .before .before .before .before .voxel-count .ensures) at (sym (c .before .bad-contents .ensures) ∙ c .if12 .taken)))))))))))))
+
+returns-13 : tie.Need-returns-13
+unfolding bakeRefusal bakeRows
+returns-13 c =
+    row-passed _ _ _ _ (sym (c .before .before .before .before .before .before .before .before .before .before .before .before .before .before .before .before .before .before .before .before .before .before .before .before .before .bad-axes .ensures) ∙ c .before .before .before .before .before .before .before .before .before .before .before .before .before .before .before .before .before .before .before .before .before .before .before .before .if1 .left)
+    (row-passed _ _ _ _ (sym (c .before .before .before .before .before .before .before .before .before .before .before .before .before .before .before .before .before .before .before .before .before .before .before .bad-grid .ensures) ∙ c .before .before .before .before .before .before .before .before .before .before .before .before .before .before .before .before .before .before .before .before .before .before .if2 .left)
+    (row-passed _ _ _ _ (lists-row _ _ (c .before .before .before .before .before .before .before .before .before .before .before .before .before .before .before .before .before .before .before .before .before .voxel-count .ensures) (c .before .before .before .before .before .before .before .before .before .before .before .before .before .before .before .before .before .before .before .before .wrong-scene .ensures) (c .before .before .before .before .before .before .before .before .before .before .before .before .before .before .before .before .before .before .before .wrong-lengths .ensures) (c .before .before .before .before .before .before .before .before .before .before .before .before .before .before .before .before .before .before .if3 .left))
+    (row-passed _ _ _ _ (sym (c .before .before .before .before .before .before .before .before .before .before .before .before .before .before .before .before .before .too-many .ensures) ∙ c .before .before .before .before .before .before .before .before .before .before .before .before .before .before .before .before .if4 .left)
+    (row-passed _ _ _ _ (sym (c .before .before .before .before .before .before .before .before .before .before .before .before .before .before .before .bad-points .ensures) ∙ c .before .before .before .before .before .before .before .before .before .before .before .before .before .before .if5 .left)
+    (row-passed _ _ _ _ (sym (c .before .before .before .before .before .before .before .before .before .before .before .before .before .bad-materials-for .ensures) ∙ c .before .before .before .before .before .before .before .before .before .before .before .before .if6 .left)
+    (row-passed _ _ _ _ (sym (c .before .before .before .before .before .before .before .before .before .before .before .bad-lighting .ensures) ∙ c .before .before .before .before .before .before .before .before .before .before .if7 .left)
+    (row-passed _ _ _ _ (sym (c .before .before .before .before .before .before .before .before .before .bad-lamps .ensures) ∙ c .before .before .before .before .before .before .before .before .if8 .left)
+    (row-passed _ _ _ _ (sym (c .before .before .before .before .before .before .before .not-accepted .ensures) ∙ c .before .before .before .before .before .before .if9 .left)
+    (row-passed _ _ _ _ (rw (c .before .before .before .before .before .before .before .before .before .before .before .before .before .before .before .before .before .before .before .before .before .voxel-count .ensures) at (sym (c .before .before .before .before .bad-progress .ensures) ∙ c .before .before .before .if10 .left))
+    (row-passed _ _ _ _ (le-ltb _ _ (rw (c .before .before .before .before .before .voxel-cost .ensures) at (c .before .before .if11 .left)))
+    (row-passed _ _ _ _ (rw (c .before .before .before .before .before .before .before .before .before .before .before .before .before .before .before .before .before .before .before .before .before .voxel-count .ensures) at (sym (c .before .bad-contents .ensures) ∙ c .if12 .left))
+    rows-passed)))))))))))
 
 pub judge-spec : {M : Type 1} → statement M
 judge-spec =
@@ -208,10 +231,12 @@ judge-spec =
     returns-7
     bad-lamps-requires
     returns-8
+    not-accepted-requires
+    returns-9
     voxel-cost-requires
     bad-progress-requires
-    returns-9
     returns-10
-    bad-contents-requires
     returns-11
-    returns-12)
+    bad-contents-requires
+    returns-12
+    returns-13)
