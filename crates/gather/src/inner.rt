@@ -4,7 +4,8 @@ ghost use Prim.Native.Nat.{_+_, _*_, _≤_, _<_};
 ghost use lib.ListN.{length};
 ghost use Rattle.names.specs.Numbers.{primaryRays, lampLimit, skyNumbers};
 ghost use Rattle.limits.specs.Limits.{lampCount};
-ghost use Rattle.names.specs.Scene.{Sound, sceneOf, HitsFit};
+ghost use Rattle.names.specs.Scene.{Sound, sceneFor, HitsFit};
+ghost use Rattle.tracing.specs.Through.{Through};
 ghost use Rattle.directions.specs.Table.{directions};
 ghost use Rattle.grid.specs.Grid.{AxesWithin, voxels, xOf, yOf, zOf, centreFrom};
 ghost use Rattle.gather.specs.Gather.{settingOf, directionAt, primaryRay, sentBack, incomingOf, gatheredAlong, gatheringOf, nothingGathered, finishedOf, ambientOf, skySeen, withFour, sixteenOf, setAt, Gatherable, Gathered, gatherOf};
@@ -31,6 +32,11 @@ pub fn gather_voxel(
     uses: &[u32],
     kinds: &[u8],
     numbers: &[f32],
+    boxed: bool,
+    boxes: &[f32],
+    nodes: &[u32],
+    order: &[u32],
+    turned: &[f32],
     light: Light,
     ambient: Ambient,
     sky: &[f32],
@@ -42,9 +48,10 @@ pub fn gather_voxel(
     i: usize,
     out: &mut [f32],
 ) -> u64
-    requires { ⌜ Gatherable (gatherOf axes corners (sceneOf (now points) (now uses) (now kinds) (now numbers)) light ambient (now sky) (now lamps) (now lights)) i (length (now distances)) (length (now places)) (length (now out)) ⌝ }
+    requires { ⌜ Gatherable (gatherOf axes corners (sceneFor boxed (now points) (now uses) (now kinds) (now numbers) (now boxes) (now nodes) (now order)) light ambient (now sky) (now lamps) (now lights)) i (length (now distances)) (length (now places)) (length (now out)) ⌝ }
     requires { ⌜ now table ≡ directions ⌝ }
-    ensures { λ r. ⌜ Gathered (gatherOf axes corners (sceneOf (now (points .entry)) (now (uses .entry)) (now (kinds .entry)) (now (numbers .entry))) light ambient (now (sky .entry)) (now (lamps .entry)) (now (lights .entry))) i r (now (out .exit)) ⌝ }
+    requires { ⌜ Through (sceneFor boxed (now points) (now uses) (now kinds) (now numbers) (now boxes) (now nodes) (now order)) (now turned) ⌝ }
+    ensures { λ r. ⌜ Gathered (gatherOf axes corners (sceneFor boxed (now (points .entry)) (now (uses .entry)) (now (kinds .entry)) (now (numbers .entry)) (now (boxes .entry)) (now (nodes .entry)) (now (order .entry))) light ambient (now (sky .entry)) (now (lamps .entry)) (now (lights .entry))) i r (now (out .exit)) ⌝ }
 {
     let edges = grid::inner::edges(corners, axes);
     let setting = setting_of(edges, light, ambient);
@@ -55,6 +62,11 @@ pub fn gather_voxel(
         uses,
         kinds,
         numbers,
+        boxed,
+        boxes,
+        nodes,
+        order,
+        turned,
         lamps,
         setting,
         centre,
@@ -108,6 +120,11 @@ fn gather_all(
     uses: &[u32],
     kinds: &[u8],
     numbers: &[f32],
+    boxed: bool,
+    boxes: &[f32],
+    nodes: &[u32],
+    order: &[u32],
+    turned: &[f32],
     lamps: &[f32],
     setting: Setting,
     centre: Vec3,
@@ -117,11 +134,12 @@ fn gather_all(
     distances: &mut [f32],
     places: &mut [usize],
 ) -> Gathering
-    requires { ⌜ Sound (sceneOf (now points) (now uses) (now kinds) (now numbers)) ⌝ }
+    requires { ⌜ Sound (sceneFor boxed (now points) (now uses) (now kinds) (now numbers) (now boxes) (now nodes) (now order)) ⌝ }
     requires { ⌜ lampCount (now lamps) ≤ lampLimit ⌝ }
-    requires { ⌜ HitsFit (sceneOf (now points) (now uses) (now kinds) (now numbers)) (length (now distances)) (length (now places)) ⌝ }
+    requires { ⌜ HitsFit (sceneFor boxed (now points) (now uses) (now kinds) (now numbers) (now boxes) (now nodes) (now order)) (length (now distances)) (length (now places)) ⌝ }
     requires { ⌜ (length (now sky) ≡ skyNumbers) × (now table ≡ directions) × (first + 64 ≤ 576) ⌝ }
-    ensures { λ r. ⌜ r ≡ gatheringOf (sceneOf (now (points .entry)) (now (uses .entry)) (now (kinds .entry)) (now (numbers .entry))) (now (lamps .entry)) setting centre (now (sky .entry)) first ⌝ }
+    requires { ⌜ Through (sceneFor boxed (now points) (now uses) (now kinds) (now numbers) (now boxes) (now nodes) (now order)) (now turned) ⌝ }
+    ensures { λ r. ⌜ r ≡ gatheringOf (sceneFor boxed (now (points .entry)) (now (uses .entry)) (now (kinds .entry)) (now (numbers .entry)) (now (boxes .entry)) (now (nodes .entry)) (now (order .entry))) (now (lamps .entry)) setting centre (now (sky .entry)) first ⌝ }
 {
     let mut gathering = nothing();
     let mut i = 0;
@@ -131,6 +149,11 @@ fn gather_all(
             uses,
             kinds,
             numbers,
+            boxed,
+            boxes,
+            nodes,
+            order,
+            turned,
             lamps,
             setting,
             centre,
@@ -172,6 +195,11 @@ fn gather_along(
     uses: &[u32],
     kinds: &[u8],
     numbers: &[f32],
+    boxed: bool,
+    boxes: &[f32],
+    nodes: &[u32],
+    order: &[u32],
+    turned: &[f32],
     lamps: &[f32],
     setting: Setting,
     centre: Vec3,
@@ -182,12 +210,13 @@ fn gather_along(
     distances: &mut [f32],
     places: &mut [usize],
 ) -> Gathering
-    requires { ⌜ Sound (sceneOf (now points) (now uses) (now kinds) (now numbers)) ⌝ }
+    requires { ⌜ Sound (sceneFor boxed (now points) (now uses) (now kinds) (now numbers) (now boxes) (now nodes) (now order)) ⌝ }
     requires { ⌜ lampCount (now lamps) ≤ lampLimit ⌝ }
-    requires { ⌜ HitsFit (sceneOf (now points) (now uses) (now kinds) (now numbers)) (length (now distances)) (length (now places)) ⌝ }
+    requires { ⌜ HitsFit (sceneFor boxed (now points) (now uses) (now kinds) (now numbers) (now boxes) (now nodes) (now order)) (length (now distances)) (length (now places)) ⌝ }
     requires { ⌜ (length (now sky) ≡ skyNumbers) × (now table ≡ directions) × (k < 576) ⌝ }
     requires { ⌜ (gathering .rays < 65536) × (gathering .misses < 65536) ⌝ }
-    ensures { λ r. ⌜ r ≡ gatheredAlong (sceneOf (now (points .entry)) (now (uses .entry)) (now (kinds .entry)) (now (numbers .entry))) (now (lamps .entry)) setting centre (now (sky .entry)) k gathering ⌝ }
+    requires { ⌜ Through (sceneFor boxed (now points) (now uses) (now kinds) (now numbers) (now boxes) (now nodes) (now order)) (now turned) ⌝ }
+    ensures { λ r. ⌜ r ≡ gatheredAlong (sceneFor boxed (now (points .entry)) (now (uses .entry)) (now (kinds .entry)) (now (numbers .entry)) (now (boxes .entry)) (now (nodes .entry)) (now (order .entry))) (now (lamps .entry)) setting centre (now (sky .entry)) k gathering ⌝ }
 {
     let direction = direction_at(table, k);
     let above = vectors::inner::vec_at(sky, k * 3);
@@ -197,6 +226,11 @@ fn gather_along(
         uses,
         kinds,
         numbers,
+        boxed,
+        boxes,
+        nodes,
+        order,
+        turned,
         lamps,
         setting,
         ray,
@@ -246,6 +280,11 @@ fn look(
     uses: &[u32],
     kinds: &[u8],
     numbers: &[f32],
+    boxed: bool,
+    boxes: &[f32],
+    nodes: &[u32],
+    order: &[u32],
+    turned: &[f32],
     lamps: &[f32],
     setting: Setting,
     ray: Ray,
@@ -253,12 +292,24 @@ fn look(
     distances: &mut [f32],
     places: &mut [usize],
 ) -> Incoming
-    requires { ⌜ Sound (sceneOf (now points) (now uses) (now kinds) (now numbers)) ⌝ }
+    requires { ⌜ Sound (sceneFor boxed (now points) (now uses) (now kinds) (now numbers) (now boxes) (now nodes) (now order)) ⌝ }
     requires { ⌜ lampCount (now lamps) ≤ lampLimit ⌝ }
-    requires { ⌜ HitsFit (sceneOf (now points) (now uses) (now kinds) (now numbers)) (length (now distances)) (length (now places)) ⌝ }
-    ensures { λ r. ⌜ r ≡ incomingOf (sceneOf (now (points .entry)) (now (uses .entry)) (now (kinds .entry)) (now (numbers .entry))) (now (lamps .entry)) setting ray sky ⌝ }
+    requires { ⌜ HitsFit (sceneFor boxed (now points) (now uses) (now kinds) (now numbers) (now boxes) (now nodes) (now order)) (length (now distances)) (length (now places)) ⌝ }
+    requires { ⌜ Through (sceneFor boxed (now points) (now uses) (now kinds) (now numbers) (now boxes) (now nodes) (now order)) (now turned) ⌝ }
+    ensures { λ r. ⌜ r ≡ incomingOf (sceneFor boxed (now (points .entry)) (now (uses .entry)) (now (kinds .entry)) (now (numbers .entry)) (now (boxes .entry)) (now (nodes .entry)) (now (order .entry))) (now (lamps .entry)) setting ray sky ⌝ }
 {
-    let found = scan::inner::nearest(points, uses, kinds, numbers, ray);
+    let found = tracing::inner::nearest(
+        points,
+        uses,
+        kinds,
+        numbers,
+        boxed,
+        boxes,
+        nodes,
+        order,
+        turned,
+        ray,
+    );
     match found {
         Nearest::Nothing => Incoming {
             radiance: sky,
@@ -271,6 +322,11 @@ fn look(
                 uses,
                 kinds,
                 numbers,
+                boxed,
+                boxes,
+                nodes,
+                order,
+                turned,
                 lamps,
                 setting,
                 ray,
@@ -295,6 +351,11 @@ fn from_surface(
     uses: &[u32],
     kinds: &[u8],
     numbers: &[f32],
+    boxed: bool,
+    boxes: &[f32],
+    nodes: &[u32],
+    order: &[u32],
+    turned: &[f32],
     lamps: &[f32],
     setting: Setting,
     ray: Ray,
@@ -303,11 +364,12 @@ fn from_surface(
     distances: &mut [f32],
     places: &mut [usize],
 ) -> Traced
-    requires { ⌜ Sound (sceneOf (now points) (now uses) (now kinds) (now numbers)) ⌝ }
+    requires { ⌜ Sound (sceneFor boxed (now points) (now uses) (now kinds) (now numbers) (now boxes) (now nodes) (now order)) ⌝ }
     requires { ⌜ lampCount (now lamps) ≤ lampLimit ⌝ }
-    requires { ⌜ HitsFit (sceneOf (now points) (now uses) (now kinds) (now numbers)) (length (now distances)) (length (now places)) ⌝ }
+    requires { ⌜ HitsFit (sceneFor boxed (now points) (now uses) (now kinds) (now numbers) (now boxes) (now nodes) (now order)) (length (now distances)) (length (now places)) ⌝ }
     requires { ⌜ place < length (now uses) ⌝ }
-    ensures { λ r. ⌜ r ≡ sentBack (sceneOf (now (points .entry)) (now (uses .entry)) (now (kinds .entry)) (now (numbers .entry))) (now (lamps .entry)) setting ray place distance ⌝ }
+    requires { ⌜ Through (sceneFor boxed (now points) (now uses) (now kinds) (now numbers) (now boxes) (now nodes) (now order)) (now turned) ⌝ }
+    ensures { λ r. ⌜ r ≡ sentBack (sceneFor boxed (now (points .entry)) (now (uses .entry)) (now (kinds .entry)) (now (numbers .entry)) (now (boxes .entry)) (now (nodes .entry)) (now (order .entry))) (now (lamps .entry)) setting ray place distance ⌝ }
 {
     let surface = surface::inner::surface_at(
         points,
@@ -324,6 +386,11 @@ fn from_surface(
         uses,
         kinds,
         numbers,
+        boxed,
+        boxes,
+        nodes,
+        order,
+        turned,
         lamps,
         setting,
         surface,

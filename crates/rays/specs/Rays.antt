@@ -8,10 +8,11 @@ use lib.ListN.{length}
 use lib.Ieee.{Float}
 use Rattle.names.specs.Bits.{zero32}
 use Rattle.names.specs.Refusals.{Row, row, firstOf, unlessRefused}
-use Rattle.names.specs.Scene.{Scene}
+use Rattle.names.specs.Scene.{Scene, treeScene}
 use Rattle.vectors.specs.declared.Ray.{Ray}
 use Rattle.vectors.specs.declared.Triangle.{Triangle}
 use Rattle.limits.specs.Limits.{wrongScene, shortHits, badTriangle, sceneRows, badRay}
+use Rattle.tree.specs.Trees.{badTree}
 use Rattle.triangle.specs.Meet.{meetOf}
 use Rattle.triangle.specs.declared.Meet.{Meet}
 use Rattle.scan.specs.Nearest.{nearestOf}
@@ -89,7 +90,7 @@ wrongSceneLists scene = wrongScene (scene .points) (scene .uses) (scene .kinds) 
 
 -- where `wrong` says whether a length is, and `solid` whether for the engine of solid walls
 abbrev pub scanRows : Bool → Bool → Scene → Ray → List Row
-scanRows solid wrong scene ray = row 3 wrong ∷ sceneRows solid scene (row 8 (badRay ray) ∷ [])
+scanRows solid wrong scene ray = row 3 wrong ∷ sceneRows solid scene (row 16 (badTree scene) ∷ row 8 (badRay ray) ∷ [])
 
 -- ---- the nearest hit
 
@@ -146,3 +147,13 @@ solidTransmittanceRefusal scene ray = firstOf (scanRows true (wrongSceneLists sc
 pub record SolidTransmittanceAnswered (scene : Scene) (ray : Ray) (r : Transmitted) : Type 0 where
   pub answer : r .refusal ≡ solidTransmittanceRefusal scene ray
   pub transmittance : r .transmittance ≡ unlessRefused (r .refusal) (transmittanceOf scene ray) zero32
+
+-- ---- the same of a scene that comes with a box tree: "For any accepted tree, nearest hit and transmittance equal the plain scan over the triangles whose own
+-- padded box is not passed over, ties by place as before"
+
+abbrev pub TreeNearestAnswered : List Float → List ℕ → List ℕ → List Float → List Float → List ℕ → List ℕ → Ray → Found → Type 0
+TreeNearestAnswered points uses kinds numbers boxes nodes order = NearestAnswered (treeScene points uses kinds numbers boxes nodes order)
+
+abbrev pub TreeTransmittanceAnswered : List Float → List ℕ → List ℕ → List Float → List Float → List ℕ → List ℕ → Ray → List Float → List ℕ → Transmitted
+    → List Float → List ℕ → Type 0
+TreeTransmittanceAnswered points uses kinds numbers boxes nodes order = TransmittanceAnswered (treeScene points uses kinds numbers boxes nodes order)

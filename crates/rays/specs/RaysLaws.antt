@@ -15,6 +15,8 @@ use Rattle.vectors.specs.declared.Triangle.{Triangle}
 use Rattle.limits.specs.Limits.{shortHits, tooMany, badPoints, badMaterialsFor, badRay}
 use Rattle.limits.specs.LimitsLaws.{either, sound, materials-for, solid-same, long-hits, room}
 use Rattle.names.specs.Passed.{passed}
+use Rattle.tree.specs.Trees.{badTree, TreeStands}
+use Rattle.tree.specs.TreesLaws.{sound-tree}
 use Rattle.triangle.specs.Meet.{meetOf}
 use Rattle.triangle.specs.declared.Meet.{Meet}
 use Rattle.scan.specs.Nearest.{nearestOf}
@@ -43,7 +45,7 @@ meet-refused-by ray triangle r a =
     accepted (Meet.Hit t u v front) = refl
 
 scene-numbered : (solid wrong : Bool) (scene : Scene) (ray : Ray) → Numbered (scanRows solid wrong scene ray)
-scene-numbered solid wrong scene ray = (omega arith, (omega arith, (omega arith, (omega arith, (omega arith, tt)))))
+scene-numbered solid wrong scene ray = (omega arith, (omega arith, (omega arith, (omega arith, (omega arith, (omega arith, tt))))))
 
 pub nearest-refused-by : (scene : Scene) (ray : Ray) (r : Found) → NearestAnswered scene ray r
     → RefusedBy (scanRows false (wrongSceneLists scene) scene ray) (valuesOfFound r .number)
@@ -136,19 +138,21 @@ nearest-answered scene ray r e =
 -- ---- what an accepted call has
 
 scene-sound : (solid wrong : Bool) (scene : Scene) (ray : Ray) → (wrong ≡ false → wrongSceneLists scene ≡ false) → firstOf (scanRows solid wrong scene ray) ≡ 0
-    → (wrong ≡ false) × Sound scene × (badMaterialsFor solid (scene .uses) (scene .kinds) (scene .numbers) ≡ false)
+    → (wrong ≡ false) × Sound scene × (badMaterialsFor solid (scene .uses) (scene .kinds) (scene .numbers) ≡ false) × TreeStands scene
 scene-sound solid wrong scene ray w e =
     let p = passed (scanRows solid wrong scene ray) (scene-numbered solid wrong scene ray) e in
     let m = p .1 .1 .1 .0 in
-    (p .0, sound scene (w (p .0)) (p .1 .0) (materials-for solid (scene .uses) (scene .kinds) (scene .numbers) m), m)
+    let fitting = sound scene (w (p .0)) (p .1 .0) (materials-for solid (scene .uses) (scene .kinds) (scene .numbers) m) in
+    (p .0, fitting, m, sound-tree scene fitting (p .1 .1 .1 .1 .0))
 
-pub nearest-sound : (scene : Scene) (ray : Ray) → nearestRefusal scene ray ≡ 0 → Sound scene
+pub nearest-sound : (scene : Scene) (ray : Ray) → nearestRefusal scene ray ≡ 0 → Sound scene × TreeStands scene
 unfolding nearestRefusal
-nearest-sound scene ray e = scene-sound false (wrongSceneLists scene) scene ray (λ w. w) e .1
+nearest-sound scene ray e = let s = scene-sound false (wrongSceneLists scene) scene ray (λ w. w) e in (s .1, s .3)
 
 pub record TransmittanceReady (scene : Scene) (distances places : ℕ) : Type 0 where
   pub scene-fits : Sound scene
   pub hits-fit : HitsFit scene distances places
+  pub tree-stands : TreeStands scene
 
 pub transmittance-ready : (scene : Scene) (ray : Ray) (distances : List Float) (places : List ℕ) → transmittanceRefusal scene ray distances places ≡ 0
     → TransmittanceReady scene (length distances) (length places)
@@ -158,7 +162,7 @@ transmittance-ready scene ray distances places e =
     let wrong = wrongScratch scene (length distances) (length places) in
     let parts = either (wrongSceneLists scene) (shortHits false (length distances) (length places) n) in
     let s = scene-sound false wrong scene ray (λ w. parts .0 w .0) e in
-    record { scene-fits = s .1; hits-fit = room false scene (length distances) (length places) (parts .0 (s .0) .1) (s .2) }
+    record { scene-fits = s .1; hits-fit = room false scene (length distances) (length places) (parts .0 (s .0) .1) (s .2); tree-stands = s .3 }
 
 -- ---- solid walls
 
@@ -179,7 +183,7 @@ pub solid-transmittance-ready : (scene : Scene) (ray : Ray) → solidTransmittan
 unfolding solidTransmittanceRefusal
 solid-transmittance-ready scene ray e =
     let s = scene-sound true (wrongSceneLists scene) scene ray (λ w. w) e in
-    record { scene-fits = s .1; hits-fit = room true scene 0 0 refl (s .2) }
+    record { scene-fits = s .1; hits-fit = room true scene 0 0 refl (s .2); tree-stands = s .3 }
 
 -- where no other kind stands in the list and hit scratch is long enough, both engines have one answer, refusals too
 pub transmittance-engines-agree : (scene : Scene) (ray : Ray) (distances : List Float) (places : List ℕ) (r s : Transmitted) (distances' : List Float) (places' : List ℕ)
@@ -192,7 +196,7 @@ transmittance-engines-agree scene ray distances places r s distances' places' o 
     = ap (λ (short : Bool). wrongSceneLists scene || short) (long-hits false (length distances) (length places) t h k) ∙ or-false (wrongSceneLists scene) in
     let f : r .refusal ≡ s .refusal =
     a .answer
-    ∙ ap₂ (λ (wrong bad : Bool). firstOf (row 3 wrong ∷ row 4 (tooMany t (length (scene .kinds))) ∷ row 5 (badPoints (scene .points)) ∷ row 6 bad ∷ row 8 (badRay ray) ∷ []))
+    ∙ ap₂ (λ (wrong bad : Bool). firstOf (row 3 wrong ∷ row 4 (tooMany t (length (scene .kinds))) ∷ row 5 (badPoints (scene .points)) ∷ row 6 bad ∷ row 16 (badTree scene) ∷ row 8 (badRay ray) ∷ []))
     (sym long) (solid-same true (scene .uses) (scene .kinds) (scene .numbers) o)
     ∙ sym (b .answer) in
     ap₂ transmitted f (a .transmittance ∙ rw f (sym (b .transmittance)))

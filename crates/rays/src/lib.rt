@@ -1,11 +1,12 @@
-// The public calls over rays: the test of one triangle, the nearest hit, and how much light passes, with hit scratch or between solid walls. Each tests its input first; a refusal answers
+// The public calls over rays: the test of one triangle, the nearest hit, and how much light passes, with hit scratch, between solid walls, or through a box tree. Each tests its input first; a refusal answers
 // its number and writes nothing.
 ghost use mathlib.Core.Path.{_≡_};
 ghost use lib.ListN.{length};
 ghost use Rattle.names.specs.Refusals.{firstOf};
-ghost use Rattle.names.specs.Scene.{sceneOf};
-ghost use Rattle.rays.specs.Rays.{meetRefusal, scanRows, metCase, foundCase, MeetAnswered, NearestAnswered, TransmittanceAnswered, SolidTransmittanceAnswered};
+ghost use Rattle.names.specs.Scene.{sceneOf, sceneFor};
+ghost use Rattle.rays.specs.Rays.{meetRefusal, scanRows, metCase, foundCase, MeetAnswered, NearestAnswered, TransmittanceAnswered, SolidTransmittanceAnswered, TreeNearestAnswered, TreeTransmittanceAnswered};
 use scan::Nearest;
+use tree_walk::TURNED_NUMBERS;
 use triangle::Meet;
 use vectors::Ray;
 use vectors::Triangle;
@@ -47,7 +48,21 @@ pub fn nearest(points: &[f32], uses: &[u32], kinds: &[u8], numbers: &[f32], ray:
     ensures { λ r. ⌜ NearestAnswered (sceneOf (now (points .entry)) (now (uses .entry)) (now (kinds .entry)) (now (numbers .entry))) ray r ⌝ }
 {
     let wrong = limits::inner::wrong_scene(points, uses, kinds, numbers);
-    let refusal = scene_refusal(false, wrong, points, uses, kinds, numbers, ray);
+    let none = [0.0f32; 0];
+    let no_node = [0u32; 0];
+    let refusal = scene_refusal(
+        false,
+        wrong,
+        points,
+        uses,
+        kinds,
+        numbers,
+        false,
+        &none,
+        &no_node,
+        &no_node,
+        ray,
+    );
     if refusal == 0 {
         return as_found(scan::inner::nearest(points, uses, kinds, numbers, ray));
     }
@@ -70,7 +85,21 @@ pub fn transmittance(
     let n = uses.len();
     let scene = limits::inner::wrong_scene(points, uses, kinds, numbers);
     let wrong = scene | limits::inner::short_hits(false, distances.len(), places.len(), n);
-    let refusal = scene_refusal(false, wrong, points, uses, kinds, numbers, ray);
+    let none = [0.0f32; 0];
+    let no_node = [0u32; 0];
+    let refusal = scene_refusal(
+        false,
+        wrong,
+        points,
+        uses,
+        kinds,
+        numbers,
+        false,
+        &none,
+        &no_node,
+        &no_node,
+        ray,
+    );
     if refusal == 0 {
         let passed = scan::inner::transmittance(
             points,
@@ -104,7 +133,21 @@ pub fn solid_transmittance(
     ensures { λ r. ⌜ SolidTransmittanceAnswered (sceneOf (now (points .entry)) (now (uses .entry)) (now (kinds .entry)) (now (numbers .entry))) ray r ⌝ }
 {
     let wrong = limits::inner::wrong_scene(points, uses, kinds, numbers);
-    let refusal = scene_refusal(true, wrong, points, uses, kinds, numbers, ray);
+    let none = [0.0f32; 0];
+    let no_node = [0u32; 0];
+    let refusal = scene_refusal(
+        true,
+        wrong,
+        points,
+        uses,
+        kinds,
+        numbers,
+        false,
+        &none,
+        &no_node,
+        &no_node,
+        ray,
+    );
     if refusal == 0 {
         let mut distances = [0.0f32; 0];
         let mut places = [0usize; 0];
@@ -116,6 +159,112 @@ pub fn solid_transmittance(
             ray,
             &mut distances,
             &mut places,
+        );
+        return Transmitted {
+            refusal: 0,
+            transmittance: passed,
+        };
+    }
+    Transmitted {
+        refusal,
+        transmittance: 0.0,
+    }
+}
+
+// The nearest hit through a box tree of the scene: only triangles whose own padded box is not passed over are candidates. Refusals 3, 4, 5, 6, 16 where the tree
+// is not accepted, and 8.
+pub fn tree_nearest(
+    points: &[f32],
+    uses: &[u32],
+    kinds: &[u8],
+    numbers: &[f32],
+    boxes: &[f32],
+    nodes: &[u32],
+    order: &[u32],
+    ray: Ray,
+) -> Found
+    ensures { λ r. ⌜ TreeNearestAnswered (now (points .entry)) (now (uses .entry)) (now (kinds .entry)) (now (numbers .entry)) (now (boxes .entry)) (now (nodes .entry)) (now (order .entry)) ray r ⌝ }
+{
+    let wrong = limits::inner::wrong_scene(points, uses, kinds, numbers);
+    let refusal = scene_refusal(
+        false,
+        wrong,
+        points,
+        uses,
+        kinds,
+        numbers,
+        true,
+        boxes,
+        nodes,
+        order,
+        ray,
+    );
+    if refusal == 0 {
+        let mut turned = [0.0f32; TURNED_NUMBERS];
+        tree_walk::inner::turn(points, order, &mut turned);
+        return as_found(
+            tree_walk::inner::nearest(
+                points,
+                uses,
+                kinds,
+                numbers,
+                boxes,
+                nodes,
+                order,
+                &turned,
+                ray,
+            ),
+        );
+    }
+    Found::Refused(refusal)
+}
+
+// How much light passes along the ray, through a box tree of the scene, with hit scratch. Refusals 3, 4, 5, 6, 16 where the tree is not accepted, and 8.
+pub fn tree_transmittance(
+    points: &[f32],
+    uses: &[u32],
+    kinds: &[u8],
+    numbers: &[f32],
+    boxes: &[f32],
+    nodes: &[u32],
+    order: &[u32],
+    ray: Ray,
+    distances: &mut [f32],
+    places: &mut [usize],
+) -> Transmitted
+    ensures { λ r. ⌜ TreeTransmittanceAnswered (now (points .entry)) (now (uses .entry)) (now (kinds .entry)) (now (numbers .entry)) (now (boxes .entry)) (now (nodes .entry)) (now (order .entry)) ray (now (distances .entry)) (now (places .entry)) r (now (distances .exit)) (now (places .exit)) ⌝ }
+{
+    let n = uses.len();
+    let scene = limits::inner::wrong_scene(points, uses, kinds, numbers);
+    let wrong = scene | limits::inner::short_hits(false, distances.len(), places.len(), n);
+    let refusal = scene_refusal(
+        false,
+        wrong,
+        points,
+        uses,
+        kinds,
+        numbers,
+        true,
+        boxes,
+        nodes,
+        order,
+        ray,
+    );
+    if refusal == 0 {
+        let mut turned = [0.0f32; TURNED_NUMBERS];
+        tree_walk::inner::turn(points, order, &mut turned);
+        let passed = tree_walk::inner::transmittance(
+            points,
+            uses,
+            kinds,
+            numbers,
+            boxes,
+            nodes,
+            order,
+            &turned,
+            ray,
+            distances,
+            places,
         );
         return Transmitted {
             refusal: 0,
@@ -141,7 +290,7 @@ fn meet_refusal(ray: Ray, triangle: Triangle) -> u32
     0
 }
 
-// 3, 4, 5, 6, 8, where `wrong` says that a length is; with `solid` 6 also for another kind.
+// 3, 4, 5, 6, 16, 8, where `wrong` says that a length is; with `solid` 6 also for another kind.
 fn scene_refusal(
     solid: bool,
     wrong: bool,
@@ -149,9 +298,13 @@ fn scene_refusal(
     uses: &[u32],
     kinds: &[u8],
     numbers: &[f32],
+    boxed: bool,
+    boxes: &[f32],
+    nodes: &[u32],
+    order: &[u32],
     ray: Ray,
 ) -> u32
-    ensures { λ r. ⌜ r ≡ firstOf (scanRows solid wrong (sceneOf (now (points .entry)) (now (uses .entry)) (now (kinds .entry)) (now (numbers .entry))) ray) ⌝ }
+    ensures { λ r. ⌜ r ≡ firstOf (scanRows solid wrong (sceneFor boxed (now (points .entry)) (now (uses .entry)) (now (kinds .entry)) (now (numbers .entry)) (now (boxes .entry)) (now (nodes .entry)) (now (order .entry))) ray) ⌝ }
 {
     if wrong {
         return 3;
@@ -164,6 +317,9 @@ fn scene_refusal(
     }
     if limits::inner::bad_materials_for(solid, uses, kinds, numbers) {
         return 6;
+    }
+    if tree::inner::not_accepted(boxed, points, boxes, nodes, order) {
+        return 16;
     }
     if limits::inner::bad_ray(ray) {
         return 8;

@@ -13,7 +13,7 @@ use lib.Ieee.{Float, binary32}
 use Rattle.names.specs.Bits.{one32}
 use Rattle.names.specs.Numbers.{sunShortest, sunDiagonals}
 use Rattle.names.specs.Refusals.{Row, row, firstOf, unlessRefused}
-use Rattle.names.specs.Scene.{Scene, Sound, HitsFit}
+use Rattle.names.specs.Scene.{Scene, treeScene, Sound, HitsFit}
 use Rattle.lists.specs.Fold.{tab}
 use Rattle.vectors.specs.Vectors.{normalV}
 use Rattle.vectors.specs.Rays.{rayFrom}
@@ -23,6 +23,7 @@ use Rattle.grid.specs.Grid.{voxels, xOf, yOf, zOf, edgesOf, centreFrom, diagona
 use Rattle.grid.specs.declared.Axes.{Axes}
 use Rattle.grid.specs.declared.Corners.{Corners}
 use Rattle.limits.specs.Limits.{badAxes, badGrid, wrongScene, wrongLength, shortHits, sceneRows, badDirection}
+use Rattle.tree.specs.Trees.{badTree}
 use Rattle.means.specs.Box.{lightBlurOf}
 use Rattle.marks.specs.Marks.{isMarked, markedCount}
 use Rattle.words.specs.Words.{wordCount, entriesOf, unusedSet}
@@ -93,7 +94,7 @@ sunRows solid axes corners scene direction active lightLength scratchLength dist
     row 1 (badAxes axes)
     ∷ row 2 (badGrid corners axes)
     ∷ row 3 (wrongSun solid (voxels axes) scene (length active) lightLength scratchLength distancesLength placesLength)
-    ∷ sceneRows solid scene (row 7 (badDirection direction) ∷ row 13 (unusedSet active (voxels axes)) ∷ [])
+    ∷ sceneRows solid scene (row 7 (badDirection direction) ∷ row 16 (badTree scene) ∷ row 13 (unusedSet active (voxels axes)) ∷ [])
 
 unfoldable pub sunRefusal : Bool → Axes → Corners → Scene → Vec3 → List ℕ → ℕ → ℕ → ℕ → ℕ → ℕ
 sunRefusal solid axes corners scene direction active lightLength scratchLength distancesLength placesLength =
@@ -121,6 +122,11 @@ pub record SunAnswered (solid : Bool) (axes : Axes) (corners : Corners) (scene :
 abbrev pub SolidSunAnswered : Axes → Corners → Scene → Vec3 → List ℕ → List Float → List Float → Sunned → List Float → List Float → Type 0
 SolidSunAnswered axes corners scene direction active light scratch r light' scratch' =
     SunAnswered true axes corners scene direction active light scratch [] [] r light' scratch' [] []
+
+-- the same of a scene that comes with a box tree
+abbrev pub TreeSunAnswered : Axes → Corners → List Float → List ℕ → List ℕ → List Float → List Float → List ℕ → List ℕ → Vec3 → List ℕ → List Float → List Float → List Float → List ℕ
+    → Sunned → List Float → List Float → List Float → List ℕ → Type 0
+TreeSunAnswered axes corners points uses kinds numbers boxes nodes order = SunAnswered false axes corners (treeScene points uses kinds numbers boxes nodes order)
 
 -- what a pass that is not refused counts and leaves, of a mask of these entries
 pub record SunPassed (axes : Axes) (corners : Corners) (scene : Scene) (direction : Vec3) (entries : List ℕ) (scratch distances : List Float) (places : List ℕ) (rays : ℕ)

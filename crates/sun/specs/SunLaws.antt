@@ -21,6 +21,8 @@ use Rattle.grid.specs.declared.Corners.{Corners}
 use Rattle.limits.specs.Limits.{badAxes, badGrid, wrongScene, wrongLength, shortHits, tooMany, badPoints, sceneRows, badDirection}
 use Rattle.limits.specs.LimitsLaws.{either, axes-row, sound, materials-for, solid-same, long-hits, room}
 use Rattle.names.specs.Passed.{passed}
+use Rattle.tree.specs.Trees.{badTree, TreeStands}
+use Rattle.tree.specs.TreesLaws.{sound-tree}
 use Rattle.marks.specs.Marks.{isMarked, markedCount}
 use Rattle.marks.specs.MarksLaws.{active-some}
 use Rattle.words.specs.Words.{bitAt, entriesOf, wordCount, wordsOf, unusedSet, AreWords, Tidy}
@@ -64,7 +66,7 @@ module _ (axes : Axes) (corners : Corners) (scene : Scene) (direction : Vec3) (a
 pub sun-numbered : (solid : Bool) (axes : Axes) (corners : Corners) (scene : Scene) (direction : Vec3) (active : List ℕ) (lightLength scratchLength distancesLength placesLength : ℕ)
     → Numbered (sunRows solid axes corners scene direction active lightLength scratchLength distancesLength placesLength)
 sun-numbered solid axes corners scene direction active lightLength scratchLength distancesLength placesLength =
-    (omega arith, (omega arith, (omega arith, (omega arith, (omega arith, (omega arith, (omega arith, (omega arith, tt))))))))
+    (omega arith, (omega arith, (omega arith, (omega arith, (omega arith, (omega arith, (omega arith, (omega arith, (omega arith, tt)))))))))
 
 pub sun-refused-by : (solid : Bool) (axes : Axes) (corners : Corners) (scene : Scene) (direction : Vec3) (active : List ℕ) (light scratch distances : List Float) (places : List ℕ)
     (r : Sunned) (light' scratch' distances' : List Float) (places' : List ℕ)
@@ -82,7 +84,7 @@ earlierRows solid axes corners scene direction active lightLength scratchLength 
     row 1 (badAxes axes)
     ∷ row 2 (badGrid corners axes)
     ∷ row 3 (wrongSun solid (voxels axes) scene (length active) lightLength scratchLength distancesLength placesLength)
-    ∷ sceneRows solid scene (row 7 (badDirection direction) ∷ [])
+    ∷ sceneRows solid scene (row 7 (badDirection direction) ∷ row 16 (badTree scene) ∷ [])
 
 -- no row has the number k
 abbrev Without : ℕ → List Row → Type 0
@@ -109,8 +111,8 @@ sun-unused-bit solid axes corners scene direction active lightLength scratchLeng
     let n : ℕ = voxels axes in
     let rows : List Row = earlierRows solid axes corners scene direction active lightLength scratchLength distancesLength placesLength in
     let only = last-row 13 (unusedSet active n) rows (omega arith)
-    (omega arith, (omega arith, (omega arith, (omega arith, (omega arith, (omega arith, (omega arith, tt)))))))
-    ((λ e. omega arith), ((λ e. omega arith), ((λ e. omega arith), ((λ e. omega arith), ((λ e. omega arith), ((λ e. omega arith), ((λ e. omega arith), tt))))))) in (
+    (omega arith, (omega arith, (omega arith, (omega arith, (omega arith, (omega arith, (omega arith, (omega arith, tt))))))))
+    ((λ e. omega arith), ((λ e. omega arith), ((λ e. omega arith), ((λ e. omega arith), ((λ e. omega arith), ((λ e. omega arith), ((λ e. omega arith), ((λ e. omega arith), tt)))))))) in (
       λ e. let p = only .0 e in (p .0, unclean-bit active n (p .1)),
       λ p. only .1 (p .0, bit-unclean active n (p .1 .0) (p .1 .1) (p .1 .3)),
     )
@@ -176,6 +178,7 @@ sun-refusal-same axes corners scene direction active lightLength scratchLength d
     ∷ row 5 (badPoints (scene .points))
     ∷ row 6 bad
     ∷ row 7 (badDirection direction)
+    ∷ row 16 (badTree scene)
     ∷ row 13 (unusedSet active n)
     ∷ []))
     (sym (long-hits false distancesLength placesLength (length (scene .uses)) h k))
@@ -200,6 +203,7 @@ sun-engines-agree axes corners scene direction active l s d p r₁ r₂ l₁ s�
 
 pub record SunReady (axes : Axes) (scene : Scene) (active : List ℕ) (lightLength scratchLength distancesLength placesLength : ℕ) : Type 0 where
   pub traceable : Traceable axes scene distancesLength placesLength
+  pub tree-stands : TreeStands scene
   pub tidy : Tidy active (voxels axes)
   pub light-fits : lightLength ≡ voxels axes
   pub scratch-fits : scratchLength ≡ voxels axes
@@ -232,13 +236,15 @@ sun-ready solid axes corners scene direction active lightLength scratchLength di
     let d = either _ _ .0 (c .0) in
     let f = either _ _ .0 (d .0) in
     let m = p .1 .1 .1 .1 .1 .0 in
+    let fitting = sound scene (f .0) (p .1 .1 .1 .0) (materials-for solid (scene .uses) (scene .kinds) (scene .numbers) m) in
     record {
       traceable = record {
         axes-fit = axes-row axes .0 (p .0);
-        scene-fits = sound scene (f .0) (p .1 .1 .1 .0) (materials-for solid (scene .uses) (scene .kinds) (scene .numbers) m);
+        scene-fits = fitting;
         hits-fit = room solid scene distancesLength placesLength (b .1) m;
       };
-      tidy = record { long = right _ _ (f .1); clean = p .1 .1 .1 .1 .1 .1 .1 .0 };
+      tree-stands = sound-tree scene fitting (p .1 .1 .1 .1 .1 .1 .1 .0);
+      tidy = record { long = right _ _ (f .1); clean = p .1 .1 .1 .1 .1 .1 .1 .1 .0 };
       light-fits = right _ _ (d .1);
       scratch-fits = right _ _ (c .1);
     }

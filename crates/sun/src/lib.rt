@@ -4,17 +4,19 @@ ghost use mathlib.Core.Bool.{false};
 ghost use Prim.Native.Nat.{_<_};
 ghost use lib.ListN.{length};
 ghost use Rattle.names.specs.Bits.{one32};
-ghost use Rattle.names.specs.Scene.{sceneOf};
+ghost use Rattle.names.specs.Scene.{sceneOf, sceneFor};
+ghost use Rattle.tracing.specs.Through.{Through};
 ghost use Rattle.lists.specs.Fold.{tab};
 ghost use Rattle.grid.specs.Grid.{voxels, xOf, yOf, zOf, centreFrom};
 ghost use Rattle.words.specs.Words.{entriesOf, Tidy};
 ghost use Rattle.scan.specs.Transmittance.{transmittanceOf};
-ghost use Rattle.sun.specs.Sun.{sunRay, sunBefore, sunRefusal, Traceable, SunAnswered, SolidSunAnswered, SunPassed};
+ghost use Rattle.sun.specs.Sun.{sunRay, sunBefore, sunRefusal, Traceable, SunAnswered, SolidSunAnswered, TreeSunAnswered, SunPassed};
 ghost use Rattle.sun.specs.SunLaws.{SunReady};
 use grid::Axes;
 use grid::Corners;
 use names::SUN_DIAGONALS;
 use names::SUN_SHORTEST;
+use tree_walk::TURNED_NUMBERS;
 use vectors::Vec3;
 
 // What a sun pass answers: a refusal's number, and the rays, one for each active voxel.
@@ -43,6 +45,8 @@ pub fn sun(
 ) -> Sunned
     ensures { λ r. ⌜ SunAnswered false axes corners (sceneOf (now (points .entry)) (now (uses .entry)) (now (kinds .entry)) (now (numbers .entry))) direction (now (active .entry)) (now (light .entry)) (now (scratch .entry)) (now (distances .entry)) (now (places .entry)) r (now (light .exit)) (now (scratch .exit)) (now (distances .exit)) (now (places .exit)) ⌝ }
 {
+    let none = [0.0f32; 0];
+    let no_node = [0u32; 0];
     let refusal = judge(
         false,
         axes,
@@ -51,6 +55,10 @@ pub fn sun(
         uses,
         kinds,
         numbers,
+        false,
+        &none,
+        &no_node,
+        &no_node,
         direction,
         active,
         light.len(),
@@ -66,6 +74,11 @@ pub fn sun(
             uses,
             kinds,
             numbers,
+            false,
+            &none,
+            &no_node,
+            &no_node,
+            &none,
             direction,
             active,
             light,
@@ -94,6 +107,8 @@ pub fn solid_sun(
 ) -> Sunned
     ensures { λ r. ⌜ SolidSunAnswered axes corners (sceneOf (now (points .entry)) (now (uses .entry)) (now (kinds .entry)) (now (numbers .entry))) direction (now (active .entry)) (now (light .entry)) (now (scratch .entry)) r (now (light .exit)) (now (scratch .exit)) ⌝ }
 {
+    let none = [0.0f32; 0];
+    let no_node = [0u32; 0];
     let refusal = judge(
         true,
         axes,
@@ -102,6 +117,10 @@ pub fn solid_sun(
         uses,
         kinds,
         numbers,
+        false,
+        &none,
+        &no_node,
+        &no_node,
         direction,
         active,
         light.len(),
@@ -119,12 +138,84 @@ pub fn solid_sun(
             uses,
             kinds,
             numbers,
+            false,
+            &none,
+            &no_node,
+            &no_node,
+            &none,
             direction,
             active,
             light,
             scratch,
             &mut distances,
             &mut places,
+        );
+        return Sunned { refusal: 0, rays };
+    }
+    Sunned { refusal, rays: 0 }
+}
+
+// The same through a box tree of the scene, with hit scratch: only triangles whose own padded box is not passed over are candidates of a ray. Refusals 1 to 7, 16
+// where the tree is not accepted, and 13.
+pub fn tree_sun(
+    axes: Axes,
+    corners: Corners,
+    points: &[f32],
+    uses: &[u32],
+    kinds: &[u8],
+    numbers: &[f32],
+    boxes: &[f32],
+    nodes: &[u32],
+    order: &[u32],
+    direction: Vec3,
+    active: &[u64],
+    light: &mut [f32],
+    scratch: &mut [f32],
+    distances: &mut [f32],
+    places: &mut [usize],
+) -> Sunned
+    ensures { λ r. ⌜ TreeSunAnswered axes corners (now (points .entry)) (now (uses .entry)) (now (kinds .entry)) (now (numbers .entry)) (now (boxes .entry)) (now (nodes .entry)) (now (order .entry)) direction (now (active .entry)) (now (light .entry)) (now (scratch .entry)) (now (distances .entry)) (now (places .entry)) r (now (light .exit)) (now (scratch .exit)) (now (distances .exit)) (now (places .exit)) ⌝ }
+{
+    let refusal = judge(
+        false,
+        axes,
+        corners,
+        points,
+        uses,
+        kinds,
+        numbers,
+        true,
+        boxes,
+        nodes,
+        order,
+        direction,
+        active,
+        light.len(),
+        scratch.len(),
+        distances.len(),
+        places.len(),
+    );
+    if refusal == 0 {
+        let mut turned = [0.0f32; TURNED_NUMBERS];
+        tree_walk::inner::turn(points, order, &mut turned);
+        let rays = pass(
+            axes,
+            corners,
+            points,
+            uses,
+            kinds,
+            numbers,
+            true,
+            boxes,
+            nodes,
+            order,
+            &turned,
+            direction,
+            active,
+            light,
+            scratch,
+            distances,
+            places,
         );
         return Sunned { refusal: 0, rays };
     }
@@ -139,6 +230,11 @@ fn pass(
     uses: &[u32],
     kinds: &[u8],
     numbers: &[f32],
+    boxed: bool,
+    boxes: &[f32],
+    nodes: &[u32],
+    order: &[u32],
+    turned: &[f32],
     direction: Vec3,
     active: &[u64],
     light: &mut [f32],
@@ -146,8 +242,9 @@ fn pass(
     distances: &mut [f32],
     places: &mut [usize],
 ) -> u64
-    requires { ⌜ SunReady axes (sceneOf (now points) (now uses) (now kinds) (now numbers)) (now active) (length (now light)) (length (now scratch)) (length (now distances)) (length (now places)) ⌝ }
-    ensures { λ r. ⌜ SunPassed axes corners (sceneOf (now (points .entry)) (now (uses .entry)) (now (kinds .entry)) (now (numbers .entry))) direction (entriesOf (now (active .entry)) (voxels axes)) (now (scratch .entry)) (now (distances .entry)) (now (places .entry)) r (now (light .exit)) (now (scratch .exit)) (now (distances .exit)) (now (places .exit)) ⌝ }
+    requires { ⌜ SunReady axes (sceneFor boxed (now points) (now uses) (now kinds) (now numbers) (now boxes) (now nodes) (now order)) (now active) (length (now light)) (length (now scratch)) (length (now distances)) (length (now places)) ⌝ }
+    requires { ⌜ Through (sceneFor boxed (now points) (now uses) (now kinds) (now numbers) (now boxes) (now nodes) (now order)) (now turned) ⌝ }
+    ensures { λ r. ⌜ SunPassed axes corners (sceneFor boxed (now (points .entry)) (now (uses .entry)) (now (kinds .entry)) (now (numbers .entry)) (now (boxes .entry)) (now (nodes .entry)) (now (order .entry))) direction (entriesOf (now (active .entry)) (voxels axes)) (now (scratch .entry)) (now (distances .entry)) (now (places .entry)) r (now (light .exit)) (now (scratch .exit)) (now (distances .exit)) (now (places .exit)) ⌝ }
 {
     let rays = words::inner::count(active, light.len());
     if rays == 0 {
@@ -161,6 +258,11 @@ fn pass(
         uses,
         kinds,
         numbers,
+        boxed,
+        boxes,
+        nodes,
+        order,
+        turned,
         direction,
         active,
         scratch,
@@ -171,7 +273,7 @@ fn pass(
     rays
 }
 
-// The number of the first row that holds: 1, 2, 3, 4, 5, 6, 7, 13, for solid walls or not. The last four arguments are the lengths of the light, its scratch and
+// The number of the first row that holds: 1, 2, 3, 4, 5, 6, 7, 16, 13, for solid walls or not. The last four arguments are the lengths of the light, its scratch and
 // the two lists of hits.
 fn judge(
     solid: bool,
@@ -181,6 +283,10 @@ fn judge(
     uses: &[u32],
     kinds: &[u8],
     numbers: &[f32],
+    boxed: bool,
+    boxes: &[f32],
+    nodes: &[u32],
+    order: &[u32],
     direction: Vec3,
     active: &[u64],
     lights: usize,
@@ -188,7 +294,7 @@ fn judge(
     distances: usize,
     places: usize,
 ) -> u32
-    ensures { λ r. ⌜ r ≡ sunRefusal solid axes corners (sceneOf (now (points .entry)) (now (uses .entry)) (now (kinds .entry)) (now (numbers .entry))) direction (now (active .entry)) lights scratches distances places ⌝ }
+    ensures { λ r. ⌜ r ≡ sunRefusal solid axes corners (sceneFor boxed (now (points .entry)) (now (uses .entry)) (now (kinds .entry)) (now (numbers .entry)) (now (boxes .entry)) (now (nodes .entry)) (now (order .entry))) direction (now (active .entry)) lights scratches distances places ⌝ }
 {
     if limits::inner::bad_axes(axes) {
         return 1;
@@ -221,6 +327,9 @@ fn judge(
     if limits::inner::bad_direction(direction) {
         return 7;
     }
+    if tree::inner::not_accepted(boxed, points, boxes, nodes, order) {
+        return 16;
+    }
     if words::inner::unused_set(active, n) {
         return 13;
     }
@@ -246,15 +355,21 @@ fn trace(
     uses: &[u32],
     kinds: &[u8],
     numbers: &[f32],
+    boxed: bool,
+    boxes: &[f32],
+    nodes: &[u32],
+    order: &[u32],
+    turned: &[f32],
     direction: Vec3,
     active: &[u64],
     before: &mut [f32],
     distances: &mut [f32],
     places: &mut [usize],
 )
-    requires { ⌜ Traceable axes (sceneOf (now points) (now uses) (now kinds) (now numbers)) (length (now distances)) (length (now places)) ⌝ }
+    requires { ⌜ Traceable axes (sceneFor boxed (now points) (now uses) (now kinds) (now numbers) (now boxes) (now nodes) (now order)) (length (now distances)) (length (now places)) ⌝ }
     requires { ⌜ Tidy (now active) (voxels axes) × (length (now before) ≡ voxels axes) ⌝ }
-    ensures { λ r. ⌜ now (before .exit) ≡ sunBefore axes corners (sceneOf (now (points .entry)) (now (uses .entry)) (now (kinds .entry)) (now (numbers .entry))) direction (entriesOf (now (active .entry)) (voxels axes)) ⌝ }
+    requires { ⌜ Through (sceneFor boxed (now points) (now uses) (now kinds) (now numbers) (now boxes) (now nodes) (now order)) (now turned) ⌝ }
+    ensures { λ r. ⌜ now (before .exit) ≡ sunBefore axes corners (sceneFor boxed (now (points .entry)) (now (uses .entry)) (now (kinds .entry)) (now (numbers .entry)) (now (boxes .entry)) (now (nodes .entry)) (now (order .entry))) direction (entriesOf (now (active .entry)) (voxels axes)) ⌝ }
 {
     let edges = grid::inner::edges(corners, axes);
     let l = vectors::normalise(direction);
@@ -274,6 +389,11 @@ fn trace(
             uses,
             kinds,
             numbers,
+            boxed,
+            boxes,
+            nodes,
+            order,
+            turned,
             i,
             distances,
             places,
@@ -294,15 +414,34 @@ fn seen(
     uses: &[u32],
     kinds: &[u8],
     numbers: &[f32],
+    boxed: bool,
+    boxes: &[f32],
+    nodes: &[u32],
+    order: &[u32],
+    turned: &[f32],
     i: usize,
     distances: &mut [f32],
     places: &mut [usize],
 ) -> f32
-    requires { ⌜ Traceable axes (sceneOf (now points) (now uses) (now kinds) (now numbers)) (length (now distances)) (length (now places)) ⌝ }
+    requires { ⌜ Traceable axes (sceneFor boxed (now points) (now uses) (now kinds) (now numbers) (now boxes) (now nodes) (now order)) (length (now distances)) (length (now places)) ⌝ }
     requires { ⌜ i < voxels axes ⌝ }
-    ensures { λ r. ⌜ r ≡ transmittanceOf (sceneOf (now (points .entry)) (now (uses .entry)) (now (kinds .entry)) (now (numbers .entry))) (sunRay l ahead (centreFrom low edges (xOf axes i) (yOf axes i) (zOf axes i))) ⌝ }
+    requires { ⌜ Through (sceneFor boxed (now points) (now uses) (now kinds) (now numbers) (now boxes) (now nodes) (now order)) (now turned) ⌝ }
+    ensures { λ r. ⌜ r ≡ transmittanceOf (sceneFor boxed (now (points .entry)) (now (uses .entry)) (now (kinds .entry)) (now (numbers .entry)) (now (boxes .entry)) (now (nodes .entry)) (now (order .entry))) (sunRay l ahead (centreFrom low edges (xOf axes i) (yOf axes i) (zOf axes i))) ⌝ }
 {
     let centre = grid::inner::centre_of(low, axes, edges, i);
     let ray = vectors::inner::ray_from(centre, l, ahead, SUN_SHORTEST);
-    scan::inner::transmittance(points, uses, kinds, numbers, ray, distances, places)
+    tracing::inner::transmittance(
+        points,
+        uses,
+        kinds,
+        numbers,
+        boxed,
+        boxes,
+        nodes,
+        order,
+        turned,
+        ray,
+        distances,
+        places,
+    )
 }

@@ -4,7 +4,8 @@ ghost use mathlib.Core.Path.{_≡_};
 ghost use Prim.Native.Nat.{_+_, _≤_, _<_};
 ghost use lib.ListN.{length, getD};
 ghost use Rattle.names.specs.Numbers.{lampLimit};
-ghost use Rattle.names.specs.Scene.{Sound, sceneOf, HitsFit};
+ghost use Rattle.names.specs.Scene.{Sound, sceneOf, sceneFor, HitsFit};
+ghost use Rattle.tracing.specs.Through.{Through};
 ghost use Rattle.limits.specs.Limits.{lampCount};
 ghost use Rattle.bounce.specs.Hemisphere.{hemisphere};
 ghost use Rattle.surface.specs.Surface.{surfaceOf, shadowRay, skyRayIn, lampRay, seenBy, seenOf, sunOf, skyOf, daylightOf, litBy, fallenOn, bouncedBy};
@@ -58,16 +59,22 @@ pub fn bounce_light(
     uses: &[u32],
     kinds: &[u8],
     numbers: &[f32],
+    boxed: bool,
+    boxes: &[f32],
+    nodes: &[u32],
+    order: &[u32],
+    turned: &[f32],
     lamps: &[f32],
     setting: Setting,
     surface: Surface,
     distances: &mut [f32],
     places: &mut [usize],
 ) -> Traced
-    requires { ⌜ Sound (sceneOf (now points) (now uses) (now kinds) (now numbers)) ⌝ }
+    requires { ⌜ Sound (sceneFor boxed (now points) (now uses) (now kinds) (now numbers) (now boxes) (now nodes) (now order)) ⌝ }
     requires { ⌜ lampCount (now lamps) ≤ lampLimit ⌝ }
-    requires { ⌜ HitsFit (sceneOf (now points) (now uses) (now kinds) (now numbers)) (length (now distances)) (length (now places)) ⌝ }
-    ensures { λ r. ⌜ r ≡ bouncedBy (sceneOf (now (points .entry)) (now (uses .entry)) (now (kinds .entry)) (now (numbers .entry))) (now (lamps .entry)) setting surface ⌝ }
+    requires { ⌜ HitsFit (sceneFor boxed (now points) (now uses) (now kinds) (now numbers) (now boxes) (now nodes) (now order)) (length (now distances)) (length (now places)) ⌝ }
+    requires { ⌜ Through (sceneFor boxed (now points) (now uses) (now kinds) (now numbers) (now boxes) (now nodes) (now order)) (now turned) ⌝ }
+    ensures { λ r. ⌜ r ≡ bouncedBy (sceneFor boxed (now (points .entry)) (now (uses .entry)) (now (kinds .entry)) (now (numbers .entry)) (now (boxes .entry)) (now (nodes .entry)) (now (order .entry))) (now (lamps .entry)) setting surface ⌝ }
 {
     if bounce::inner::black(surface.albedo, surface.emissive) {
         let none = Vec3 {
@@ -85,6 +92,11 @@ pub fn bounce_light(
         uses,
         kinds,
         numbers,
+        boxed,
+        boxes,
+        nodes,
+        order,
+        turned,
         lamps,
         setting,
         surface,
@@ -104,22 +116,33 @@ fn light_fallen(
     uses: &[u32],
     kinds: &[u8],
     numbers: &[f32],
+    boxed: bool,
+    boxes: &[f32],
+    nodes: &[u32],
+    order: &[u32],
+    turned: &[f32],
     lamps: &[f32],
     setting: Setting,
     surface: Surface,
     distances: &mut [f32],
     places: &mut [usize],
 ) -> Traced
-    requires { ⌜ Sound (sceneOf (now points) (now uses) (now kinds) (now numbers)) ⌝ }
+    requires { ⌜ Sound (sceneFor boxed (now points) (now uses) (now kinds) (now numbers) (now boxes) (now nodes) (now order)) ⌝ }
     requires { ⌜ lampCount (now lamps) ≤ lampLimit ⌝ }
-    requires { ⌜ HitsFit (sceneOf (now points) (now uses) (now kinds) (now numbers)) (length (now distances)) (length (now places)) ⌝ }
-    ensures { λ r. ⌜ r ≡ fallenOn (sceneOf (now (points .entry)) (now (uses .entry)) (now (kinds .entry)) (now (numbers .entry))) (now (lamps .entry)) setting surface ⌝ }
+    requires { ⌜ HitsFit (sceneFor boxed (now points) (now uses) (now kinds) (now numbers) (now boxes) (now nodes) (now order)) (length (now distances)) (length (now places)) ⌝ }
+    requires { ⌜ Through (sceneFor boxed (now points) (now uses) (now kinds) (now numbers) (now boxes) (now nodes) (now order)) (now turned) ⌝ }
+    ensures { λ r. ⌜ r ≡ fallenOn (sceneFor boxed (now (points .entry)) (now (uses .entry)) (now (kinds .entry)) (now (numbers .entry)) (now (boxes .entry)) (now (nodes .entry)) (now (order .entry))) (now (lamps .entry)) setting surface ⌝ }
 {
     let mut fallen = light_day(
         points,
         uses,
         kinds,
         numbers,
+        boxed,
+        boxes,
+        nodes,
+        order,
+        turned,
         setting,
         surface,
         distances,
@@ -134,6 +157,11 @@ fn light_fallen(
             uses,
             kinds,
             numbers,
+            boxed,
+            boxes,
+            nodes,
+            order,
+            turned,
             setting,
             surface,
             lamp,
@@ -152,6 +180,11 @@ fn light_lamp(
     uses: &[u32],
     kinds: &[u8],
     numbers: &[f32],
+    boxed: bool,
+    boxes: &[f32],
+    nodes: &[u32],
+    order: &[u32],
+    turned: &[f32],
     setting: Setting,
     surface: Surface,
     lamp: Lamp,
@@ -159,17 +192,31 @@ fn light_lamp(
     distances: &mut [f32],
     places: &mut [usize],
 ) -> Traced
-    requires { ⌜ Sound (sceneOf (now points) (now uses) (now kinds) (now numbers)) ⌝ }
-    requires { ⌜ HitsFit (sceneOf (now points) (now uses) (now kinds) (now numbers)) (length (now distances)) (length (now places)) ⌝ }
+    requires { ⌜ Sound (sceneFor boxed (now points) (now uses) (now kinds) (now numbers) (now boxes) (now nodes) (now order)) ⌝ }
+    requires { ⌜ HitsFit (sceneFor boxed (now points) (now uses) (now kinds) (now numbers) (now boxes) (now nodes) (now order)) (length (now distances)) (length (now places)) ⌝ }
     requires { ⌜ fallen .rays < 65536 ⌝ }
-    ensures { λ r. ⌜ r ≡ litBy (sceneOf (now (points .entry)) (now (uses .entry)) (now (kinds .entry)) (now (numbers .entry))) setting surface lamp fallen ⌝ }
+    requires { ⌜ Through (sceneFor boxed (now points) (now uses) (now kinds) (now numbers) (now boxes) (now nodes) (now order)) (now turned) ⌝ }
+    ensures { λ r. ⌜ r ≡ litBy (sceneFor boxed (now (points .entry)) (now (uses .entry)) (now (kinds .entry)) (now (numbers .entry)) (now (boxes .entry)) (now (nodes .entry)) (now (order .entry))) setting surface lamp fallen ⌝ }
 {
     let way = bounce::inner::way_to(surface.point, lamp.position);
     if bounce::inner::unlit(surface.normal, way) {
         return fallen;
     }
     let ray = lamp_ray(setting, surface, way);
-    let passed = scan::inner::transmittance(points, uses, kinds, numbers, ray, distances, places);
+    let passed = tracing::inner::transmittance(
+        points,
+        uses,
+        kinds,
+        numbers,
+        boxed,
+        boxes,
+        nodes,
+        order,
+        turned,
+        ray,
+        distances,
+        places,
+    );
     let light = bounce::inner::lamplight(lamp.colour, surface.normal, way, passed);
     let sum = vectors::add(fallen.light, light);
     Traced {
@@ -184,20 +231,31 @@ fn light_day(
     uses: &[u32],
     kinds: &[u8],
     numbers: &[f32],
+    boxed: bool,
+    boxes: &[f32],
+    nodes: &[u32],
+    order: &[u32],
+    turned: &[f32],
     setting: Setting,
     surface: Surface,
     distances: &mut [f32],
     places: &mut [usize],
 ) -> Traced
-    requires { ⌜ Sound (sceneOf (now points) (now uses) (now kinds) (now numbers)) ⌝ }
-    requires { ⌜ HitsFit (sceneOf (now points) (now uses) (now kinds) (now numbers)) (length (now distances)) (length (now places)) ⌝ }
-    ensures { λ r. ⌜ r ≡ daylightOf (sceneOf (now (points .entry)) (now (uses .entry)) (now (kinds .entry)) (now (numbers .entry))) setting surface ⌝ }
+    requires { ⌜ Sound (sceneFor boxed (now points) (now uses) (now kinds) (now numbers) (now boxes) (now nodes) (now order)) ⌝ }
+    requires { ⌜ HitsFit (sceneFor boxed (now points) (now uses) (now kinds) (now numbers) (now boxes) (now nodes) (now order)) (length (now distances)) (length (now places)) ⌝ }
+    requires { ⌜ Through (sceneFor boxed (now points) (now uses) (now kinds) (now numbers) (now boxes) (now nodes) (now order)) (now turned) ⌝ }
+    ensures { λ r. ⌜ r ≡ daylightOf (sceneFor boxed (now (points .entry)) (now (uses .entry)) (now (kinds .entry)) (now (numbers .entry)) (now (boxes .entry)) (now (nodes .entry)) (now (order .entry))) setting surface ⌝ }
 {
     let sun = light_sun(
         points,
         uses,
         kinds,
         numbers,
+        boxed,
+        boxes,
+        nodes,
+        order,
+        turned,
         setting,
         surface,
         distances,
@@ -208,6 +266,11 @@ fn light_day(
         uses,
         kinds,
         numbers,
+        boxed,
+        boxes,
+        nodes,
+        order,
+        turned,
         setting,
         surface,
         distances,
@@ -226,23 +289,34 @@ fn light_sun(
     uses: &[u32],
     kinds: &[u8],
     numbers: &[f32],
+    boxed: bool,
+    boxes: &[f32],
+    nodes: &[u32],
+    order: &[u32],
+    turned: &[f32],
     setting: Setting,
     surface: Surface,
     distances: &mut [f32],
     places: &mut [usize],
 ) -> Traced
-    requires { ⌜ Sound (sceneOf (now points) (now uses) (now kinds) (now numbers)) ⌝ }
-    requires { ⌜ HitsFit (sceneOf (now points) (now uses) (now kinds) (now numbers)) (length (now distances)) (length (now places)) ⌝ }
-    ensures { λ r. ⌜ r ≡ sunOf (sceneOf (now (points .entry)) (now (uses .entry)) (now (kinds .entry)) (now (numbers .entry))) setting surface ⌝ }
+    requires { ⌜ Sound (sceneFor boxed (now points) (now uses) (now kinds) (now numbers) (now boxes) (now nodes) (now order)) ⌝ }
+    requires { ⌜ HitsFit (sceneFor boxed (now points) (now uses) (now kinds) (now numbers) (now boxes) (now nodes) (now order)) (length (now distances)) (length (now places)) ⌝ }
+    requires { ⌜ Through (sceneFor boxed (now points) (now uses) (now kinds) (now numbers) (now boxes) (now nodes) (now order)) (now turned) ⌝ }
+    ensures { λ r. ⌜ r ≡ sunOf (sceneFor boxed (now (points .entry)) (now (uses .entry)) (now (kinds .entry)) (now (numbers .entry)) (now (boxes .entry)) (now (nodes .entry)) (now (order .entry))) setting surface ⌝ }
 {
     let slant = bounce::inner::slant(surface.normal, setting.toward);
     if slant > 0.0 {
         let ray = shadow_ray(setting, surface);
-        let passed = scan::inner::transmittance(
+        let passed = tracing::inner::transmittance(
             points,
             uses,
             kinds,
             numbers,
+            boxed,
+            boxes,
+            nodes,
+            order,
+            turned,
             ray,
             distances,
             places,
@@ -264,20 +338,31 @@ fn light_sky(
     uses: &[u32],
     kinds: &[u8],
     numbers: &[f32],
+    boxed: bool,
+    boxes: &[f32],
+    nodes: &[u32],
+    order: &[u32],
+    turned: &[f32],
     setting: Setting,
     surface: Surface,
     distances: &mut [f32],
     places: &mut [usize],
 ) -> Traced
-    requires { ⌜ Sound (sceneOf (now points) (now uses) (now kinds) (now numbers)) ⌝ }
-    requires { ⌜ HitsFit (sceneOf (now points) (now uses) (now kinds) (now numbers)) (length (now distances)) (length (now places)) ⌝ }
-    ensures { λ r. ⌜ r ≡ skyOf (sceneOf (now (points .entry)) (now (uses .entry)) (now (kinds .entry)) (now (numbers .entry))) setting surface ⌝ }
+    requires { ⌜ Sound (sceneFor boxed (now points) (now uses) (now kinds) (now numbers) (now boxes) (now nodes) (now order)) ⌝ }
+    requires { ⌜ HitsFit (sceneFor boxed (now points) (now uses) (now kinds) (now numbers) (now boxes) (now nodes) (now order)) (length (now distances)) (length (now places)) ⌝ }
+    requires { ⌜ Through (sceneFor boxed (now points) (now uses) (now kinds) (now numbers) (now boxes) (now nodes) (now order)) (now turned) ⌝ }
+    ensures { λ r. ⌜ r ≡ skyOf (sceneFor boxed (now (points .entry)) (now (uses .entry)) (now (kinds .entry)) (now (numbers .entry)) (now (boxes .entry)) (now (nodes .entry)) (now (order .entry))) setting surface ⌝ }
 {
     let seen = see_sky(
         points,
         uses,
         kinds,
         numbers,
+        boxed,
+        boxes,
+        nodes,
+        order,
+        turned,
         setting,
         surface,
         distances,
@@ -296,14 +381,20 @@ fn see_sky(
     uses: &[u32],
     kinds: &[u8],
     numbers: &[f32],
+    boxed: bool,
+    boxes: &[f32],
+    nodes: &[u32],
+    order: &[u32],
+    turned: &[f32],
     setting: Setting,
     surface: Surface,
     distances: &mut [f32],
     places: &mut [usize],
 ) -> Seen
-    requires { ⌜ Sound (sceneOf (now points) (now uses) (now kinds) (now numbers)) ⌝ }
-    requires { ⌜ HitsFit (sceneOf (now points) (now uses) (now kinds) (now numbers)) (length (now distances)) (length (now places)) ⌝ }
-    ensures { λ r. ⌜ r ≡ seenOf (sceneOf (now (points .entry)) (now (uses .entry)) (now (kinds .entry)) (now (numbers .entry))) setting surface ⌝ }
+    requires { ⌜ Sound (sceneFor boxed (now points) (now uses) (now kinds) (now numbers) (now boxes) (now nodes) (now order)) ⌝ }
+    requires { ⌜ HitsFit (sceneFor boxed (now points) (now uses) (now kinds) (now numbers) (now boxes) (now nodes) (now order)) (length (now distances)) (length (now places)) ⌝ }
+    requires { ⌜ Through (sceneFor boxed (now points) (now uses) (now kinds) (now numbers) (now boxes) (now nodes) (now order)) (now turned) ⌝ }
+    ensures { λ r. ⌜ r ≡ seenOf (sceneFor boxed (now (points .entry)) (now (uses .entry)) (now (kinds .entry)) (now (numbers .entry)) (now (boxes .entry)) (now (nodes .entry)) (now (order .entry))) setting surface ⌝ }
 {
     let table = bounce::inner::hemisphere_table();
     let basis = bounce::inner::basis_of(surface.normal);
@@ -323,17 +414,36 @@ fn see(
     uses: &[u32],
     kinds: &[u8],
     numbers: &[f32],
+    boxed: bool,
+    boxes: &[f32],
+    nodes: &[u32],
+    order: &[u32],
+    turned: &[f32],
     ray: Ray,
     seen: Seen,
     distances: &mut [f32],
     places: &mut [usize],
 ) -> Seen
-    requires { ⌜ Sound (sceneOf (now points) (now uses) (now kinds) (now numbers)) ⌝ }
-    requires { ⌜ HitsFit (sceneOf (now points) (now uses) (now kinds) (now numbers)) (length (now distances)) (length (now places)) ⌝ }
+    requires { ⌜ Sound (sceneFor boxed (now points) (now uses) (now kinds) (now numbers) (now boxes) (now nodes) (now order)) ⌝ }
+    requires { ⌜ HitsFit (sceneFor boxed (now points) (now uses) (now kinds) (now numbers) (now boxes) (now nodes) (now order)) (length (now distances)) (length (now places)) ⌝ }
     requires { ⌜ seen .rays < 4 ⌝ }
-    ensures { λ r. ⌜ r ≡ seenBy (sceneOf (now (points .entry)) (now (uses .entry)) (now (kinds .entry)) (now (numbers .entry))) ray seen ⌝ }
+    requires { ⌜ Through (sceneFor boxed (now points) (now uses) (now kinds) (now numbers) (now boxes) (now nodes) (now order)) (now turned) ⌝ }
+    ensures { λ r. ⌜ r ≡ seenBy (sceneFor boxed (now (points .entry)) (now (uses .entry)) (now (kinds .entry)) (now (numbers .entry)) (now (boxes .entry)) (now (nodes .entry)) (now (order .entry))) ray seen ⌝ }
 {
-    let passed = scan::inner::transmittance(points, uses, kinds, numbers, ray, distances, places);
+    let passed = tracing::inner::transmittance(
+        points,
+        uses,
+        kinds,
+        numbers,
+        boxed,
+        boxes,
+        nodes,
+        order,
+        turned,
+        ray,
+        distances,
+        places,
+    );
     Seen {
         sum: seen.sum + passed,
         rays: seen.rays + 1,

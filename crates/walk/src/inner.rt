@@ -2,7 +2,8 @@
 ghost use mathlib.Core.Path.{_≡_};
 ghost use Prim.Native.Nat.{_-_};
 ghost use lib.ListN.{length};
-ghost use Rattle.names.specs.Scene.{sceneOf};
+ghost use Rattle.names.specs.Scene.{sceneFor};
+ghost use Rattle.tracing.specs.Through.{Through};
 ghost use Rattle.grid.specs.Grid.{voxels};
 ghost use Rattle.directions.specs.Table.{directions};
 ghost use Rattle.gather.specs.Gather.{gatherOf};
@@ -24,6 +25,11 @@ pub fn walk(
     uses: &[u32],
     kinds: &[u8],
     numbers: &[f32],
+    boxed: bool,
+    boxes: &[f32],
+    nodes: &[u32],
+    order: &[u32],
+    turned: &[f32],
     light: Light,
     ambient: Ambient,
     sky: &[f32],
@@ -38,13 +44,14 @@ pub fn walk(
     allowance: u64,
 ) -> Reached
     requires { ⌜ Walkable
-        (inputOf axes corners (sceneOf (now points) (now uses) (now kinds) (now numbers)) light ambient (now sky) (now lamps) (now active) (now lights)
+        (inputOf axes corners (sceneFor boxed (now points) (now uses) (now kinds) (now numbers) (now boxes) (now nodes) (now order)) light ambient (now sky) (now lamps) (now active) (now lights)
         (length (now distances)) (length (now places)))
         (length (now volume)) next ⌝ }
     requires { ⌜ now table ≡ directions ⌝ }
+    requires { ⌜ Through (sceneFor boxed (now points) (now uses) (now kinds) (now numbers) (now boxes) (now nodes) (now order)) (now turned) ⌝ }
     ensures { λ r. ⌜ Reports
         (spread.walk
-        (bakeOf (inputOf axes corners (sceneOf (now (points .entry)) (now (uses .entry)) (now (kinds .entry)) (now (numbers .entry)))
+        (bakeOf (inputOf axes corners (sceneFor boxed (now (points .entry)) (now (uses .entry)) (now (kinds .entry)) (now (numbers .entry)) (now (boxes .entry)) (now (nodes .entry)) (now (order .entry)))
         light ambient (now (sky .entry)) (now (lamps .entry)) (now (active .entry)) (now (lights .entry))
         (length (now (distances .entry))) (length (now (places .entry)))))
         (voxels axes - next) next allowance (now (volume .entry)))
@@ -68,6 +75,11 @@ pub fn walk(
                 uses,
                 kinds,
                 numbers,
+                boxed,
+                boxes,
+                nodes,
+                order,
+                turned,
                 light,
                 ambient,
                 sky,
@@ -94,6 +106,11 @@ fn take(
     uses: &[u32],
     kinds: &[u8],
     numbers: &[f32],
+    boxed: bool,
+    boxes: &[f32],
+    nodes: &[u32],
+    order: &[u32],
+    turned: &[f32],
     light: Light,
     ambient: Ambient,
     sky: &[f32],
@@ -106,11 +123,12 @@ fn take(
     i: usize,
 ) -> u64
     requires { ⌜ Takeable
-        (gatherOf axes corners (sceneOf (now points) (now uses) (now kinds) (now numbers)) light ambient (now sky) (now lamps) (now lights))
+        (gatherOf axes corners (sceneFor boxed (now points) (now uses) (now kinds) (now numbers) (now boxes) (now nodes) (now order)) light ambient (now sky) (now lamps) (now lights))
         i (length (now distances)) (length (now places)) (length (now volume)) ⌝ }
     requires { ⌜ now table ≡ directions ⌝ }
+    requires { ⌜ Through (sceneFor boxed (now points) (now uses) (now kinds) (now numbers) (now boxes) (now nodes) (now order)) (now turned) ⌝ }
     ensures { λ r. ⌜ Taken
-        (gatherOf axes corners (sceneOf (now (points .entry)) (now (uses .entry)) (now (kinds .entry)) (now (numbers .entry)))
+        (gatherOf axes corners (sceneFor boxed (now (points .entry)) (now (uses .entry)) (now (kinds .entry)) (now (numbers .entry)) (now (boxes .entry)) (now (nodes .entry)) (now (order .entry)))
         light ambient (now (sky .entry)) (now (lamps .entry)) (now (lights .entry)))
         i r (now (volume .entry)) (now (volume .exit)) ⌝ }
 {
@@ -123,6 +141,11 @@ fn take(
         uses,
         kinds,
         numbers,
+        boxed,
+        boxes,
+        nodes,
+        order,
+        turned,
         light,
         ambient,
         sky,

@@ -12,15 +12,15 @@ use Rattle.sun.proofs.pass.Statement.{statement}
 use Rattle.sun.proofs.pass.Tie as tie
 
 count-requires : tie.Need-count-requires
-count-requires c κs = let r = c .before .before .before .before .before .before .before .before .before .pre in subst (Tidy _) (sym (r .light-fits)) (r .tidy)
+count-requires c κs = let r = c .before .before .before .before .before .before .before .before .before .before .before .before .before .pre .0 in subst (Tidy _) (sym (r .light-fits)) (r .tidy)
 
 -- the light has a number for each voxel
 counted : (c : tie.After-count)
-    → let a = c .before .before .before .before .before .before .before .before .before .before .args in
+    → let a = c .before .before .before .before .before .before .before .before .before .before .before .before .before .before .args in
     c .count .result ≡ markedCount (entriesOf (a .active .now) (voxels (a .axes)))
 counted c =
-    let s = c .before .before .before .before .before .before .before .before .before .before in
-    c .count .ensures ∙ ap (λ (n : ℕ). markedCount (entriesOf (s .args .active .now) n)) (s .pre .light-fits)
+    let s = c .before .before .before .before .before .before .before .before .before .before .before .before .before .before in
+    c .count .ensures ∙ ap (λ (n : ℕ). markedCount (entriesOf (s .args .active .now) n)) (s .pre .0 .light-fits)
 
 brighten-requires : tie.Need-brighten-requires
 brighten-requires c κs = search needs
@@ -36,7 +36,7 @@ returns c =
     let e = eq-eqb _ 0 (sym (counted n) ∙ none) in
     record {
       rays-counted = sym none ∙ counted n;
-      light-after = rw e (c .before .before .brighten .ensures ∙ rw (n .before .before .before .before .before .before .before .before .before .before .pre .light-fits) refl);
+      light-after = rw e (c .before .before .brighten .ensures ∙ rw (n .before .before .before .before .before .before .before .before .before .before .before .before .before .before .pre .0 .light-fits) refl);
       scratch-after = rw e refl;
       distances-kept = λ z. refl;
       places-kept = λ z. refl;
@@ -44,15 +44,15 @@ returns c =
 
 trace-requires : tie.Need-trace-requires
 trace-requires c κs =
-    let r = c .before .before .before .before .before .before .before .before .before .before .before .before .before .before .pre in
+    let r = c .before .before .before .before .before .before .before .before .before .before .before .before .before .before .before .before .before .before .pre .0 in
     (r .traceable, (r .tidy, r .scratch-fits))
 
 square-requires : tie.Need-square-requires
 square-requires c κs =
     let t = c .before .before .before .before .before .before .before .before in
-    let r = t .before .before .before .before .before .before .before .before .before .before .before .before .before .before .before .pre in
+    let r = t .before .before .before .before .before .before .before .before .before .before .before .before .before .before .before .before .before .before .before .pre .0 in
     let a = r .traceable .axes-fit in
-    let s = t .trace .kept .1 .1 .1 .1 .1 .1 .1 .1 .0 ∙ r .scratch-fits in
+    let s = t .trace .kept .1 .1 .1 .1 .1 .1 .1 .1 .1 .1 .1 .1 .1 .0 ∙ r .scratch-fits in
     (a .width, a .height, sym s, r .light-fits ∙ sym s)
 
 same-length-2 : tie.Need-same-length-2

@@ -4,14 +4,14 @@ use Rattle.sun.proofs.seen.Statement.{statement}
 use Rattle.sun.proofs.seen.Tie as tie
 
 centre-of-requires : tie.Need-centre-of-requires
-centre-of-requires c κs = let s = c .before .before .before .before .before .before in (s .pre .0 .axes-fit, s .pre .1)
+centre-of-requires c κs = let s = c .before .before .before .before .before .before .before .before .before .before in (s .pre .0 .axes-fit, s .pre .1 .0)
 
 ray-from-requires : tie.Need-ray-from-requires
 ray-from-requires c κs = search needs
 
 transmittance-requires : tie.Need-transmittance-requires
 transmittance-requires c κs =
-    let p = c .before .before .before .before .before .before .before .before .before .before .pre .0 in
+    let p = c .before .before .before .before .before .before .before .before .before .before .before .before .before .before .pre .0 in
     (p .scene-fits, p .hits-fit)
 
 same-length : tie.Need-same-length

@@ -7,7 +7,7 @@ use Prim.Native.Nat.{ℕ, _+_, _-_, _≤_, _<_}
 use native.Mathlib.Omega.{arith}
 use lib.ListN.{length, set, length-set}
 use lib.Ieee.{Float}
-use Rattle.names.specs.Scene.{sceneOf}
+use Rattle.names.specs.Scene.{sceneFor}
 use Rattle.names.specs.Numbers.{voxelLimit}
 use Rattle.lists.specs.Fold.{tab, length-tab}
 use Rattle.grid.specs.Grid.{voxels}
@@ -23,15 +23,15 @@ use Rattle.sun.proofs.trace.Statement.{statement}
 use Rattle.sun.proofs.trace.Tie as tie
 
 abbrev Inv-loop : tie.InvT-loop
-Inv-loop axes points uses kinds numbers active before₀ distances₀ places₀ edges l ahead low n i₀ before distances places i =
+Inv-loop axes points uses kinds numbers boxed boxes nodes order turned active before₀ distances₀ places₀ edges l ahead low n i₀ before distances places i =
     (n ≡ voxels axes) × (length before ≡ n) × (length distances ≡ length distances₀) × (length places ≡ length places₀)
-    × (i < n → isMarked (entriesOf active n) i ≡ true) × Right axes low edges l ahead (sceneOf points uses kinds numbers) (entriesOf active n) n before i
+    × (i < n → isMarked (entriesOf active n) i ≡ true) × Right axes low edges l ahead (sceneFor boxed points uses kinds numbers boxes nodes order) (entriesOf active n) n before i
 
 abbrev μ-loop : tie.MeasureT-loop
-μ-loop axes points uses kinds numbers active before₀ distances₀ places₀ edges l ahead low n i₀ before distances places i = n - i
+μ-loop axes points uses kinds numbers boxed boxes nodes order turned active before₀ distances₀ places₀ edges l ahead low n i₀ before distances places i = n - i
 
 edges-requires : tie.Need-edges-requires Inv-loop μ-loop
-edges-requires c κs = c .before .before .before .before .before .before .before .before .pre .0 .axes-fit
+edges-requires c κs = c .before .before .before .before .before .before .before .before .before .before .before .before .pre .0 .axes-fit
 
 normalise-requires : tie.Need-normalise-requires Inv-loop μ-loop
 normalise-requires c κs = search needs
@@ -47,16 +47,16 @@ abbrev many : tie.After-slice-known4 Inv-loop μ-loop → ℕ
 many c = length (c .before .before .brighten .last .0)
 
 abbrev mask : tie.After-slice-known4 Inv-loop μ-loop → List ℕ
-mask c = entriesOf (c .before .before .before .before .before .before .before .before .before .before .before .before .before .before .before .before .args .active .now) (many c)
+mask c = entriesOf (c .before .before .before .before .before .before .before .before .before .before .before .before .before .before .before .before .before .before .before .before .args .active .now) (many c)
 
-number : (c : tie.After-slice-known4 Inv-loop μ-loop) → many c ≡ voxels (c .before .before .before .before .before .before .before .before .before .before .before .before .before .before .before .before .args .axes)
-number c = ap length (c .before .before .brighten .ensures) ∙ length-tab _ _ 0 ∙ c .before .before .before .before .before .before .before .before .before .before .before .before .before .before .before .before .pre .1 .1
+number : (c : tie.After-slice-known4 Inv-loop μ-loop) → many c ≡ voxels (c .before .before .before .before .before .before .before .before .before .before .before .before .before .before .before .before .before .before .before .before .args .axes)
+number c = ap length (c .before .before .brighten .ensures) ∙ length-tab _ _ 0 ∙ c .before .before .before .before .before .before .before .before .before .before .before .before .before .before .before .before .before .before .before .before .pre .1 .0 .1
 
 few : (c : tie.After-slice-known4 Inv-loop μ-loop) → many c ≤ voxelLimit
-few c = let s = c .before .before .before .before .before .before .before .before .before .before .before .before .before .before .before .before in omega (arith, number c, voxels-most (s .args .axes) (s .pre .0 .axes-fit))
+few c = let s = c .before .before .before .before .before .before .before .before .before .before .before .before .before .before .before .before .before .before .before .before in omega (arith, number c, voxels-most (s .args .axes) (s .pre .0 .axes-fit))
 
-tidy : (c : tie.After-slice-known4 Inv-loop μ-loop) → Tidy (c .before .before .before .before .before .before .before .before .before .before .before .before .before .before .before .before .args .active .now) (many c)
-tidy c = subst (Tidy _) (sym (number c)) (c .before .before .before .before .before .before .before .before .before .before .before .before .before .before .before .before .pre .1 .0)
+tidy : (c : tie.After-slice-known4 Inv-loop μ-loop) → Tidy (c .before .before .before .before .before .before .before .before .before .before .before .before .before .before .before .before .before .before .before .before .args .active .now) (many c)
+tidy c = subst (Tidy _) (sym (number c)) (c .before .before .before .before .before .before .before .before .before .before .before .before .before .before .before .before .before .before .before .before .pre .1 .0 .0)
 
 next-marked-requires : tie.Need-next-marked-requires Inv-loop μ-loop
 next-marked-requires c κs = (tidy c, omega (arith, few c))
@@ -77,7 +77,7 @@ loop-holds c =
 seen-requires : tie.Need-seen-requires Inv-loop μ-loop
 seen-requires c κs =
     let a = c .before .before .before in
-    let p = a .before .before .before .before .before .before .before .before .before .before .before .before .before .before .before .before .before .before .pre .0 in (
+    let p = a .before .before .before .before .before .before .before .before .before .before .before .before .before .before .before .before .before .before .before .before .before .before .pre .0 in (
       record {
         axes-fit = p .axes-fit;
         scene-fits = p .scene-fits;
@@ -113,15 +113,15 @@ loop-again c =
     let m = c .next-marked2 .ensures in (
       l .inv .0,
       length-set (l .before) (l .i) (f .seen .result) ∙ l .inv .1,
-      f .seen .kept .1 .1 .1 .1 .1 .1 .1 .1 .1 .1 .0 ∙ l .inv .2,
-      f .seen .kept .1 .1 .1 .1 .1 .1 .1 .1 .1 .1 .1 .0 ∙ l .inv .3,
+      f .seen .kept .1 .1 .1 .1 .1 .1 .1 .1 .1 .1 .1 .1 .1 .1 .1 .0 ∙ l .inv .2,
+      f .seen .kept .1 .1 .1 .1 .1 .1 .1 .1 .1 .1 .1 .1 .1 .1 .1 .1 .0 ∙ l .inv .3,
       next-active (mask n) (many n) (l .i + 1) _ (omega arith) m,
       right-next _ _ _ _ _ _ (mask n) (many n) (set (l .before) (l .i) (f .seen .result)) (l .i + 1) _ (omega arith) m
           (right-written _ _ _ _ _ _ (mask n) (many n) (l .before) (l .i) (f .seen .result) (omega (arith, l .inv .1)) (l .inv .4 (omega arith)) (f .seen .ensures) (l .inv .5)),
     )
 
 same-length : tie.Need-same-length Inv-loop μ-loop
-same-length c = let a = c .before in a .loop .inv .1 ∙ a .loop .inv .0 ∙ sym (a .before .before .before .before .before .before .before .before .before .before .before .before .before .before .before .before .before .before .pre .1 .1)
+same-length c = let a = c .before in a .loop .inv .1 ∙ a .loop .inv .0 ∙ sym (a .before .before .before .before .before .before .before .before .before .before .before .before .before .before .before .before .before .before .before .before .before .before .pre .1 .0 .1)
 
 same-length-2 : tie.Need-same-length-2 Inv-loop μ-loop
 same-length-2 c = c .before .loop .inv .2

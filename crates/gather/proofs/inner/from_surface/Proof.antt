@@ -7,7 +7,7 @@ surface-at-requires : tie.Need-surface-at-requires
 surface-at-requires c κs = search needs
 
 bounce-light-requires : tie.Need-bounce-light-requires
-bounce-light-requires c κs = let s = c .before .before .before .before .before .before .before .before .before .before in (s .pre .0, (s .pre .1 .0, s .pre .1 .1 .0))
+bounce-light-requires c κs = let s = c .before .before .before .before .before .before .before .before .before .before .before .before .before .before in (s .pre .0, (s .pre .1 .0, s .pre .1 .1 .0))
 
 same-length : tie.Need-same-length
 same-length c = search needs

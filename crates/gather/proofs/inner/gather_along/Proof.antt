@@ -21,7 +21,7 @@ primary-ray-requires : tie.Need-primary-ray-requires
 primary-ray-requires c κs = search needs
 
 look-requires : tie.Need-look-requires
-look-requires c κs = let s = c .before .before .before .before .before .before .before .before .before .before .before .before .before in (s .pre .0, (s .pre .1 .0, s .pre .1 .1 .0))
+look-requires c κs = let s = c .before .before .before .before .before .before .before .before .before .before .before .before .before .before .before .before .before in (s .pre .0, (s .pre .1 .0, s .pre .1 .1 .0))
 
 add-radiance-requires : tie.Need-add-radiance-requires
 add-radiance-requires c κs = search needs
@@ -30,14 +30,14 @@ add-t19 : tie.Need-add-t19
 add-t19 c =
     let look = c .before .before .before .before .before .before .before .look in
     let h : look .result .misses ≤ 1 = rw (look .ensures) (incoming-costs _ _ _ _ _ _ .missed) in
-    omega (arith, c .before .before .before .before .before .before .before .before .before .before .before .before .before .before .before .before .before .before .before .before .before .pre .1 .1 .1 .1 .1)
+    omega (arith, c .before .before .before .before .before .before .before .before .before .before .before .before .before .before .before .before .before .before .before .before .before .before .before .before .before .pre .1 .1 .1 .1 .0 .1)
 
 add-t24 : tie.Need-add-t24
 add-t24 c =
     let look = c .before .before .before .before .before .before .before .before .before .look in
-    let s = c .before .before .before .before .before .before .before .before .before .before .before .before .before .before .before .before .before .before .before .before .before .before .before in
+    let s = c .before .before .before .before .before .before .before .before .before .before .before .before .before .before .before .before .before .before .before .before .before .before .before .before .before .before .before in
     let h : look .result .rays ≤ 6 + lampCount (s .args .lamps .now) = rw (look .ensures) (incoming-costs _ _ _ _ _ _ .most) in
-    omega (arith, s .pre .1 .0, s .pre .1 .1 .1 .1 .0)
+    omega (arith, s .pre .1 .0, s .pre .1 .1 .1 .1 .0 .0)
 
 same-length : tie.Need-same-length
 same-length c = search needs

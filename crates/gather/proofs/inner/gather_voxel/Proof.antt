@@ -8,7 +8,7 @@ use Rattle.names.specs.Numbers.{primaryRays}
 use Rattle.directions.specs.Sets.{set-below}
 use Rattle.grid.specs.Grid.{xOf, yOf, zOf}
 use Rattle.grid.specs.GridLaws.{voxels-most}
-use Rattle.names.specs.Scene.{sceneOf}
+use Rattle.names.specs.Scene.{sceneFor}
 use Rattle.gather.specs.declared.Gathering.{Gathering}
 use Rattle.gather.specs.Gather.{GatherInput, gatherOf, voxelOf, costOf, gatheredOf}
 use Rattle.gather.specs.GatherLaws.{gathering-costs}
@@ -19,10 +19,10 @@ use Rattle.gather.proofs.inner.gather_voxel.Tie as tie
 abbrev handed : tie.Start → GatherInput
 handed c =
     let a = c .args in
-    gatherOf (a .axes) (a .corners) (sceneOf (a .points .now) (a .uses .now) (a .kinds .now) (a .numbers .now)) (a .light) (a .ambient) (a .sky .now) (a .lamps .now) (a .lights .now)
+    gatherOf (a .axes) (a .corners) (sceneFor (a .boxed) (a .points .now) (a .uses .now) (a .kinds .now) (a .numbers .now) (a .boxes .now) (a .nodes .now) (a .order .now)) (a .light) (a .ambient) (a .sky .now) (a .lamps .now) (a .lights .now)
 
 -- what is gathered is the definition's fold
-whole : (c : tie.After-gather-all) → c .gather-all .result ≡ voxelOf (handed (c .before .before .before .before .before .before .before .before .before .before .before .before .before .before .before .before .before)) (c .before .before .before .before .before .before .before .before .before .before .before .before .before .before .before .before .before .args .i)
+whole : (c : tie.After-gather-all) → c .gather-all .result ≡ voxelOf (handed (c .before .before .before .before .before .before .before .before .before .before .before .before .before .before .before .before .before)) (c .before .before .before .before .before .before .before .before .before .before .before .before .before .before .before .before .before .before .before .before .before .args .i)
 unfolding voxelOf
 whole c =
     let first = c .before .before .before in
@@ -35,18 +35,18 @@ setting-of-requires : tie.Need-setting-of-requires
 setting-of-requires c κs = search needs
 
 centre-of-requires : tie.Need-centre-of-requires
-centre-of-requires c κs = let p = c .before .before .before .before .before .before .before .before .before .before .before .before .pre .0 in (p .axes, p .voxel)
+centre-of-requires c κs = let p = c .before .before .before .before .before .before .before .before .before .before .before .before .before .before .before .before .pre .0 in (p .axes, p .voxel)
 
 first-of-requires : tie.Need-first-of-requires
-first-of-requires c κs = c .before .before .before .before .before .before .before .before .before .before .before .before .before .pre .0 .axes
+first-of-requires c κs = c .before .before .before .before .before .before .before .before .before .before .before .before .before .before .before .before .before .pre .0 .axes
 
 gather-all-requires : tie.Need-gather-all-requires
 gather-all-requires c κs =
-    let s = c .before .before .before .before .before .before .before .before .before .before .before .before .before .before .before .before in
+    let s = c .before .before .before .before .before .before .before .before .before .before .before .before .before .before .before .before .before .before .before .before in
     let p = s .pre .0 in
     let a = s .args .axes in
     let i = s .args .i in
-    (p .scene, (p .lamps, ((p .distances, p .places), (p .sky, s .pre .1, omega (arith, c .before .before .first-of .ensures, set-below (xOf a i) (yOf a i) (zOf a i))))))
+    (p .scene, (p .lamps, ((p .distances, p .places), (p .sky, s .pre .1 .0, omega (arith, c .before .before .first-of .ensures, set-below (xOf a i) (yOf a i) (zOf a i))))))
 
 coefficients-of-requires : tie.Need-coefficients-of-requires
 coefficients-of-requires c κs = search needs
@@ -61,13 +61,13 @@ sky-seen-requires c κs =
     omega arith
 
 mul-write-sixteen : tie.Need-mul-write-sixteen
-mul-write-sixteen c = let s = c .before .before .before .before .before .before .before .before .before .before .before .before .before .before .before .before .before .before .before .before .before .before .before .before .before in omega (arith, s .pre .0 .voxel, voxels-most (s .args .axes) (s .pre .0 .axes))
+mul-write-sixteen c = let s = c .before .before .before .before .before .before .before .before .before .before .before .before .before .before .before .before .before .before .before .before .before .before .before .before .before .before .before .before .before in omega (arith, s .pre .0 .voxel, voxels-most (s .args .axes) (s .pre .0 .axes))
 
 shared-slice-read-write-sixteen : tie.Need-shared-slice-read-write-sixteen
-shared-slice-read-write-sixteen c = let p = c .before .before .before .before .before .before .before .before .before .before .before .before .before .before .before .before .before .before .before .before .before .before .before .before .before .before .pre .0 in omega (arith, p .voxel, p .lights)
+shared-slice-read-write-sixteen c = let p = c .before .before .before .before .before .before .before .before .before .before .before .before .before .before .before .before .before .before .before .before .before .before .before .before .before .before .before .before .before .before .pre .0 in omega (arith, p .voxel, p .lights)
 
 write-sixteen-requires : tie.Need-write-sixteen-requires
-write-sixteen-requires c κs = c .before .before .before .before .before .before .before .before .before .before .before .before .before .before .before .before .before .before .before .before .before .before .before .before .before .before .pre .0 .out
+write-sixteen-requires c κs = c .before .before .before .before .before .before .before .before .before .before .before .before .before .before .before .before .before .before .before .before .before .before .before .before .before .before .before .before .before .before .pre .0 .out
 
 same-length : tie.Need-same-length
 same-length c = search needs

@@ -21,14 +21,14 @@ enum-known-found c = search needs
 
 from-surface-requires : tie.Need-from-surface-requires
 from-surface-requires c κs =
-    let s = c .before .before .before .before .before .before .before .before .before .before .before .before .before in
+    let s = c .before .before .before .before .before .before .before .before .before .before .before .before .before .before .before .before .before in
     let met = sym (c .before .before .before .before .before .nearest .ensures) ∙ c .before .before .before .found .given .1 in
-    (s .pre .0, (s .pre .1 .0, (s .pre .1 .1, place-below _ _ _ _ _ _ _ met)))
+    (s .pre .0, (s .pre .1 .0, (s .pre .1 .1 .0, place-below _ _ _ _ _ _ _ met)))
 
 add-t21 : tie.Need-add-t21
 add-t21 c =
     let sent = c .before .before .before .before .before .before .from-surface in
-    let s = c .before .before .before .before .before .before .before .before .before .before .before .before .before .before .before .before .before .before .before .before in
+    let s = c .before .before .before .before .before .before .before .before .before .before .before .before .before .before .before .before .before .before .before .before .before .before .before .before in
     let h : sent .result .rays ≤ 5 + lampCount (s .args .lamps .now) = rw (sent .ensures) (extra-most _ _ _ _) in
     omega (arith, s .pre .1 .0)
 

@@ -26,15 +26,15 @@ record Turn (scene : Scene) (lamps : List Float) (setting : Setting) (surface : 
   left : fold (litAfter scene lamps setting surface) (n - j) j t ≡ fallenOn scene lamps setting surface
 
 abbrev Inv-loop : tie.InvT-loop
-Inv-loop points uses kinds numbers lamps setting surface distances₀ places₀ fallen₀ n j₀ distances places fallen j =
-    Turn (sceneOf points uses kinds numbers) lamps setting surface distances₀ places₀ n distances places fallen j
+Inv-loop points uses kinds numbers boxed boxes nodes order turned lamps setting surface distances₀ places₀ fallen₀ n j₀ distances places fallen j =
+    Turn (sceneFor boxed points uses kinds numbers boxes nodes order) lamps setting surface distances₀ places₀ n distances places fallen j
 
 abbrev μ-loop : tie.MeasureT-loop
-μ-loop points uses kinds numbers lamps setting surface distances₀ places₀ fallen₀ n j₀ distances places fallen j =
+μ-loop points uses kinds numbers boxed boxes nodes order turned lamps setting surface distances₀ places₀ fallen₀ n j₀ distances places fallen j =
     n - j
 
 light-day-requires : tie.Need-light-day-requires Inv-loop μ-loop
-light-day-requires c κs = let s = c .before .before .before .before .before .before .before .before .before in (s .pre .0, s .pre .1 .1)
+light-day-requires c κs = let s = c .before .before .before .before .before .before .before .before .before .before .before .before .before in (s .pre .0, s .pre .1 .1 .0)
 
 lamp-count-requires : tie.Need-lamp-count-requires Inv-loop μ-loop
 lamp-count-requires c κs = search needs
@@ -57,12 +57,12 @@ lamp-at-requires c κs = rw (← c .before .before .lamp-count .ensures) (c .loo
 
 light-lamp-requires : tie.Need-light-lamp-requires Inv-loop μ-loop
 light-lamp-requires c κs =
-    let s = c .before .before .before .before .before .before .before .before .before .before .before .before .before .before .before .before .before .before .before .before in
+    let s = c .before .before .before .before .before .before .before .before .before .before .before .before .before .before .before .before .before .before .before .before .before .before .before .before in
     let t = c .before .before .before .before .loop .inv in
-    (s .pre .0, ((omega (arith, t .distances, s .pre .1 .1 .0), omega (arith, t .places, s .pre .1 .1 .1)), omega (arith, t .rays, t .below, c .before .before .before .before .before .lamp-count .ensures, s .pre .1 .0)))
+    (s .pre .0, ((omega (arith, t .distances, s .pre .1 .1 .0 .0), omega (arith, t .places, s .pre .1 .1 .0 .1)), omega (arith, t .rays, t .below, c .before .before .before .before .before .lamp-count .ensures, s .pre .1 .0)))
 
 add-j : tie.Need-add-j Inv-loop μ-loop
-add-j c = omega (arith, c .before .before .before .before .before .before .before .before .before .loop .inv .below, c .before .before .before .before .before .before .before .before .loop-test .taken, c .before .before .before .before .before .before .before .before .before .before .lamp-count .ensures, c .before .before .before .before .before .before .before .before .before .before .before .before .before .before .before .before .before .before .before .before .before .before .before .before .before .pre .1 .0)
+add-j c = omega (arith, c .before .before .before .before .before .before .before .before .before .loop .inv .below, c .before .before .before .before .before .before .before .before .loop-test .taken, c .before .before .before .before .before .before .before .before .before .before .lamp-count .ensures, c .before .before .before .before .before .before .before .before .before .before .before .before .before .before .before .before .before .before .before .before .before .before .before .before .before .before .before .before .before .pre .1 .0)
 
 loop-less : tie.Need-loop-less Inv-loop μ-loop
 loop-less c = omega (arith, c .before .before .before .before .before .before .before .before .loop-test .taken)
@@ -72,8 +72,8 @@ loop-again c =
     let r = c .before .before .before .before .light-lamp in
     let l = c .before .before .before .before .before .before .before .before .before in
     let t = l .loop .inv in
-    let a = c .before .before .before .before .before .before .before .before .before .before .before .before .before .before .before .before .before .before .before .before .before .before .before .before .before .args in
-    let f = litAfter (sceneOf (a .points .now) (a .uses .now) (a .kinds .now) (a .numbers .now)) (a .lamps .now) (a .setting) (a .surface) in
+    let a = c .before .before .before .before .before .before .before .before .before .before .before .before .before .before .before .before .before .before .before .before .before .before .before .before .before .before .before .before .before .args in
+    let f = litAfter (sceneFor (a .boxed) (a .points .now) (a .uses .now) (a .kinds .now) (a .numbers .now) (a .boxes .now) (a .nodes .now) (a .order .now)) (a .lamps .now) (a .setting) (a .surface) in
     let h = c .before .before .before .before .before .before .before .before .loop-test .taken in
     let m : r .result .rays ≤ l .loop .fallen .rays + 1 = rw (r .ensures) (lamp-most _ _ _ _ _) in
     record {
@@ -85,15 +85,15 @@ loop-again c =
     }
 
 same-length : tie.Need-same-length Inv-loop μ-loop
-same-length c = c .before .loop .inv .distances ∙ c .before .before .before .before .before .before .before .light-day .kept .1 .1 .1 .1 .1 .1 .0
+same-length c = c .before .loop .inv .distances ∙ c .before .before .before .before .before .before .before .light-day .kept .1 .1 .1 .1 .1 .1 .1 .1 .1 .1 .1 .0
 
 same-length-2 : tie.Need-same-length-2 Inv-loop μ-loop
-same-length-2 c = c .before .loop .inv .places ∙ c .before .before .before .before .before .before .before .light-day .kept .1 .1 .1 .1 .1 .1 .1 .0
+same-length-2 c = c .before .loop .inv .places ∙ c .before .before .before .before .before .before .before .light-day .kept .1 .1 .1 .1 .1 .1 .1 .1 .1 .1 .1 .1 .0
 
 returns : tie.Need-returns Inv-loop μ-loop
 returns c =
-    let a = c .before .before .before .before .before .before .before .before .before .before .before .before .before .before .before .before .before .args in
-    let f = litAfter (sceneOf (a .points .now) (a .uses .now) (a .kinds .now) (a .numbers .now)) (a .lamps .now) (a .setting) (a .surface) in
+    let a = c .before .before .before .before .before .before .before .before .before .before .before .before .before .before .before .before .before .before .before .before .before .args in
+    let f = litAfter (sceneFor (a .boxed) (a .points .now) (a .uses .now) (a .kinds .now) (a .numbers .now) (a .boxes .now) (a .nodes .now) (a .order .now)) (a .lamps .now) (a .setting) (a .surface) in
     sym (fold-end f (c .before .loop .j) _ (c .before .loop .fallen) (c .loop-test .left)) ∙ c .before .loop .inv .left
 
 pub light-fallen-spec : {M : Type 1} → statement M

@@ -24,11 +24,11 @@ record Turn (scene : Scene) (setting : Setting) (surface : Surface) (d₀ : List
   left : fold (seenAfter scene setting surface) (4 - j) j s ≡ seenOf scene setting surface
 
 abbrev Inv-loop : tie.InvT-loop
-Inv-loop points uses kinds numbers setting surface distances₀ places₀ table basis seen₀ j₀ distances places seen j =
-    Turn (sceneOf points uses kinds numbers) setting surface distances₀ places₀ distances places seen j
+Inv-loop points uses kinds numbers boxed boxes nodes order turned setting surface distances₀ places₀ table basis seen₀ j₀ distances places seen j =
+    Turn (sceneFor boxed points uses kinds numbers boxes nodes order) setting surface distances₀ places₀ distances places seen j
 
 abbrev μ-loop : tie.MeasureT-loop
-μ-loop points uses kinds numbers setting surface distances₀ places₀ table basis seen₀ j₀ distances places seen j =
+μ-loop points uses kinds numbers boxed boxes nodes order turned setting surface distances₀ places₀ table basis seen₀ j₀ distances places seen j =
     4 - j
 
 hemisphere-table-requires : tie.Need-hemisphere-table-requires Inv-loop μ-loop
@@ -46,9 +46,9 @@ sky-ray-requires c κs = (c .before .before .before .before .hemisphere-table .e
 
 see-requires : tie.Need-see-requires Inv-loop μ-loop
 see-requires c κs =
-    let s = c .before .before .before .before .before .before .before .before .before .before .before .before .before .before in
+    let s = c .before .before .before .before .before .before .before .before .before .before .before .before .before .before .before .before .before .before in
     let t = c .before .before .before .before .before .loop .inv in
-    (s .pre .0, ((omega (arith, t .distances, s .pre .1 .0), omega (arith, t .places, s .pre .1 .1)), omega (arith, t .rays, c .before .before .before .before .loop-test .taken)))
+    (s .pre .0, ((omega (arith, t .distances, s .pre .1 .0 .0), omega (arith, t .places, s .pre .1 .0 .1)), omega (arith, t .rays, c .before .before .before .before .loop-test .taken)))
 
 add-j : tie.Need-add-j Inv-loop μ-loop
 add-j c = omega arith
@@ -62,8 +62,8 @@ loop-again c =
     let r = c .before .before .before .before .see in
     let l = c .before .before .before .before .before .before .before .before .before .before in
     let t = l .loop .inv in
-    let a = l .before .before .before .before .before .before .before .before .before .args in
-    let f = seenAfter (sceneOf (a .points .now) (a .uses .now) (a .kinds .now) (a .numbers .now)) (a .setting) (a .surface) in
+    let a = l .before .before .before .before .before .before .before .before .before .before .before .before .before .args in
+    let f = seenAfter (sceneFor (a .boxed) (a .points .now) (a .uses .now) (a .kinds .now) (a .numbers .now) (a .boxes .now) (a .nodes .now) (a .order .now)) (a .setting) (a .surface) in
     let h = c .before .before .before .before .before .before .before .before .before .loop-test .taken in
     record { below = omega arith; rays = ap (λ (s : Seen). s .rays) (r .ensures) ∙ omega (arith, t .rays); distances = omega (arith, t .distances, r .kept .1 .1 .1 .1 .1 .1 .0); places = omega (arith, t .places, r .kept .1 .1 .1 .1 .1 .1 .1 .0); left = rw (r .ensures, c .before .before .before .before .before .before .before .sky-ray .ensures, l .before .basis-of .ensures) (sym (fold-step f (l .loop .j) 4 (l .loop .seen) h) ∙ t .left) }
 
@@ -75,8 +75,8 @@ same-length-2 c = c .before .loop .inv .places
 
 returns : tie.Need-returns Inv-loop μ-loop
 returns c =
-    let a = c .before .before .before .before .before .before .before .before .before .before .args in
-    let f = seenAfter (sceneOf (a .points .now) (a .uses .now) (a .kinds .now) (a .numbers .now)) (a .setting) (a .surface) in
+    let a = c .before .before .before .before .before .before .before .before .before .before .before .before .before .before .args in
+    let f = seenAfter (sceneFor (a .boxed) (a .points .now) (a .uses .now) (a .kinds .now) (a .numbers .now) (a .boxes .now) (a .nodes .now) (a .order .now)) (a .setting) (a .surface) in
     sym (fold-end f (c .before .loop .j) 4 (c .before .loop .seen) (omega arith)) ∙ c .before .loop .inv .left
 
 pub see-sky-spec : {M : Type 1} → statement M

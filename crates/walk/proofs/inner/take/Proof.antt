@@ -10,13 +10,13 @@ use Rattle.walk.proofs.inner.take.Statement.{statement}
 use Rattle.walk.proofs.inner.take.Tie as tie
 
 mul-start : tie.Need-mul-start
-mul-start c = omega (arith, c .before .before .before .before .before .before .before .before .before .before .pre .0 .gatherable .voxel, voxels-most _ (c .before .before .before .before .before .before .before .before .before .before .pre .0 .gatherable .axes))
+mul-start c = omega (arith, c .before .before .before .before .before .before .before .before .before .before .before .before .before .before .pre .0 .gatherable .voxel, voxels-most _ (c .before .before .before .before .before .before .before .before .before .before .before .before .before .before .pre .0 .gatherable .axes))
 
 add-end : tie.Need-add-end
-add-end c = omega (arith, c .before .before .before .before .before .before .before .before .before .before .pre .0 .gatherable .voxel, voxels-most _ (c .before .before .before .before .before .before .before .before .before .before .pre .0 .gatherable .axes))
+add-end c = omega (arith, c .before .before .before .before .before .before .before .before .before .before .before .before .before .before .pre .0 .gatherable .voxel, voxels-most _ (c .before .before .before .before .before .before .before .before .before .before .before .before .before .before .pre .0 .gatherable .axes))
 
 mul-gather-voxel : tie.Need-mul-gather-voxel
-mul-gather-voxel c = omega (arith, c .before .before .before .before .before .before .before .before .before .before .before .before .pre .0 .gatherable .voxel, voxels-most _ (c .before .before .before .before .before .before .before .before .before .before .before .before .pre .0 .gatherable .axes))
+mul-gather-voxel c = omega (arith, c .before .before .before .before .before .before .before .before .before .before .before .before .before .before .before .before .pre .0 .gatherable .voxel, voxels-most _ (c .before .before .before .before .before .before .before .before .before .before .before .before .before .before .before .before .pre .0 .gatherable .axes))
 
 sub-gather-voxel : tie.Need-sub-gather-voxel
 sub-gather-voxel c = search needs
@@ -29,7 +29,7 @@ part-gather-voxel-end c = search needs
 
 gather-voxel-requires : tie.Need-gather-voxel-requires
 gather-voxel-requires c κs =
-    let g = c .before .before .before .before .before .before .before .before .before .before .before .before .before .pre .0 .gatherable in (
+    let g = c .before .before .before .before .before .before .before .before .before .before .before .before .before .before .before .before .before .pre .0 .gatherable in (
       record {
         axes = g .axes;
         scene = g .scene;
@@ -41,7 +41,7 @@ gather-voxel-requires c κs =
         places = g .places;
         out = search needs;
       },
-      c .before .before .before .before .before .before .before .before .before .before .before .before .before .pre .1,
+      c .before .before .before .before .before .before .before .before .before .before .before .before .before .before .before .before .before .pre .1 .0,
     )
 
 same-length : tie.Need-same-length
@@ -56,7 +56,7 @@ same-length-3 c = search needs
 returns : tie.Need-returns
 unfolding replaced
 returns c =
-    let a = c .before .before .before .before .before .before .before .before .before .before .before .before .before .before .before .before .before .before .before .before .args in
+    let a = c .before .before .before .before .before .before .before .before .before .before .before .before .before .before .before .before .before .before .before .before .before .before .before .before .args in
     let g = c .before .before .before .before .before .before .gather-voxel .ensures in
     record { rays = g .rays; volume = rw (post-is (a .i * 16) (a .i * 16 + 16) (a .volume .now) (omega arith), g .numbers) refl }
 
