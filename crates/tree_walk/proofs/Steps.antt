@@ -2,23 +2,21 @@
 use mathlib.Core.Path.{_≡_, refl, sym, ap, _∙_}
 use mathlib.Core.Bool.{true, false}
 use mathlib.Core.List.{List}
-use Prim.Native.Nat.{ℕ, zero, suc, _+_, _*_, _-_, _<_}
-use native.Mathlib.Numerals.{add-one}
+use Prim.Native.Nat.{ℕ, zero, suc, _+_, _*_, _-_, _≤_, _<_}
 use native.Mathlib.Omega.{arith}
 use borrow.Author.Tests.{eq-eqb, ne-eqb}
-use lib.ListN.{getD}
+use lib.ListN.{length, getD}
 use lib.Ieee.{Float}
 use Rattle.vectors.specs.declared.Ray.{Ray}
 use Rattle.boxes.specs.Boxes.{boundsAt, passedOver}
-use Rattle.tree.specs.Tree.{countAt, innerAt, leftAt, rightAt, placeAt}
+use Rattle.tree.specs.Tree.{countAt, innerAt, leftAt, rightAt}
 use Rattle.tree_walk.specs.Walk.{runVisit, nodeVisit, pairVisit}
+use Rattle.tree_walk.specs.UnderLaws.{placesUnder, halves-room, leaf-room}
+use Rattle.tree_walk.specs.declared.Met.{Met}
+use Rattle.tree_walk.specs.declared.Met.the-variants.{Dark, Hits}
+use Rattle.tree_walk.specs.Kept.{MetWithin}
 
--- ---- a leaf
-
--- the k th place of its run
-pub place-read : (nodes order : List ℕ) (i k first p : ℕ) → first ≡ getD nodes (i * 3 + 1) 0 → p ≡ getD order (first + k) 0 → p ≡ placeAt nodes order i k
-unfolding placeAt leftAt
-place-read nodes order i k first p e f = f ∙ ap (λ (x : ℕ). getD order (x + k) 0) e
+-- ---- an inner box or a leaf
 
 pub inner-read : (nodes : List ℕ) (i count : ℕ) → count ≡ getD nodes (i * 3) 0 → count ≡ 0 → innerAt nodes i ≡ true
 unfolding countAt
@@ -29,12 +27,6 @@ unfolding countAt
 leaf-read nodes i count e z = ne-eqb (getD nodes (i * 3) 0) 0 (λ (f : getD nodes (i * 3) 0 ≡ 0). z (e ∙ f))
 
 module _ {S : Type 0} (step : S → ℕ → S) where
-  -- one more of its triangles
-  pub run-next : (nodes order : List ℕ) (i k p : ℕ) (held before after : S) → held ≡ runVisit step nodes order i k before → p ≡ placeAt nodes order i k → after ≡ step held p
-      → after ≡ runVisit step nodes order i (k + 1) before
-  unfolding runVisit
-  run-next nodes order i k p held before after e f g = rw (add-one k, ← e, ← f) g
-
   -- ---- a box
 
   module _ (ray : Ray) (boxes : List Float) (nodes order : List ℕ) where
@@ -66,3 +58,21 @@ module _ {S : Type 0} (step : S → ℕ → S) where
 pub halves-less : (levels : ℕ) → (levels ≡ 0 → ⊥) → 2 * (levels - 1) + 1 < 2 * levels
 halves-less zero f = absurd (f refl)
 halves-less (suc levels) f = omega arith
+
+-- ---- how many triangles stand under a box, as the code reads its numbers
+
+module _ (nodes order : List ℕ) where
+  pub under-halves : (levels i left right : ℕ) → (levels ≡ 0 → ⊥) → innerAt nodes i ≡ true → left ≡ getD nodes (i * 3 + 1) 0 → right ≡ getD nodes (i * 3 + 2) 0
+      → length (placesUnder nodes order (levels - 1) left) + length (placesUnder nodes order (levels - 1) right) ≡ length (placesUnder nodes order levels i)
+  unfolding leftAt rightAt
+  under-halves zero i left right f q l r = absurd (f refl)
+  under-halves (suc levels) i left right f q l r = let less : suc levels - 1 ≡ levels = omega arith in rw (l, r, less) (sym (halves-room nodes order levels i q))
+
+  pub under-leaf : (levels i : ℕ) → (levels ≡ 0 → ⊥) → innerAt nodes i ≡ false → countAt nodes i ≡ length (placesUnder nodes order levels i)
+  under-leaf zero i f q = absurd (f refl)
+  under-leaf (suc levels) i f q = sym (leaf-room nodes order levels i q)
+
+-- what is met within some is met within more
+pub met-more : (r : Met) (a b d e p q : ℕ) → MetWithin r a d p → a ≤ b → d ≡ e → p ≡ q → MetWithin r b e q
+met-more Dark a b d e p q w h x y = tt
+met-more (Hits m) a b d e p q w h x y = (omega (arith, w .0), omega (arith, w .1), omega (arith, w .2))

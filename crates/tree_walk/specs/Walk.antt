@@ -17,6 +17,7 @@ use Rattle.scan.specs.declared.Nearest.the-variants.{Nothing}
 use Rattle.boxes.specs.Boxes.{boundsAt, passedOver}
 use Rattle.tree.specs.Tree.{boxCount, countAt, innerAt, leftAt, rightAt, firstAt, placeAt}
 use Rattle.tree_walk.specs.Boxed.{nearestStep, hitsStep, passHits}
+use Rattle.tree_walk.specs.Turned.{Turned}
 
 module _ {S : Type 0} (step : S → ℕ → S) where
   -- the first k triangles of leaf i, in its run's order
@@ -53,7 +54,7 @@ unfoldable pub transmittanceThrough : Scene → List Float → List ℕ → List
 transmittanceThrough scene boxes nodes order ray = passHits scene (hitsThrough scene boxes nodes order ray)
 
 -- ---- what a walk needs to stay within the lists; an accepted tree of a sound scene has it (`accepted-fits`)
-pub record TreeFits (points : List Float) (uses kinds : List ℕ) (boxes : List Float) (nodes order : List ℕ) : Type 0 where
+pub record TreeFits (points : List Float) (uses kinds : List ℕ) (boxes : List Float) (nodes order : List ℕ) (turned : List Float) : Type 0 where
   pub pointsFit : length points ≡ length uses * 9
   pub useFits : (p : ℕ) → p < length uses → getD uses p 0 < length kinds
   pub boxesFit : length boxes ≡ boxCount nodes * 6
@@ -61,3 +62,4 @@ pub record TreeFits (points : List Float) (uses kinds : List ℕ) (boxes : List 
   pub rightFits : (i : ℕ) → i < boxCount nodes → innerAt nodes i ≡ true → rightAt nodes i < boxCount nodes
   pub runFits : (i : ℕ) → i < boxCount nodes → innerAt nodes i ≡ false → firstAt nodes i + countAt nodes i ≤ length order
   pub placeFits : (i k : ℕ) → i < boxCount nodes → innerAt nodes i ≡ false → k < countAt nodes i → placeAt nodes order i k < length uses
+  pub turnedFits : Turned points order turned

@@ -28,6 +28,7 @@ use Rattle.tree.specs.SumLaws.{positive}
 use Rattle.tree.specs.TestLaws.{present-within}
 use Rattle.tree.specs.AcceptedLaws.{leaf-present, halves-passed, triangles-passed}
 use Rattle.tree_walk.specs.Boxed.{boxedMeetAt, nearestStep, nearestBoxedTo, nearestBoxed, hitsStep, hitsBoxed, passHits, transmittanceBoxed}
+use Rattle.tree_walk.specs.Turned.{Turned}
 use Rattle.tree_walk.specs.Walk.{runVisit, nodeVisit, treeVisit, nearestThrough, hitsThrough, transmittanceThrough, TreeFits}
 use Rattle.tree_walk.specs.SwapLaws.{NumberHeld, nearer-swap, nearer-number, hits-swap, hits-numbers}
 use Rattle.tree_walk.specs.BoxedLaws.{boxed-over, boxed-number, boxed-absent}
@@ -141,8 +142,8 @@ hits-missed hs i m e = rw e refl
 
 module _ (scene : Scene) (sound : Sound scene) (boxes : List Float) (nodes order : List ℕ) (t : AcceptedTree (scene .points) boxes nodes order) where
   -- no index of a walk through it lies past its list
-  pub accepted-fits : TreeFits (scene .points) (scene .uses) (scene .kinds) boxes nodes order
-  accepted-fits =
+  pub accepted-fits : (turned : List Float) → Turned (scene .points) order turned → TreeFits (scene .points) (scene .uses) (scene .kinds) boxes nodes order turned
+  accepted-fits turned same =
       record {
         pointsFit = sound .points;
         useFits = sound .within;
@@ -154,6 +155,7 @@ module _ (scene : Scene) (sound : Sound scene) (boxes : List Float) (nodes order
             λ i k h q l.
             let p : placeAt nodes order i k < length (scene .points) / 9 = present-within (scene .points) (placeAt nodes order i k) (leaf-present (scene .points) boxes nodes order t i k h q l) in
             omega (arith, sound .points);
+        turnedFits = same;
       }
 
   -- the nearest hit through an accepted tree

@@ -23,27 +23,27 @@ use Rattle.tree_walk.proofs.inner.run_visit.Reads as run-visit-reads
 use Rattle.tree_walk.proofs.inner.+node_visit+pair_visit.{statement}
 use Rattle.tree_walk.proofs.inner.+node_visit+pair_visit.Tie.{close}
 
-abbrev μ-node-visit : Measures 6 node-visit-kinds.ps ℕ
-μ-node-visit κs a = 2 * a .1 .1 .1 .1 .1 .1 .1 .1 .0
+abbrev μ-node-visit : Measures 7 node-visit-kinds.ps ℕ
+μ-node-visit κs a = 2 * a .1 .1 .1 .1 .1 .1 .1 .1 .1 .0
 
-abbrev μ-pair-visit : Measures 6 pair-visit-kinds.ps ℕ
-μ-pair-visit κs a = 2 * a .1 .1 .1 .1 .1 .1 .1 .1 .1 .0 + 1
+abbrev μ-pair-visit : Measures 7 pair-visit-kinds.ps ℕ
+μ-pair-visit κs a = 2 * a .1 .1 .1 .1 .1 .1 .1 .1 .1 .1 .0 + 1
 
-abbrev node-visit-at : ℕ → In 6 node-visit-kinds.ps
+abbrev node-visit-at : ℕ → In 7 node-visit-kinds.ps
 node-visit-at t =
-    and 6 node-visit-kinds.ps (is 6 node-visit-kinds.ps μ-node-visit t) node-visit.Pre
+    and 7 node-visit-kinds.ps (is 7 node-visit-kinds.ps μ-node-visit t) node-visit.Pre
 
-abbrev node-visit-below : ℕ → In 6 node-visit-kinds.ps
+abbrev node-visit-below : ℕ → In 7 node-visit-kinds.ps
 node-visit-below t =
-    and 6 node-visit-kinds.ps (falls 6 node-visit-kinds.ps _<_ μ-node-visit t) node-visit.Pre
+    and 7 node-visit-kinds.ps (falls 7 node-visit-kinds.ps _<_ μ-node-visit t) node-visit.Pre
 
-abbrev pair-visit-at : ℕ → In 6 pair-visit-kinds.ps
+abbrev pair-visit-at : ℕ → In 7 pair-visit-kinds.ps
 pair-visit-at t =
-    and 6 pair-visit-kinds.ps (is 6 pair-visit-kinds.ps μ-pair-visit t) pair-visit.Pre
+    and 7 pair-visit-kinds.ps (is 7 pair-visit-kinds.ps μ-pair-visit t) pair-visit.Pre
 
-abbrev pair-visit-below : ℕ → In 6 pair-visit-kinds.ps
+abbrev pair-visit-below : ℕ → In 7 pair-visit-kinds.ps
 pair-visit-below t =
-    and 6 pair-visit-kinds.ps (falls 6 pair-visit-kinds.ps _<_ μ-pair-visit t) pair-visit.Pre
+    and 7 pair-visit-kinds.ps (falls 7 pair-visit-kinds.ps _<_ μ-pair-visit t) pair-visit.Pre
 
 -- ---- a box
 
@@ -65,7 +65,7 @@ node-visit-returns : (t : ℕ) → node-visit-lts.Need-returns (node-calls t) (n
 node-visit-returns t c = no-levels _ _ _ _ _ _ _ _ (c .if1 .taken)
 
 node-visit-bounds-at-requires : (t : ℕ) → node-visit-lts.Need-bounds-at-requires (node-calls t) (node-visit-at t) node-visit.Post
-node-visit-bounds-at-requires t c κs = omega (arith, c .before .before .before .before .before .before .before .pre .1 .0 .boxesFit)
+node-visit-bounds-at-requires t c κs = omega (arith, c .before .before .before .before .before .before .before .before .pre .1 .0 .boxesFit)
 
 node-visit-passed-over-requires : (t : ℕ) → node-visit-lts.Need-passed-over-requires (node-calls t) (node-visit-at t) node-visit.Post
 node-visit-passed-over-requires t c κs = tt
@@ -109,7 +109,7 @@ unfolding leftAt rightAt
 node-visit-pair-visit-requires t c κs =
     let w = c .before .before .before in
     let e = w .before .before .before .before in
-    let s = e .before .before .before .before .before .before .before in
+    let s = e .before .before .before .before .before .before .before .before in
     let n = s .args .nodes .now in
     let q : innerAt n (s .args .i) ≡ true = inner-read _ _ _ (w .word-at .ensures .0) (c .before .before .if3 .taken) in
     let f = s .pre .1 .0 in (
@@ -135,7 +135,7 @@ node-visit-returns-3 t c =
 
 node-visit-run-visit-requires : (t : ℕ) → node-visit-lts.Need-run-visit-requires (node-calls t) (node-visit-at t) node-visit.Post
 node-visit-run-visit-requires t c κs =
-    let s = c .before .before .before .before .before .before .before .before .before .before .before .before in
+    let s = c .before .before .before .before .before .before .before .before .before .before .before .before .before in
     (s .pre .1 .0, (s .pre .1 .1, leaf-read _ _ _ (c .before .word-at .ensures .0) (c .if3 .left)))
 
 node-visit-returns-4 : (t : ℕ) → node-visit-lts.Need-returns-4 (node-calls t) (node-visit-at t) node-visit.Post
@@ -155,12 +155,12 @@ pair-calls t = (node-visit-below t, node-visit.Post)
 
 pair-visit-node-visit-requires : (t : ℕ) → pair-visit-lts.Need-node-visit-requires (pair-calls t) (pair-visit-at t) pair-visit.Post
 pair-visit-node-visit-requires t c κs =
-    let s = c .before .before .before .before .before .before in
+    let s = c .before .before .before .before .before .before .before in
     (subst (λ (m : ℕ). 2 * s .args .levels < m) (s .pre .0) (omega arith), (s .pre .1 .0, s .pre .1 .1 .0))
 
 pair-visit-node-visit-requires-2 : (t : ℕ) → pair-visit-lts.Need-node-visit-requires-2 (pair-calls t) (pair-visit-at t) pair-visit.Post
 pair-visit-node-visit-requires-2 t c κs =
-    let s = c .before .before .before .before .before .before .before in
+    let s = c .before .before .before .before .before .before .before .before in
     (subst (λ (m : ℕ). 2 * s .args .levels < m) (s .pre .0) (omega arith), (s .pre .1 .0, s .pre .1 .1 .1))
 
 pair-visit-returns : (t : ℕ) → pair-visit-lts.Need-returns (pair-calls t) (pair-visit-at t) pair-visit.Post

@@ -5,7 +5,7 @@ use Prim.Native.Nat.{ℕ, suc}
 use borrow.Author.Tests.{eq-eqb, ne-eqb}
 use lib.Ieee.{Float}
 use Rattle.names.specs.Numbers.{depthLimit}
-use Rattle.names.specs.Scene.{Scene, Sound, sceneOf}
+use Rattle.names.specs.Scene.{Scene, Sound, treeScene}
 use Rattle.vectors.specs.declared.Ray.{Ray}
 use Rattle.scan.specs.declared.Nearest.the-variants.{Nothing}
 use Rattle.tree.specs.Tree.{boxCount, AcceptedTree}
@@ -29,24 +29,24 @@ module _ (scene : Scene) (sound : Sound scene) (boxes : List Float) (nodes order
 
 returns : tie.Need-returns
 returns c =
-    let s = c .before .before .before .before .before .before .before .before in
+    let s = c .before .before .before .before .before .before .before .before .before in
     let a = s .args in
-    empty-tree (sceneOf (a .points .now) (a .uses .now) (a .kinds .now) (a .numbers .now)) (s .pre .0) _ _ _ (s .pre .1) _ (c .if1 .taken)
+    empty-tree (treeScene (a .points .now) (a .uses .now) (a .kinds .now) (a .numbers .now) (a .boxes .now) (a .nodes .now) (a .order .now)) (s .pre .0) _ _ _ (s .pre .1 .0) _ (c .if1 .taken)
 
 add-node-visit : tie.Need-add-node-visit
 add-node-visit c = search needs
 
 node-visit-requires : tie.Need-node-visit-requires
 node-visit-requires c κs =
-    let s = c .before .before .before .before .before .before .before .before in
+    let s = c .before .before .before .before .before .before .before .before .before in
     let a = s .args in
-    (accepted-fits (sceneOf (a .points .now) (a .uses .now) (a .kinds .now) (a .numbers .now)) (s .pre .0) _ _ _ (s .pre .1), positive _ (c .if1 .left))
+    (accepted-fits (treeScene (a .points .now) (a .uses .now) (a .kinds .now) (a .numbers .now) (a .boxes .now) (a .nodes .now) (a .order .now)) (s .pre .0) _ _ _ (s .pre .1 .0) _ (s .pre .1 .1), positive _ (c .if1 .left))
 
 returns-2 : tie.Need-returns-2
 returns-2 c =
-    let s = c .before .before .before .before .before .before .before .before .before in
+    let s = c .before .before .before .before .before .before .before .before .before .before in
     let a = s .args in
-    c .node-visit .ensures ∙ from-root (sceneOf (a .points .now) (a .uses .now) (a .kinds .now) (a .numbers .now)) (s .pre .0) _ _ _ (s .pre .1) _ (c .before .if1 .left)
+    c .node-visit .ensures ∙ from-root (treeScene (a .points .now) (a .uses .now) (a .kinds .now) (a .numbers .now) (a .boxes .now) (a .nodes .now) (a .order .now)) (s .pre .0) _ _ _ (s .pre .1 .0) _ (c .before .if1 .left)
 
 pub nearest-spec : {M : Type 1} → statement M
 nearest-spec = tie.close (tie.spec returns add-node-visit node-visit-requires returns-2)
