@@ -6,11 +6,16 @@ use Prim.Native.Nat.{ℕ, zero, suc}
 use lib.ListN.{length}
 use lib.Ieee.{Float}
 use Rattle.names.specs.Bits.{one32}
-use Rattle.names.specs.Scene.{Scene, sceneFor}
+use Rattle.names.specs.Scene.{Scene, sceneFor, Sound}
 use Rattle.vectors.specs.declared.Ray.{Ray}
 use Rattle.hits.specs.Hits.{Struck, hitsOf, placesOf}
 use Rattle.scan.specs.Nearest.{nearestTo, nearestOf}
 use Rattle.scan.specs.Transmittance.{passOf, transmittanceOf}
+
+-- whether a scene's lists fit each other is asked of four lists alone
+pub sound-unread : {points : List Float} {uses kinds : List ℕ} {numbers boxes boxes′ : List Float} {nodes order nodes′ order′ : List ℕ} (boxed boxed′ : Bool)
+    → Sound (sceneFor boxed points uses kinds numbers boxes nodes order) → Sound (sceneFor boxed′ points uses kinds numbers boxes′ nodes′ order′)
+sound-unread boxed boxed′ s = record { points = s .points; numbers = s .numbers; triangles = s .triangles; materials = s .materials; within = s .within }
 
 module _ (boxed : Bool) (points : List Float) (uses kinds : List ℕ) (numbers boxes boxes′ : List Float) (nodes order nodes′ order′ : List ℕ) (ray : Ray) where
   abbrev one : Scene
