@@ -402,7 +402,21 @@ fn see_sky(
     let mut j = 0;
     while j < 4 {
         let ray = sky_ray(setting, surface, basis, &table, j);
-        seen = see(points, uses, kinds, numbers, ray, seen, distances, places);
+        seen = see(
+            points,
+            uses,
+            kinds,
+            numbers,
+            boxed,
+            boxes,
+            nodes,
+            order,
+            turned,
+            ray,
+            seen,
+            distances,
+            places,
+        );
         j += 1;
     }
     seen

@@ -12,13 +12,16 @@ light-sun-requires : tie.Need-light-sun-requires
 light-sun-requires c κs = search needs
 
 light-sky-requires : tie.Need-light-sky-requires
-light-sky-requires c κs = search needs
+light-sky-requires c κs =
+    let u = c .before .before .before .before .before .before in
+    let s = u .before .before .before .before .before .before .before .before .before .before .before .before .before in
+    (s .pre .0, ((omega (arith, u .light-sun .kept .1 .1 .1 .1 .1 .1 .1 .1 .1 .1 .1 .0, s .pre .1 .0 .0), omega (arith, u .light-sun .kept .1 .1 .1 .1 .1 .1 .1 .1 .1 .1 .1 .1 .0, s .pre .1 .0 .1)), s .pre .1 .1))
 
 add-requires : tie.Need-add-requires
 add-requires c κs = search needs
 
-add-t20 : tie.Need-add-t20
-add-t20 c =
+add-t25 : tie.Need-add-t25
+add-t25 c =
     let sun = c .before .before .before .before .before .before .before .before .before .before .before .before .before .before .light-sun in
     let sky = c .before .before .before .before .before .before .before .light-sky in
     let h : sun .result .rays ≤ 1 = rw (sun .ensures) (sun-most _ _ _) in
@@ -36,4 +39,4 @@ unfolding daylightOf
 returns c = rw (← c .before .before .before .before .before .before .before .before .before .before .before .before .before .before .light-sun .ensures, ← c .before .before .before .before .before .before .before .light-sky .ensures, ← c .before .before .add .ensures)
 
 pub light-day-spec : {M : Type 1} → statement M
-light-day-spec = tie.close (tie.spec light-sun-requires light-sky-requires add-requires add-t20 same-length same-length-2 returns)
+light-day-spec = tie.close (tie.spec light-sun-requires light-sky-requires add-requires add-t25 same-length same-length-2 returns)

@@ -8,7 +8,7 @@ use native.Mathlib.Omega.{arith}
 use lib.ListN.{length}
 use lib.Ieee.{Float}
 use borrow.Author.Needs.{needs}
-use Rattle.names.specs.Scene.{Scene, sceneOf}
+use Rattle.names.specs.Scene.{Scene, sceneFor}
 use Rattle.lists.specs.Fold.{fold, fold-step, fold-end}
 use Rattle.surface.specs.declared.Setting.{Setting}
 use Rattle.surface.specs.declared.Surface.{Surface}
@@ -34,7 +34,7 @@ abbrev μ-loop : tie.MeasureT-loop
     n - j
 
 light-day-requires : tie.Need-light-day-requires Inv-loop μ-loop
-light-day-requires c κs = let s = c .before .before .before .before .before .before .before .before .before .before .before .before .before in (s .pre .0, s .pre .1 .1 .0)
+light-day-requires c κs = let s = c .before .before .before .before .before .before .before .before .before .before .before .before .before in (s .pre .0, (s .pre .1 .1 .0, s .pre .1 .1 .1))
 
 lamp-count-requires : tie.Need-lamp-count-requires Inv-loop μ-loop
 lamp-count-requires c κs = search needs
@@ -59,7 +59,8 @@ light-lamp-requires : tie.Need-light-lamp-requires Inv-loop μ-loop
 light-lamp-requires c κs =
     let s = c .before .before .before .before .before .before .before .before .before .before .before .before .before .before .before .before .before .before .before .before .before .before .before .before in
     let t = c .before .before .before .before .loop .inv in
-    (s .pre .0, ((omega (arith, t .distances, s .pre .1 .1 .0 .0), omega (arith, t .places, s .pre .1 .1 .0 .1)), omega (arith, t .rays, t .below, c .before .before .before .before .before .lamp-count .ensures, s .pre .1 .0)))
+    let day = c .before .before .before .before .before .before .before .before .before .before .light-day in
+    (s .pre .0, ((omega (arith, t .distances, day .kept .1 .1 .1 .1 .1 .1 .1 .1 .1 .1 .1 .0, s .pre .1 .1 .0 .0), omega (arith, t .places, day .kept .1 .1 .1 .1 .1 .1 .1 .1 .1 .1 .1 .1 .0, s .pre .1 .1 .0 .1)), (omega (arith, t .rays, t .below, c .before .before .before .before .before .lamp-count .ensures, s .pre .1 .0), s .pre .1 .1 .1)))
 
 add-j : tie.Need-add-j Inv-loop μ-loop
 add-j c = omega (arith, c .before .before .before .before .before .before .before .before .before .loop .inv .below, c .before .before .before .before .before .before .before .before .loop-test .taken, c .before .before .before .before .before .before .before .before .before .before .lamp-count .ensures, c .before .before .before .before .before .before .before .before .before .before .before .before .before .before .before .before .before .before .before .before .before .before .before .before .before .before .before .before .before .pre .1 .0)
@@ -79,8 +80,8 @@ loop-again c =
     record {
       below = omega (arith, h);
       rays = omega (arith, m, t .rays);
-      distances = omega (arith, t .distances, r .kept .1 .1 .1 .1 .1 .1 .1 .1 .0);
-      places = omega (arith, t .places, r .kept .1 .1 .1 .1 .1 .1 .1 .1 .1 .0);
+      distances = omega (arith, t .distances, r .kept .1 .1 .1 .1 .1 .1 .1 .1 .1 .1 .1 .1 .1 .0);
+      places = omega (arith, t .places, r .kept .1 .1 .1 .1 .1 .1 .1 .1 .1 .1 .1 .1 .1 .1 .0);
       left = rw (r .ensures, c .before .before .before .before .before .before .before .lamp-at .ensures) (sym (fold-step f (l .loop .j) _ (l .loop .fallen) h) ∙ t .left);
     }
 

@@ -19,7 +19,7 @@ lamp-ray-requires : tie.Need-lamp-ray-requires
 lamp-ray-requires c κs = search needs
 
 transmittance-requires : tie.Need-transmittance-requires
-transmittance-requires c κs = search needs
+transmittance-requires c κs = let s = c .before .before .before .before .before .before .before .before .before .before .before .before .before .before .before .before in (s .pre .0, (s .pre .1 .0, s .pre .1 .1 .1))
 
 lamplight-requires : tie.Need-lamplight-requires
 lamplight-requires c κs = search needs
@@ -27,8 +27,8 @@ lamplight-requires c κs = search needs
 add-requires : tie.Need-add-requires
 add-requires c κs = search needs
 
-add-t21 : tie.Need-add-t21
-add-t21 c = omega (arith, c .before .before .before .before .before .before .before .before .before .before .before .before .before .before .before .before .before .before .before .before .before .before .before .before .pre .1 .1 .0)
+add-t26 : tie.Need-add-t26
+add-t26 c = omega (arith, c .before .before .before .before .before .before .before .before .before .before .before .before .before .before .before .before .before .before .before .before .before .before .before .before .pre .1 .1 .0)
 
 same-length : tie.Need-same-length
 same-length c = search needs
@@ -52,7 +52,7 @@ light-lamp-spec =
     transmittance-requires
     lamplight-requires
     add-requires
-    add-t21
+    add-t26
     same-length
     same-length-2
     returns-2)

@@ -7,8 +7,8 @@ use Rattle.surface.proofs.inner.see.Tie as tie
 transmittance-requires : tie.Need-transmittance-requires
 transmittance-requires c κs = search needs
 
-add-t15 : tie.Need-add-t15
-add-t15 c = search needs
+add-t20 : tie.Need-add-t20
+add-t20 c = search needs
 
 same-length : tie.Need-same-length
 same-length c = search needs
@@ -21,4 +21,4 @@ unfolding seenBy
 returns c = rw (← c .before .before .before .before .before .before .transmittance .ensures)
 
 pub see-spec : {M : Type 1} → statement M
-see-spec = tie.close (tie.spec transmittance-requires add-t15 same-length same-length-2 returns)
+see-spec = tie.close (tie.spec transmittance-requires add-t20 same-length same-length-2 returns)

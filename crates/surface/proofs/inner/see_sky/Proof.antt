@@ -7,7 +7,7 @@ use native.Mathlib.Omega.{arith}
 use lib.ListN.{length}
 use lib.Ieee.{Float}
 use borrow.Author.Needs.{needs}
-use Rattle.names.specs.Scene.{Scene, sceneOf}
+use Rattle.names.specs.Scene.{Scene, sceneFor}
 use Rattle.lists.specs.Fold.{fold, fold-step, fold-end}
 use Rattle.surface.specs.declared.Setting.{Setting}
 use Rattle.surface.specs.declared.Surface.{Surface}
@@ -48,7 +48,7 @@ see-requires : tie.Need-see-requires Inv-loop μ-loop
 see-requires c κs =
     let s = c .before .before .before .before .before .before .before .before .before .before .before .before .before .before .before .before .before .before in
     let t = c .before .before .before .before .before .loop .inv in
-    (s .pre .0, ((omega (arith, t .distances, s .pre .1 .0 .0), omega (arith, t .places, s .pre .1 .0 .1)), omega (arith, t .rays, c .before .before .before .before .loop-test .taken)))
+    (s .pre .0, ((omega (arith, t .distances, s .pre .1 .0 .0), omega (arith, t .places, s .pre .1 .0 .1)), (omega (arith, t .rays, c .before .before .before .before .loop-test .taken), s .pre .1 .1)))
 
 add-j : tie.Need-add-j Inv-loop μ-loop
 add-j c = omega arith
@@ -65,7 +65,7 @@ loop-again c =
     let a = l .before .before .before .before .before .before .before .before .before .before .before .before .before .args in
     let f = seenAfter (sceneFor (a .boxed) (a .points .now) (a .uses .now) (a .kinds .now) (a .numbers .now) (a .boxes .now) (a .nodes .now) (a .order .now)) (a .setting) (a .surface) in
     let h = c .before .before .before .before .before .before .before .before .before .loop-test .taken in
-    record { below = omega arith; rays = ap (λ (s : Seen). s .rays) (r .ensures) ∙ omega (arith, t .rays); distances = omega (arith, t .distances, r .kept .1 .1 .1 .1 .1 .1 .0); places = omega (arith, t .places, r .kept .1 .1 .1 .1 .1 .1 .1 .0); left = rw (r .ensures, c .before .before .before .before .before .before .before .sky-ray .ensures, l .before .basis-of .ensures) (sym (fold-step f (l .loop .j) 4 (l .loop .seen) h) ∙ t .left) }
+    record { below = omega arith; rays = ap (λ (s : Seen). s .rays) (r .ensures) ∙ omega (arith, t .rays); distances = omega (arith, t .distances, r .kept .1 .1 .1 .1 .1 .1 .1 .1 .1 .1 .1 .0); places = omega (arith, t .places, r .kept .1 .1 .1 .1 .1 .1 .1 .1 .1 .1 .1 .1 .0); left = rw (r .ensures, c .before .before .before .before .before .before .before .sky-ray .ensures, l .before .basis-of .ensures) (sym (fold-step f (l .loop .j) 4 (l .loop .seen) h) ∙ t .left) }
 
 same-length : tie.Need-same-length Inv-loop μ-loop
 same-length c = c .before .loop .inv .distances
