@@ -1,12 +1,13 @@
-// The resumable bake of a volume of spherical harmonics, with hit scratch or between solid walls. Document 01, module 7; lamps by document 02, C-12, progress by
-// C-16, and solid walls by C-22.
+// The resumable bake of a volume of spherical harmonics, with hit scratch, between solid walls or through a box tree. Document 01, module 7; lamps by document 02, C-12,
+// progress by C-16, solid walls by C-22, trees by C-20.
 ghost use mathlib.Core.Path.{_≡_};
 ghost use mathlib.Core.Bool.{cond};
 ghost use Prim.Native.Nat.{_+_, _*_, _≤_, _<_};
 ghost use lib.Dec.{eqb};
 ghost use lib.ListN.{length};
 ghost use Rattle.names.specs.Numbers.{voxelLimit};
-ghost use Rattle.names.specs.Scene.{sceneOf};
+ghost use Rattle.names.specs.Scene.{sceneOf, sceneFor, treeScene};
+ghost use Rattle.tracing.specs.Through.{Through};
 ghost use Rattle.grid.specs.Grid.{voxels};
 ghost use Rattle.words.specs.Words.{entriesOf, Tidy};
 ghost use Rattle.spread.specs.Spread.{stage, accepted};
@@ -21,6 +22,7 @@ use grid::Corners;
 use limits::Ambient;
 use limits::Light;
 use spread::Progress;
+use tree_walk::TURNED_NUMBERS;
 use walk::Reached;
 
 // The number of a refusal, 0 where there is none; the progress to go on with; the rays that the call fired.
@@ -59,6 +61,8 @@ pub fn bake(
         (stage progress (now (volume .entry)) (now (scratch .entry))) allowance
         r (now (volume .exit)) (now (scratch .exit)) (now (distances .entry)) (now (distances .exit)) (now (places .entry)) (now (places .exit)) ⌝ }
 {
+    let none = [0.0f32; 0];
+    let no_node = [0u32; 0];
     let refusal = intake::inner::judge(
         false,
         axes,
@@ -67,6 +71,10 @@ pub fn bake(
         uses,
         kinds,
         numbers,
+        false,
+        &none,
+        &no_node,
+        &no_node,
         light,
         ambient,
         sky,
@@ -90,6 +98,11 @@ pub fn bake(
         uses,
         kinds,
         numbers,
+        false,
+        &none,
+        &no_node,
+        &no_node,
+        &none,
         light,
         ambient,
         sky,
@@ -132,6 +145,8 @@ pub fn solid_bake(
         (stage progress (now (volume .entry)) (now (scratch .entry))) allowance
         r (now (volume .exit)) (now (scratch .exit)) ⌝ }
 {
+    let none = [0.0f32; 0];
+    let no_node = [0u32; 0];
     let refusal = intake::inner::judge(
         true,
         axes,
@@ -140,6 +155,10 @@ pub fn solid_bake(
         uses,
         kinds,
         numbers,
+        false,
+        &none,
+        &no_node,
+        &no_node,
         light,
         ambient,
         sky,
@@ -165,6 +184,11 @@ pub fn solid_bake(
         uses,
         kinds,
         numbers,
+        false,
+        &none,
+        &no_node,
+        &no_node,
+        &none,
         light,
         ambient,
         sky,
@@ -175,6 +199,96 @@ pub fn solid_bake(
         scratch,
         &mut distances,
         &mut places,
+        progress,
+        allowance,
+    );
+    answered(progress, r)
+}
+
+// The same through a box tree of the scene, with hit scratch: only triangles whose own padded box is not passed over are candidates of a ray. Refuses 1 to 7, 19,
+// 16 where the tree is not accepted, 9, 10 and 13, in that order.
+pub fn tree_bake(
+    axes: Axes,
+    corners: Corners,
+    points: &[f32],
+    uses: &[u32],
+    kinds: &[u8],
+    numbers: &[f32],
+    boxes: &[f32],
+    nodes: &[u32],
+    order: &[u32],
+    light: Light,
+    ambient: Ambient,
+    sky: &[f32],
+    lamps: &[f32],
+    active: &[u64],
+    lights: &[f32],
+    volume: &mut [f32],
+    scratch: &mut [f32],
+    distances: &mut [f32],
+    places: &mut [usize],
+    progress: Progress,
+    allowance: u64,
+) -> BakeAnswer
+    ensures { λ r. ⌜ Baked
+        (inputOf axes corners (treeScene (now (points .entry)) (now (uses .entry)) (now (kinds .entry)) (now (numbers .entry)) (now (boxes .entry)) (now (nodes .entry)) (now (order .entry)))
+        light ambient (now (sky .entry)) (now (lamps .entry)) (now (active .entry)) (now (lights .entry))
+        (length (now (distances .entry))) (length (now (places .entry))))
+        (stage progress (now (volume .entry)) (now (scratch .entry))) allowance
+        r (now (volume .exit)) (now (scratch .exit)) (now (distances .entry)) (now (distances .exit)) (now (places .entry)) (now (places .exit)) ⌝ }
+{
+    let refusal = intake::inner::judge(
+        false,
+        axes,
+        corners,
+        points,
+        uses,
+        kinds,
+        numbers,
+        true,
+        boxes,
+        nodes,
+        order,
+        light,
+        ambient,
+        sky,
+        lamps,
+        active,
+        lights,
+        volume,
+        scratch,
+        distances.len(),
+        places.len(),
+        progress,
+        allowance,
+    );
+    if refusal != 0 {
+        return refused(refusal, progress);
+    }
+    let mut turned = [0.0f32; TURNED_NUMBERS];
+    tree_walk::inner::turn(points, order, &mut turned);
+    let r = go_on(
+        axes,
+        corners,
+        points,
+        uses,
+        kinds,
+        numbers,
+        true,
+        boxes,
+        nodes,
+        order,
+        &turned,
+        light,
+        ambient,
+        sky,
+        lamps,
+        active,
+        lights,
+        volume,
+        scratch,
+        distances,
+        places,
         progress,
         allowance,
     );
@@ -216,6 +330,11 @@ fn go_on(
     uses: &[u32],
     kinds: &[u8],
     numbers: &[f32],
+    boxed: bool,
+    boxes: &[f32],
+    nodes: &[u32],
+    order: &[u32],
+    turned: &[f32],
     light: Light,
     ambient: Ambient,
     sky: &[f32],
@@ -230,12 +349,13 @@ fn go_on(
     allowance: u64,
 ) -> Reached
     requires { ⌜ Fits
-        (inputOf axes corners (sceneOf (now points) (now uses) (now kinds) (now numbers)) light ambient (now sky) (now lamps) (now active) (now lights)
+        (inputOf axes corners (sceneFor boxed (now points) (now uses) (now kinds) (now numbers) (now boxes) (now nodes) (now order)) light ambient (now sky) (now lamps) (now active) (now lights)
         (length (now distances)) (length (now places)))
         (stage progress (now volume) (now scratch)) allowance ⌝ }
+    requires { ⌜ Through (sceneFor boxed (now points) (now uses) (now kinds) (now numbers) (now boxes) (now nodes) (now order)) (now turned) ⌝ }
     ensures { λ r. ⌜ Accepts
         (accepted
-        (bakeOf (inputOf axes corners (sceneOf (now (points .entry)) (now (uses .entry)) (now (kinds .entry)) (now (numbers .entry)))
+        (bakeOf (inputOf axes corners (sceneFor boxed (now (points .entry)) (now (uses .entry)) (now (kinds .entry)) (now (numbers .entry)) (now (boxes .entry)) (now (nodes .entry)) (now (order .entry)))
         light ambient (now (sky .entry)) (now (lamps .entry)) (now (active .entry)) (now (lights .entry))
         (length (now (distances .entry))) (length (now (places .entry)))))
         allowance (stage progress (now (volume .entry)) (now (scratch .entry))))
@@ -255,6 +375,11 @@ fn go_on(
         uses,
         kinds,
         numbers,
+        boxed,
+        boxes,
+        nodes,
+        order,
+        turned,
         light,
         ambient,
         sky,

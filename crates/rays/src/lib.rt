@@ -1,9 +1,11 @@
 // The public calls over rays: the test of one triangle, the nearest hit, and how much light passes, with hit scratch, between solid walls, or through a box tree. Each tests its input first; a refusal answers
 // its number and writes nothing.
 ghost use mathlib.Core.Path.{_≡_};
+ghost use mathlib.Core.Bool.{false};
 ghost use lib.ListN.{length};
 ghost use Rattle.names.specs.Refusals.{firstOf};
 ghost use Rattle.names.specs.Scene.{sceneOf, sceneFor};
+ghost use Rattle.limits.specs.Limits.{wrongScene};
 ghost use Rattle.rays.specs.Rays.{meetRefusal, scanRows, metCase, foundCase, MeetAnswered, NearestAnswered, TransmittanceAnswered, SolidTransmittanceAnswered, TreeNearestAnswered, TreeTransmittanceAnswered};
 use scan::Nearest;
 use tree_walk::TURNED_NUMBERS;
@@ -304,6 +306,7 @@ fn scene_refusal(
     order: &[u32],
     ray: Ray,
 ) -> u32
+    requires { ⌜ (wrong ≡ false → wrongScene (now points) (now uses) (now kinds) (now numbers) ≡ false) ⌝ }
     ensures { λ r. ⌜ r ≡ firstOf (scanRows solid wrong (sceneFor boxed (now (points .entry)) (now (uses .entry)) (now (kinds .entry)) (now (numbers .entry)) (now (boxes .entry)) (now (nodes .entry)) (now (order .entry))) ray) ⌝ }
 {
     if wrong {

@@ -10,11 +10,12 @@ use lib.Ieee as Ieee
 use lib.Ieee.{Float, nan, inf, fin, isNan, ofBits}
 use Rattle.names.specs.Bits.{zero32}
 use Rattle.names.specs.Numbers.{thinLimit}
-use Rattle.names.specs.Scene.{Scene}
+use Rattle.names.specs.Scene.{Scene, sceneOf, sceneFor}
 use Rattle.lists.specs.Fold.{fold}
 use Rattle.floats.specs.Choice.{largerOf}
 use Rattle.vectors.specs.Vectors.{addV, dotV}
 use Rattle.vectors.specs.declared.Vec3.{Vec3}
+use Rattle.vectors.specs.declared.Ray.{Ray}
 use Rattle.limits.specs.declared.Lamp.{Lamp}
 use Rattle.limits.specs.Limits.{lampCount, lampAt}
 use Rattle.harmonics.specs.Harmonics.{raisedV, zeroV}
@@ -24,7 +25,7 @@ use Rattle.surface.specs.declared.Setting.{Setting}
 use Rattle.surface.specs.declared.Surface.{Surface}
 use Rattle.surface.specs.declared.Traced.{Traced}
 use Rattle.surface.specs.Extra.{reaching, extraRays}
-use Rattle.surface.specs.Surface.{traced, seenBy, seenOf, skyOf, sunOf, daylightOf, litBy, litAfter, fallenOn, bouncedBy}
+use Rattle.surface.specs.Surface.{surfaceOf, traced, seenBy, seenOf, skyOf, sunOf, daylightOf, litBy, litAfter, fallenOn, bouncedBy}
 
 -- n·l raised to 0 is above 0 exactly where n·l is
 raised-above : (x : Float) → Ieee.lt zero32 (largerOf x zero32) ≡ Ieee.lt zero32 x
@@ -37,6 +38,12 @@ raised-above (fin s m e) = go (Ieee.lt zero32 (fin s m e)) refl
     go : (b : Bool) → Ieee.lt zero32 (fin s m e) ≡ b → Ieee.lt zero32 (cond b (fin s m e) zero32) ≡ b
     go true h = h
     go false h = refl
+
+-- a surface is that of the triangle's points and material alone, whether the scene comes with a box tree or not
+pub surface-unread : (boxed : Bool) (points : List Float) (uses kinds : List ℕ) (numbers boxes : List Float) (nodes order : List ℕ) (ray : Ray) (place : ℕ) (distance hit : Float)
+    → surfaceOf (sceneFor boxed points uses kinds numbers boxes nodes order) ray place distance hit ≡ surfaceOf (sceneOf points uses kinds numbers) ray place distance hit
+unfolding surfaceOf
+surface-unread boxed points uses kinds numbers boxes nodes order ray place distance hit = refl
 
 -- "else 4"
 pub sky-rays : (scene : Scene) (setting : Setting) (surface : Surface) → skyOf scene setting surface .rays ≡ 4

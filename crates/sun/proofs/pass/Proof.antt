@@ -44,8 +44,8 @@ returns c =
 
 trace-requires : tie.Need-trace-requires
 trace-requires c κs =
-    let r = c .before .before .before .before .before .before .before .before .before .before .before .before .before .before .before .before .before .before .pre .0 in
-    (r .traceable, (r .tidy, r .scratch-fits))
+    let s = c .before .before .before .before .before .before .before .before .before .before .before .before .before .before .before .before .before .before in
+    (s .pre .0 .traceable, ((s .pre .0 .tidy, s .pre .0 .scratch-fits), s .pre .1))
 
 square-requires : tie.Need-square-requires
 square-requires c κs =

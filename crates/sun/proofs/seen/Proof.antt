@@ -11,8 +11,8 @@ ray-from-requires c κs = search needs
 
 transmittance-requires : tie.Need-transmittance-requires
 transmittance-requires c κs =
-    let p = c .before .before .before .before .before .before .before .before .before .before .before .before .before .before .pre .0 in
-    (p .scene-fits, p .hits-fit)
+    let s = c .before .before .before .before .before .before .before .before .before .before .before .before .before .before in
+    (s .pre .0 .scene-fits, (s .pre .0 .hits-fit, s .pre .1 .1))
 
 same-length : tie.Need-same-length
 same-length c = search needs

@@ -77,13 +77,15 @@ loop-holds c =
 seen-requires : tie.Need-seen-requires Inv-loop μ-loop
 seen-requires c κs =
     let a = c .before .before .before in
-    let p = a .before .before .before .before .before .before .before .before .before .before .before .before .before .before .before .before .before .before .before .before .before .before .pre .0 in (
+    let s = a .before .before .before .before .before .before .before .before .before .before .before .before .before .before .before .before .before .before .before .before .before .before in
+    let p = s .pre .0 in
+    let t = s .pre .1 .1 in (
       record {
         axes-fit = p .axes-fit;
         scene-fits = p .scene-fits;
         hits-fit = (omega (arith, p .hits-fit .0, a .loop .inv .2), omega (arith, p .hits-fit .1, a .loop .inv .3));
       },
-      omega (arith, a .loop .inv .0),
+      (omega (arith, a .loop .inv .0), t),
     )
 
 mul-before : tie.Need-mul-before Inv-loop μ-loop

@@ -7,7 +7,7 @@ use native.Mathlib.Omega.{arith}
 use lib.ListN.{length}
 use lib.Ieee.{Float}
 use borrow.Author.Needs.{needs}
-use Rattle.names.specs.Scene.{Scene, sceneOf}
+use Rattle.names.specs.Scene.{Scene, sceneFor}
 use Rattle.lists.specs.Fold.{fold, fold-step, fold-end}
 use Rattle.vectors.specs.declared.Vec3.{Vec3}
 use Rattle.surface.specs.declared.Setting.{Setting}
@@ -50,7 +50,7 @@ gather-along-requires c κs =
     let s = c .before .before .before .before .before .before .before .before .before .before .before .before .before .before .before .before .before in
     let t = c .before .before .before .loop .inv in
     let q = s .pre .1 .1 .1 .0 in
-    (s .pre .0, (s .pre .1 .0, ((omega (arith, t .distances, s .pre .1 .1 .0 .0), omega (arith, t .places, s .pre .1 .1 .0 .1)), ((q .0, q .1, omega (arith, q .2, c .before .before .loop-test .taken)), (omega (arith, t .rays, t .below), omega (arith, t .misses, t .below))))))
+    (s .pre .0, (s .pre .1 .0, ((omega (arith, t .distances, s .pre .1 .1 .0 .0), omega (arith, t .places, s .pre .1 .1 .0 .1)), ((q .0, q .1, omega (arith, q .2, c .before .before .loop-test .taken)), ((omega (arith, t .rays, t .below), omega (arith, t .misses, t .below)), s .pre .1 .1 .1 .1)))))
 
 add-i : tie.Need-add-i Inv-loop μ-loop
 add-i c = omega arith
@@ -68,7 +68,7 @@ loop-again c =
     let f = alongFrom (sceneFor (a .boxed) (a .points .now) (a .uses .now) (a .kinds .now) (a .numbers .now) (a .boxes .now) (a .nodes .now) (a .order .now)) (a .lamps .now) (a .setting) (a .centre) (a .sky .now) (a .first) in
     let h = c .before .before .before .before .before .before .before .loop-test .taken in
     let g = along-adds (sceneFor (a .boxed) (a .points .now) (a .uses .now) (a .kinds .now) (a .numbers .now) (a .boxes .now) (a .nodes .now) (a .order .now)) (a .lamps .now) (a .setting) (a .centre) (a .sky .now) (a .first + l .loop .i) (l .loop .gathering) in
-    record { below = omega arith; rays = rw (r .ensures) (omega (arith, t .rays, g .0, s .pre .1 .0)); misses = rw (r .ensures) (omega (arith, t .misses, g .1)); distances = omega (arith, t .distances, r .kept .1 .1 .1 .1 .1 .1 .1 .1 .1 .1 .1 .0); places = omega (arith, t .places, r .kept .1 .1 .1 .1 .1 .1 .1 .1 .1 .1 .1 .1 .0); left = rw (r .ensures) (sym (fold-step f (l .loop .i) 64 (l .loop .gathering) h) ∙ t .left) }
+    record { below = omega arith; rays = rw (r .ensures) (omega (arith, t .rays, g .0, s .pre .1 .0)); misses = rw (r .ensures) (omega (arith, t .misses, g .1)); distances = omega (arith, t .distances, r .kept .1 .1 .1 .1 .1 .1 .1 .1 .1 .1 .1 .1 .1 .1 .1 .1 .0); places = omega (arith, t .places, r .kept .1 .1 .1 .1 .1 .1 .1 .1 .1 .1 .1 .1 .1 .1 .1 .1 .1 .0); left = rw (r .ensures) (sym (fold-step f (l .loop .i) 64 (l .loop .gathering) h) ∙ t .left) }
 
 same-length : tie.Need-same-length Inv-loop μ-loop
 same-length c = c .before .loop .inv .distances

@@ -21,19 +21,19 @@ primary-ray-requires : tie.Need-primary-ray-requires
 primary-ray-requires c κs = search needs
 
 look-requires : tie.Need-look-requires
-look-requires c κs = let s = c .before .before .before .before .before .before .before .before .before .before .before .before .before .before .before .before .before in (s .pre .0, (s .pre .1 .0, s .pre .1 .1 .0))
+look-requires c κs = let s = c .before .before .before .before .before .before .before .before .before .before .before .before .before .before .before .before .before in (s .pre .0, (s .pre .1 .0, (s .pre .1 .1 .0, s .pre .1 .1 .1 .1 .1)))
 
 add-radiance-requires : tie.Need-add-radiance-requires
 add-radiance-requires c κs = search needs
 
-add-t19 : tie.Need-add-t19
-add-t19 c =
+add-t24 : tie.Need-add-t24
+add-t24 c =
     let look = c .before .before .before .before .before .before .before .look in
     let h : look .result .misses ≤ 1 = rw (look .ensures) (incoming-costs _ _ _ _ _ _ .missed) in
     omega (arith, c .before .before .before .before .before .before .before .before .before .before .before .before .before .before .before .before .before .before .before .before .before .before .before .before .before .pre .1 .1 .1 .1 .0 .1)
 
-add-t24 : tie.Need-add-t24
-add-t24 c =
+add-t29 : tie.Need-add-t29
+add-t29 c =
     let look = c .before .before .before .before .before .before .before .before .before .look in
     let s = c .before .before .before .before .before .before .before .before .before .before .before .before .before .before .before .before .before .before .before .before .before .before .before .before .before .before .before in
     let h : look .result .rays ≤ 6 + lampCount (s .args .lamps .now) = rw (look .ensures) (incoming-costs _ _ _ _ _ _ .most) in
@@ -50,4 +50,4 @@ unfolding gatheredAlong
 returns c = rw (← c .before .before .before .before .before .before .before .before .before .before .before .before .before .before .direction-at .ensures, ← c .before .before .before .before .before .before .before .before .before .before .before .before .before .vec-at .ensures, ← c .before .before .before .before .before .before .before .before .before .before .before .before .primary-ray .ensures, ← c .before .before .before .before .before .before .before .before .before .look .ensures, ← c .before .before .before .before .add-radiance .ensures)
 
 pub gather-along-spec : {M : Type 1} → statement M
-gather-along-spec = tie.close (tie.spec direction-at-requires mul-vec-at vec-at-requires primary-ray-requires look-requires add-radiance-requires add-t19 add-t24 same-length same-length-2 returns)
+gather-along-spec = tie.close (tie.spec direction-at-requires mul-vec-at vec-at-requires primary-ray-requires look-requires add-radiance-requires add-t24 add-t29 same-length same-length-2 returns)

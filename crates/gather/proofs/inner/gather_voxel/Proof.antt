@@ -22,7 +22,7 @@ handed c =
     gatherOf (a .axes) (a .corners) (sceneFor (a .boxed) (a .points .now) (a .uses .now) (a .kinds .now) (a .numbers .now) (a .boxes .now) (a .nodes .now) (a .order .now)) (a .light) (a .ambient) (a .sky .now) (a .lamps .now) (a .lights .now)
 
 -- what is gathered is the definition's fold
-whole : (c : tie.After-gather-all) → c .gather-all .result ≡ voxelOf (handed (c .before .before .before .before .before .before .before .before .before .before .before .before .before .before .before .before .before)) (c .before .before .before .before .before .before .before .before .before .before .before .before .before .before .before .before .before .before .before .before .before .args .i)
+whole : (c : tie.After-gather-all) → c .gather-all .result ≡ voxelOf (handed (c .before .before .before .before .before .before .before .before .before .before .before .before .before .before .before .before .before .before .before .before .before)) (c .before .before .before .before .before .before .before .before .before .before .before .before .before .before .before .before .before .before .before .before .before .args .i)
 unfolding voxelOf
 whole c =
     let first = c .before .before .before in
@@ -46,7 +46,7 @@ gather-all-requires c κs =
     let p = s .pre .0 in
     let a = s .args .axes in
     let i = s .args .i in
-    (p .scene, (p .lamps, ((p .distances, p .places), (p .sky, s .pre .1 .0, omega (arith, c .before .before .first-of .ensures, set-below (xOf a i) (yOf a i) (zOf a i))))))
+    (p .scene, (p .lamps, ((p .distances, p .places), ((p .sky, s .pre .1 .0, omega (arith, c .before .before .first-of .ensures, set-below (xOf a i) (yOf a i) (zOf a i))), s .pre .1 .1))))
 
 coefficients-of-requires : tie.Need-coefficients-of-requires
 coefficients-of-requires c κs = search needs

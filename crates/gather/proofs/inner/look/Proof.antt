@@ -23,10 +23,10 @@ from-surface-requires : tie.Need-from-surface-requires
 from-surface-requires c κs =
     let s = c .before .before .before .before .before .before .before .before .before .before .before .before .before .before .before .before .before in
     let met = sym (c .before .before .before .before .before .nearest .ensures) ∙ c .before .before .before .found .given .1 in
-    (s .pre .0, (s .pre .1 .0, (s .pre .1 .1 .0, place-below _ _ _ _ _ _ _ met)))
+    (s .pre .0, (s .pre .1 .0, (s .pre .1 .1 .0, (place-below _ _ _ _ _ _ _ met, s .pre .1 .1 .1))))
 
-add-t21 : tie.Need-add-t21
-add-t21 c =
+add-t26 : tie.Need-add-t26
+add-t26 c =
     let sent = c .before .before .before .before .before .before .from-surface in
     let s = c .before .before .before .before .before .before .before .before .before .before .before .before .before .before .before .before .before .before .before .before .before .before .before .before in
     let h : sent .result .rays ≤ 5 + lampCount (s .args .lamps .now) = rw (sent .ensures) (extra-most _ _ _ _) in
@@ -51,4 +51,4 @@ returns-2 c =
 pub look-spec : {M : Type 1} → statement M
 look-spec =
     tie.close
-    (tie.spec nearest-requires enum-told enum-known-found from-surface-requires add-t21 returns same-length same-length-2 returns-2)
+    (tie.spec nearest-requires enum-told enum-known-found from-surface-requires add-t26 returns same-length same-length-2 returns-2)
