@@ -12,15 +12,24 @@ use Rattle.rays.proofs.solid_transmittance.Tie as tie
 wrong-scene-requires : tie.Need-wrong-scene-requires
 wrong-scene-requires c κs = search needs
 
+slice-aggregate-scene-refusal : tie.Need-slice-aggregate-scene-refusal
+slice-aggregate-scene-refusal c = search needs
+
+slice-aggregate-scene-refusal-2 : tie.Need-slice-aggregate-scene-refusal-2
+slice-aggregate-scene-refusal-2 c = search needs
+
+slice-aggregate-scene-refusal-3 : tie.Need-slice-aggregate-scene-refusal-3
+slice-aggregate-scene-refusal-3 c = search needs
+
 scene-refusal-requires : tie.Need-scene-refusal-requires
-scene-refusal-requires c κs = search needs
+scene-refusal-requires c κs = λ e. sym (c .before .before .before .wrong-scene .ensures) ∙ e
 
 -- where the refusal is known
 judged : (c : tie.After-scene-refusal)
-    → let a = c .before .before .before .before .before .before .args in
+    → let a = c .before .before .before .before .before .before .before .before .before .args in
     c .scene-refusal .result ≡ solidTransmittanceRefusal (sceneOf (a .points .now) (a .uses .now) (a .kinds .now) (a .numbers .now)) (a .ray)
 unfolding solidTransmittanceRefusal
-judged c = c .scene-refusal .ensures ∙ rw (c .before .wrong-scene .ensures)
+judged c = c .scene-refusal .ensures ∙ rw (c .before .before .before .before .wrong-scene .ensures)
 
 slice-aggregate-transmittance : tie.Need-slice-aggregate-transmittance
 slice-aggregate-transmittance c = search needs
@@ -47,6 +56,9 @@ solid-transmittance-spec =
     tie.close
     (tie.spec
     wrong-scene-requires
+    slice-aggregate-scene-refusal
+    slice-aggregate-scene-refusal-2
+    slice-aggregate-scene-refusal-3
     scene-refusal-requires
     slice-aggregate-transmittance
     slice-aggregate-transmittance-2

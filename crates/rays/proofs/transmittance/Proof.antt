@@ -5,6 +5,7 @@ use Rattle.names.specs.Scene.{sceneOf}
 use Rattle.names.specs.Refusals.{unlessRefused, kept}
 use Rattle.rays.specs.Rays.{wrongScratch, transmittanceRefusal}
 use Rattle.rays.specs.RaysLaws.{transmittance-ready}
+use Rattle.limits.specs.LimitsLaws.{either}
 use borrow.Author.Needs.{needs}
 use Rattle.rays.proofs.transmittance.Statement.{statement}
 use Rattle.rays.proofs.transmittance.Tie as tie
@@ -15,16 +16,25 @@ wrong-scene-requires c κs = search needs
 short-hits-requires : tie.Need-short-hits-requires
 short-hits-requires c κs = search needs
 
+slice-aggregate-scene-refusal : tie.Need-slice-aggregate-scene-refusal
+slice-aggregate-scene-refusal c = search needs
+
+slice-aggregate-scene-refusal-2 : tie.Need-slice-aggregate-scene-refusal-2
+slice-aggregate-scene-refusal-2 c = search needs
+
+slice-aggregate-scene-refusal-3 : tie.Need-slice-aggregate-scene-refusal-3
+slice-aggregate-scene-refusal-3 c = search needs
+
 scene-refusal-requires : tie.Need-scene-refusal-requires
-scene-refusal-requires c κs = search needs
+scene-refusal-requires c κs = λ e. sym (c .before .before .before .before .wrong-scene .ensures) ∙ either (c .before .before .before .before .wrong-scene .result) _ .0 e .0
 
 -- where the refusal is known
 judged : (c : tie.After-scene-refusal)
-    → let a = c .before .before .before .before .before .before .before .before .before .args in
+    → let a = c .before .before .before .before .before .before .before .before .before .before .before .before .args in
     c .scene-refusal .result
     ≡ transmittanceRefusal (sceneOf (a .points .now) (a .uses .now) (a .kinds .now) (a .numbers .now)) (a .ray) (a .distances .now) (a .places .now)
 unfolding transmittanceRefusal wrongScratch
-judged c = c .scene-refusal .ensures ∙ rw (c .before .before .wrong-scene .ensures, c .before .short-hits .ensures)
+judged c = c .scene-refusal .ensures ∙ rw (c .before .before .before .before .before .wrong-scene .ensures, c .before .before .before .before .short-hits .ensures)
 
 transmittance-requires : tie.Need-transmittance-requires
 transmittance-requires c κs =
@@ -68,6 +78,9 @@ transmittance-spec =
     (tie.spec
     wrong-scene-requires
     short-hits-requires
+    slice-aggregate-scene-refusal
+    slice-aggregate-scene-refusal-2
+    slice-aggregate-scene-refusal-3
     scene-refusal-requires
     transmittance-requires
     same-length
