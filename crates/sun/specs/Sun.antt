@@ -3,7 +3,7 @@
 -- normalised. The figures before the blur are a definition of their own, which the light's scratch list holds afterwards; where no voxel is active
 -- that list stays as it was.
 use mathlib.Core.Path.{_≡_}
-use mathlib.Core.Bool.{Bool, true, cond, _||_}
+use mathlib.Core.Bool.{Bool, true, false, cond, _||_}
 use mathlib.Core.List.{List, [], _∷_}
 use Prim.Native.Nat.{ℕ, _≤_}
 use lib.Dec.{eqb}

@@ -1,18 +1,40 @@
 -- `sun::sun` meets its contract: what is not refused fits the grid, and the pass over it leaves what it should; a refused call leaves all lists alone.
 use mathlib.Core.Path.{_≡_, refl, sym, _∙_}
+use mathlib.Core.Bool.{false≢true}
 use Rattle.names.specs.Refusals.{unlessRefused, kept}
 use Rattle.sun.specs.SunLaws.{sun-ready}
 use borrow.Author.Needs.{needs}
 use Rattle.sun.proofs.sun.Statement.{statement}
 use Rattle.sun.proofs.sun.Tie as tie
 
+slice-aggregate-judge : tie.Need-slice-aggregate-judge
+slice-aggregate-judge c = search needs
+
+slice-aggregate-judge-2 : tie.Need-slice-aggregate-judge-2
+slice-aggregate-judge-2 c = search needs
+
+slice-aggregate-judge-3 : tie.Need-slice-aggregate-judge-3
+slice-aggregate-judge-3 c = search needs
+
 judge-requires : tie.Need-judge-requires
 judge-requires c κs = search needs
 
+slice-aggregate-pass : tie.Need-slice-aggregate-pass
+slice-aggregate-pass c = search needs
+
+slice-aggregate-pass-2 : tie.Need-slice-aggregate-pass-2
+slice-aggregate-pass-2 c = search needs
+
+slice-aggregate-pass-3 : tie.Need-slice-aggregate-pass-3
+slice-aggregate-pass-3 c = search needs
+
+slice-aggregate-pass-4 : tie.Need-slice-aggregate-pass-4
+slice-aggregate-pass-4 c = search needs
+
 pass-requires : tie.Need-pass-requires
 pass-requires c κs =
-    let t = c .before .before .before .before in
-    sun-ready _ _ _ _ _ _ _ _ _ _ (sym (t .before .judge .ensures) ∙ t .if1 .taken)
+    let t = c .before .before .before .before .before .before .before .before in
+    (sun-ready _ _ _ _ _ _ _ _ _ _ (sym (t .before .judge .ensures) ∙ t .if1 .taken), λ e. absurd (false≢true e))
 
 same-length : tie.Need-same-length
 same-length c = search needs
@@ -30,7 +52,7 @@ returns : tie.Need-returns
 unfolding unlessRefused
 returns c =
     let p = c .before .before .before .before .before .before .before .before in
-    let t = p .before .before .before .before .before in
+    let t = p .before .before .before .before .before .before .before .before .before in
     let e = p .pass .ensures in
     record {
       answer = sym (t .if1 .taken) ∙ t .before .judge .ensures;
@@ -39,8 +61,8 @@ returns c =
       scratch-after = e .scratch-after;
       distances-kept = e .distances-kept;
       places-kept = e .places-kept;
-      distances-long = p .pass .kept .1 .1 .1 .1 .1 .1 .1 .1 .1 .1 .0;
-      places-long = p .pass .kept .1 .1 .1 .1 .1 .1 .1 .1 .1 .1 .1 .0;
+      distances-long = p .pass .kept .1 .1 .1 .1 .1 .1 .1 .1 .1 .1 .1 .1 .1 .1 .1 .0;
+      places-long = p .pass .kept .1 .1 .1 .1 .1 .1 .1 .1 .1 .1 .1 .1 .1 .1 .1 .1 .0;
     }
 
 returns-2 : tie.Need-returns-2
@@ -61,7 +83,14 @@ pub sun-spec : {M : Type 1} → statement M
 sun-spec =
     tie.close
     (tie.spec
+    slice-aggregate-judge
+    slice-aggregate-judge-2
+    slice-aggregate-judge-3
     judge-requires
+    slice-aggregate-pass
+    slice-aggregate-pass-2
+    slice-aggregate-pass-3
+    slice-aggregate-pass-4
     pass-requires
     same-length
     same-length-2

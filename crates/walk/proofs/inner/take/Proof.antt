@@ -41,7 +41,7 @@ gather-voxel-requires c κs =
         places = g .places;
         out = search needs;
       },
-      c .before .before .before .before .before .before .before .before .before .before .before .before .before .before .before .before .before .pre .1 .0,
+      (c .before .before .before .before .before .before .before .before .before .before .before .before .before .before .before .before .before .pre .1 .0, c .before .before .before .before .before .before .before .before .before .before .before .before .before .before .before .before .before .pre .1 .1),
     )
 
 same-length : tie.Need-same-length
