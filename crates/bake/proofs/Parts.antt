@@ -187,6 +187,7 @@ module _ (b : BakeInput) (s : Stage Float) (a : ℕ) where
       record {
         axes = f .axes;
         scene = f .scene;
+        tree = f .tree;
         sky = f .sky;
         lamps = f .lamps;
         active = f .active;

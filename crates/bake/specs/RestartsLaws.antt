@@ -44,7 +44,7 @@ good-not-nine : (b : BakeInput) (s : Stage Float) (a : ℕ) → GoodProgress b (
 unfolding bakeRefusal bakeRows
 good-not-nine b s a g =
     not-first 9 (bakeRows b s a) (omega arith)
-    ((λ z. absurd (omega arith)), ((λ z. absurd (omega arith)), ((λ z. absurd (omega arith)), ((λ z. absurd (omega arith)), ((λ z. absurd (omega arith)), ((λ z. absurd (omega arith)), ((λ z. absurd (omega arith)), ((λ z. absurd (omega arith)), ((λ z. progress-row b (s .progress) .1 g), ((λ z. absurd (omega arith)), ((λ z. absurd (omega arith)), tt)))))))))))
+    ((λ z. absurd (omega arith)), ((λ z. absurd (omega arith)), ((λ z. absurd (omega arith)), ((λ z. absurd (omega arith)), ((λ z. absurd (omega arith)), ((λ z. absurd (omega arith)), ((λ z. absurd (omega arith)), ((λ z. absurd (omega arith)), ((λ z. absurd (omega arith)), ((λ z. progress-row b (s .progress) .1 g), ((λ z. absurd (omega arith)), ((λ z. absurd (omega arith)), tt))))))))))))
 
 -- refused or not, a call leaves a record that row 9 passes
 leaves-good : (b : BakeInput) (s : Stage Float) (a : ℕ) → GoodProgress b (s .progress) → GoodProgress b (bakeCall b s a .stage .progress)

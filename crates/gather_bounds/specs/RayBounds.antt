@@ -31,7 +31,7 @@ use Rattle.triangle.specs.declared.Meet.the-variants.{Hit}
 use Rattle.rays_bounds.specs.TestBounds.{NearPoints, near-place, distance-bounded}
 use Rattle.rays_bounds.specs.Departure.{NoDeparture, far-same, wild-same}
 use Rattle.panels.specs.Panels.{meetAt}
-use Rattle.panels.specs.PanelLaws.{met-answered}
+use Rattle.panels.specs.PanelLaws.{by-answered}
 use Rattle.scan.specs.Nearest.{nearestOf}
 use Rattle.scan.specs.declared.Nearest.the-variants.{At}
 use Rattle.bounce.specs.declared.Biases.{Biases}
@@ -123,7 +123,7 @@ module _ (g : GatherInput) (r : Rows g) (ha : badAxes (g .axes) ≡ false) (hg :
 
       distance-small : AtMost 288 63 t
       distance-small =
-          let m = hit-met (primaryAt g i k) (triangleAt (g .scene .points) place) t u v front (met-answered _ _ _ _ place t u v front (found .1) .0) in
+          let m = hit-met (primaryAt g i k) (triangleAt (g .scene .points) place) t u v front (by-answered (g .scene .boxed) (g .scene .points) (g .scene .uses) (g .scene .kinds) (primaryAt g i k) place t u v front (found .1)) in
           let o = le-numbers zero32 u (m .u-from) .1 in
           rw (m .distance)
           (distance-bounded (primaryAt g i k) (triangleAt (g .scene .points) place) 11 12 (near place (found .0)) primary-start (lit≤ tt) (lit< tt) (lit< tt) (m .steep) (rw (m .first) at o))

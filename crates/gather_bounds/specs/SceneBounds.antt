@@ -30,7 +30,7 @@ use Rattle.triangle.specs.Laws.{hit-met}
 use Rattle.triangle.specs.declared.Meet.{Meet}
 use Rattle.triangle.specs.declared.Meet.the-variants.{Miss, Hit}
 use Rattle.panels.specs.Panels.{kindAt, stopsLight, meetAt}
-use Rattle.panels.specs.PanelLaws.{met-answered}
+use Rattle.panels.specs.PanelLaws.{by-answered}
 use Rattle.scan.specs.Nearest.{nearestTo, nearerOf, beats}
 use Rattle.scan.specs.declared.Nearest.{Nearest}
 use Rattle.scan.specs.declared.Nearest.the-variants.{Nothing, At}
@@ -171,7 +171,7 @@ module _ (s : Scene) (m : Modest s) where
   surface-small ray place t u v front bias h e =
       let k = getD (s .uses) place 0 in
       let g = m .sound .within place h in
-      let n = hit-met ray (triangleAt (s .points) place) t u v front (met-answered _ _ _ ray place t u v front e .0) .present in
+      let n = hit-met ray (triangleAt (s .points) place) t u v front (by-answered (s .boxed) (s .points) (s .uses) (s .kinds) ray place t u v front e) .present in
       let b = base-small k g in
       record { normal = facing-each _ (ray .direction) 1 1 (normal-small place h n); albedo = clamp-each _ (number _ (b .x)) (number _ (b .y)) (number _ (b .z)); emissive = raised-each _ 1 16 (colour-small k 3 g (lit< tt)) }
 

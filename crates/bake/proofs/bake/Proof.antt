@@ -1,9 +1,19 @@
 -- A refusal returns at once; an accepted call is what follows.
 use Rattle.bake.proofs.Parts.{total-fits, refused, accepts, answers}
 use mathlib.Core.Path.{refl}
+use mathlib.Core.Bool.{false≢true}
 use borrow.Author.Needs.{needs}
 use Rattle.bake.proofs.bake.Statement.{statement}
 use Rattle.bake.proofs.bake.Tie as tie
+
+slice-aggregate-judge : tie.Need-slice-aggregate-judge
+slice-aggregate-judge c = search needs
+
+slice-aggregate-judge-2 : tie.Need-slice-aggregate-judge-2
+slice-aggregate-judge-2 c = search needs
+
+slice-aggregate-judge-3 : tie.Need-slice-aggregate-judge-3
+slice-aggregate-judge-3 c = search needs
 
 judge-requires : tie.Need-judge-requires
 judge-requires c κs = search needs
@@ -20,13 +30,25 @@ same-length-2 c = search needs
 returns : tie.Need-returns
 returns c = rw (c .refused .ensures) (refused (c .before .before .judge .ensures) (c .before .if1 .taken))
 
+slice-aggregate-go-on : tie.Need-slice-aggregate-go-on
+slice-aggregate-go-on c = search needs
+
+slice-aggregate-go-on-2 : tie.Need-slice-aggregate-go-on-2
+slice-aggregate-go-on-2 c = search needs
+
+slice-aggregate-go-on-3 : tie.Need-slice-aggregate-go-on-3
+slice-aggregate-go-on-3 c = search needs
+
+slice-aggregate-go-on-4 : tie.Need-slice-aggregate-go-on-4
+slice-aggregate-go-on-4 c = search needs
+
 go-on-requires : tie.Need-go-on-requires
-go-on-requires c κs = accepts (c .before .before .before .before .before .judge .ensures) (c .before .before .before .before .if1 .left)
+go-on-requires c κs = (accepts (c .before .before .before .before .before .before .before .before .before .judge .ensures) (c .before .before .before .before .before .before .before .before .if1 .left), λ e. absurd (false≢true e))
 
 answered-requires : tie.Need-answered-requires
 answered-requires c κs =
     let g = c .before .before .before .before .before .before .before .before in
-    let l = g .before .before .before .before .before in
+    let l = g .before .before .before .before .before .before .before .before .before in
     total-fits _ _ _ (l .before .judge .ensures) (l .if1 .left) (g .go-on .ensures)
 
 same-length-3 : tie.Need-same-length-3
@@ -44,21 +66,28 @@ same-length-6 c = search needs
 returns-2 : tie.Need-returns-2
 returns-2 c =
     let g = c .before .before .before .before .before .before .before .before .before in
-    let l = g .before .before .before .before .before in
+    let l = g .before .before .before .before .before .before .before .before .before in
     rw (c .answered .ensures)
     (answers (l .before .judge .ensures) (l .if1 .left) (g .go-on .ensures)
     refl
-    (g .go-on .kept .1 .1 .1 .1 .1 .1 .1 .1 .1 .1 .1 .1 .1 .1 .0) (g .go-on .kept .1 .1 .1 .1 .1 .1 .1 .1 .1 .1 .1 .1 .1 .1 .1 .0))
+    (g .go-on .kept .1 .1 .1 .1 .1 .1 .1 .1 .1 .1 .1 .1 .1 .1 .1 .1 .1 .1 .1 .0) (g .go-on .kept .1 .1 .1 .1 .1 .1 .1 .1 .1 .1 .1 .1 .1 .1 .1 .1 .1 .1 .1 .1 .0))
 
 pub bake-spec : {M : Type 1} → statement M
 bake-spec =
     tie.close
     (tie.spec
+    slice-aggregate-judge
+    slice-aggregate-judge-2
+    slice-aggregate-judge-3
     judge-requires
     refused-requires
     same-length
     same-length-2
     returns
+    slice-aggregate-go-on
+    slice-aggregate-go-on-2
+    slice-aggregate-go-on-3
+    slice-aggregate-go-on-4
     go-on-requires
     answered-requires
     same-length-3
