@@ -10,7 +10,8 @@ use lib.ListN.{length, getD}
 use lib.Ieee.{Float}
 use Rattle.boxes.specs.Boxes.{boundsAt}
 use Rattle.tree.specs.Tree.{countAt, innerAt, placeAt, sumTo, one, halvesOf, parentsTo, runTo, leafOf, standsTo}
-use Rattle.tree_build.specs.Built.{leafLimit, runBounds, BoxHolds, Built, leaf, pair, boxesWithin, boxesFor, timesIn}
+use Rattle.tree_order.specs.Order.{leafLimit}
+use Rattle.tree_build.specs.Built.{runBounds, BoxHolds, Built, leaf, pair, boxesWithin, boxesFor, timesIn}
 use Rattle.tree_build.specs.RunLaws.{sum-next, times-cut}
 
 -- ---- counting

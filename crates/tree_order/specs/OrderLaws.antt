@@ -35,6 +35,9 @@ module _ (points : List Float) where
   pub present-places : PlacesOf points (presentPlaces points)
   present-places p h = present-once points p ∙ absent-past p h
 
+  pub order-places : PlacesOf points (orderOf points)
+  order-places p h = order-once p ∙ absent-past p h
+
   -- the halves of a list of places are such lists
   pub left-places : (run : List ℕ) → PlacesOf points run → PlacesOf points (leftOf points run)
   left-places run w p h = omega (arith, w p h, halves-times points p run)
