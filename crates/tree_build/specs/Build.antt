@@ -24,13 +24,19 @@ buildRows points boxes nodes order =
 unfoldable pub buildRefusal : List Float → ℕ → ℕ → ℕ → ℕ
 buildRefusal points boxes nodes order = firstOf (buildRows points boxes nodes order)
 
--- a refused call counts no box and no place, so that nothing changes
+-- how many boxes and places the tree has; a refused call counts none
+unfoldable pub builtOf : List Float → ℕ → ℕ → ℕ → TreeBuilt
+builtOf points boxes nodes order =
+    record {
+      refusal = buildRefusal points boxes nodes order;
+      boxes = unlessRefused (buildRefusal points boxes nodes order) (boxesFor (length (orderOf points))) 0;
+      places = unlessRefused (buildRefusal points boxes nodes order) (length (orderOf points)) 0;
+    }
+
+-- the order, and the boxes of the run of all its places, at the front of the lists; behind them, and so everywhere in a refused call's lists, nothing changed
 pub record BuildAnswered (points boxes : List Float) (nodes order : List ℕ) (r : TreeBuilt) (boxes′ : List Float) (nodes′ order′ : List ℕ) : Type 0 where
-  pub answer : r .refusal ≡ buildRefusal points (length boxes) (length nodes) (length order)
-  pub boxes-counted : r .boxes ≡ unlessRefused (r .refusal) (boxesFor (length (orderOf points))) 0
-  pub places-counted : r .places ≡ unlessRefused (r .refusal) (length (orderOf points)) 0
+  pub answer : r ≡ builtOf points (length boxes) (length nodes) (length order)
   pub order-after : order′ ≡ unlessRefused (r .refusal) (orderOf points ++ drop (r .places) order) order
-  -- the boxes of the run of all places
   pub tree : 0 < r .places → Built points boxes′ nodes′ order′ 0 0 (r .places) (r .boxes)
   pub boxes-kept : KeptBeside nan boxes boxes′ 0 (r .boxes * 6)
   pub nodes-kept : KeptBeside 0 nodes nodes′ 0 (r .boxes * 3)

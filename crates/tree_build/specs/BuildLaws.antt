@@ -23,7 +23,7 @@ use Rattle.tree_order.specs.Ranks.{AcceptedPoints}
 use Rattle.tree_order.specs.OrderLaws.{order-once, order-few, order-places}
 use Rattle.tree_build.specs.declared.TreeBuilt.{TreeBuilt}
 use Rattle.tree_build.specs.Built.{Built, boxesWithin, boxesFor, timesIn, EachOnce, PlacesIn, KeptBeside, TreeFits, TreePut, BuiltTree}
-use Rattle.tree_build.specs.Build.{wrongBuild, buildRows, buildRefusal, BuildAnswered}
+use Rattle.tree_build.specs.Build.{wrongBuild, buildRows, buildRefusal, builtOf, BuildAnswered}
 use Rattle.tree_build.specs.RunLaws.{times-of, kept-same}
 use Rattle.tree_build.specs.BuiltLaws.{built-most}
 use Rattle.tree_build.specs.GrownLaws.{built-same}
@@ -37,8 +37,9 @@ build-numbered points boxes nodes order = (omega arith, (omega arith, (omega ari
 
 module _ (points boxes : List Float) (nodes order : List ℕ) (r : TreeBuilt) (boxes′ : List Float) (nodes′ order′ : List ℕ) (a : BuildAnswered points boxes nodes order r boxes′ nodes′ order′) where
   pub build-refused-by : RefusedBy (buildRows points (length boxes) (length nodes) (length order)) (r .refusal)
-  unfolding buildRefusal
-  build-refused-by = refused-by _ (r .refusal) (build-numbered points (length boxes) (length nodes) (length order)) (a .answer)
+  unfolding buildRefusal builtOf
+  build-refused-by =
+      refused-by _ (r .refusal) (build-numbered points (length boxes) (length nodes) (length order)) (ap (λ (x : TreeBuilt). x .refusal) (a .answer))
 
 -- ---- what an accepted call has
 
@@ -65,6 +66,12 @@ build-ready points boxes nodes order e =
 
 -- ---- how the code answers
 
+same-answer : (r s : TreeBuilt) → r .refusal ≡ s .refusal → r .boxes ≡ s .boxes → r .places ≡ s .places → r ≡ s
+same-answer r s e f g = ap₂ (λ (h : ℕ → TreeBuilt) (m : ℕ). h m) (ap₂ built e f) g
+  where
+    built : ℕ → ℕ → ℕ → TreeBuilt
+    built k n m = record { refusal = k; boxes = n; places = m }
+
 module _ (points boxes : List Float) (nodes order : List ℕ) where
   abbrev refusal : ℕ
   refusal = buildRefusal points (length boxes) (length nodes) (length order)
@@ -85,11 +92,11 @@ module _ (points boxes : List Float) (nodes order : List ℕ) where
 
   pub build-answered : (boxes′ : List Float) (nodes′ order₁ : List ℕ) (m n : ℕ) → refusal ≡ 0 → m ≡ length (orderOf points) → order₁ ≡ orderOf points ++ drop m order
       → TreePut points boxes boxes′ nodes nodes′ order₁ m n → BuildAnswered points boxes nodes order (record { refusal = 0; boxes = n; places = m }) boxes′ nodes′ order₁
+  unfolding builtOf
   build-answered boxes′ nodes′ order₁ m n e number after t =
       record {
-        answer = sym e;
-        boxes-counted = t .counted ∙ ap (λ (k : ℕ). boxesFor k) number ∙ given 0 _ 0 refl;
-        places-counted = number ∙ given 0 _ 0 refl;
+        answer =
+            rw e (same-answer _ _ refl (t .counted ∙ ap (λ (k : ℕ). boxesFor k) number ∙ given 0 _ 0 refl) (number ∙ given 0 _ 0 refl));
         order-after = after ∙ given 0 _ _ refl;
         tree = t .tree;
         boxes-kept = t .boxesKept;
@@ -97,11 +104,10 @@ module _ (points boxes : List Float) (nodes order : List ℕ) where
       }
 
   pub build-refused : (k : ℕ) → k ≡ refusal → (k ≡ 0 → ⊥) → BuildAnswered points boxes nodes order (record { refusal = k; boxes = 0; places = 0 }) boxes nodes order
+  unfolding builtOf
   build-refused k e n =
       record {
-        answer = e;
-        boxes-counted = kept k _ 0 n;
-        places-counted = kept k _ 0 n;
+        answer = rw (← e) (same-answer _ _ refl (kept k _ 0 n) (kept k _ 0 n));
         order-after = kept k _ order n;
         tree = λ h. absurd (omega arith);
         boxes-kept = kept-same nan boxes 0 0;
@@ -111,10 +117,22 @@ module _ (points boxes : List Float) (nodes order : List ℕ) where
 -- ---- what an answer says
 
 module _ (points boxes : List Float) (nodes order : List ℕ) (r : TreeBuilt) (boxes′ : List Float) (nodes′ order′ : List ℕ) (a : BuildAnswered points boxes nodes order r boxes′ nodes′ order′) where
+  refused-as : r .refusal ≡ buildRefusal points (length boxes) (length nodes) (length order)
+  unfolding builtOf
+  refused-as = ap (λ (x : TreeBuilt). x .refusal) (a .answer)
+
+  boxes-counted : r .boxes ≡ unlessRefused (r .refusal) (boxesFor (length (orderOf points))) 0
+  unfolding builtOf
+  boxes-counted = rw refused-as (ap (λ (x : TreeBuilt). x .boxes) (a .answer))
+
+  places-counted : r .places ≡ unlessRefused (r .refusal) (length (orderOf points)) 0
+  unfolding builtOf
+  places-counted = rw refused-as (ap (λ (x : TreeBuilt). x .places) (a .answer))
+
   -- no box without a place
   none-none : r .places ≡ 0 → r .boxes ≡ 0
   unfolding unlessRefused boxesWithin
-  none-none z = by (eqb (r .refusal) 0) (a .boxes-counted) (a .places-counted)
+  none-none z = by (eqb (r .refusal) 0) boxes-counted places-counted
     where
       by : (b : Bool) → r .boxes ≡ cond b (boxesFor (length (orderOf points))) 0 → r .places ≡ cond b (length (orderOf points)) 0 → r .boxes ≡ 0
       by true e f = e ∙ ap (λ (k : ℕ). boxesFor k) (sym f ∙ z)
@@ -135,9 +153,9 @@ module _ (points boxes : List Float) (nodes order : List ℕ) (r : TreeBuilt) (b
 
   pub build-keeps : (r .refusal ≡ 0 → ⊥) → (r .boxes ≡ 0) × (r .places ≡ 0) × (boxes′ ≡ boxes) × (nodes′ ≡ nodes) × (order′ ≡ order)
   build-keeps n =
-      let e = a .boxes-counted ∙ sym (kept (r .refusal) _ 0 n) in (
+      let e = boxes-counted ∙ sym (kept (r .refusal) _ 0 n) in (
         e,
-        a .places-counted ∙ sym (kept (r .refusal) _ 0 n),
+        places-counted ∙ sym (kept (r .refusal) _ 0 n),
         unchanged nan boxes boxes′ (subst (λ (k : ℕ). KeptBeside nan boxes boxes′ 0 (k * 6)) e (a .boxes-kept)),
         unchanged 0 nodes nodes′ (subst (λ (k : ℕ). KeptBeside 0 nodes nodes′ 0 (k * 3)) e (a .nodes-kept)),
         a .order-after ∙ sym (kept (r .refusal) _ order n),
@@ -147,10 +165,10 @@ module _ (points boxes : List Float) (nodes order : List ℕ) (r : TreeBuilt) (b
 
   module _ (z : r .refusal ≡ 0) where
     ready : BuildReady points (length boxes) (length nodes) (length order)
-    ready = build-ready points (length boxes) (length nodes) (length order) (sym (a .answer) ∙ z)
+    ready = build-ready points (length boxes) (length nodes) (length order) (sym refused-as ∙ z)
 
     number : r .places ≡ length (orderOf points)
-    number = a .places-counted ∙ sym (given (r .refusal) _ 0 z)
+    number = places-counted ∙ sym (given (r .refusal) _ 0 z)
 
     after : order′ ≡ orderOf points ++ drop (r .places) order
     after = a .order-after ∙ sym (given (r .refusal) _ order z)
@@ -227,25 +245,19 @@ pub record SameBuild (r s : TreeBuilt) (boxes boxes′ : List Float) (nodes node
   pub nodes-same : nodes ≡ nodes′
   pub order-same : order ≡ order′
 
-same-answer : (r s : TreeBuilt) → r .refusal ≡ s .refusal → r .boxes ≡ s .boxes → r .places ≡ s .places → r ≡ s
-same-answer r s e f g = ap₂ (λ (h : ℕ → TreeBuilt) (m : ℕ). h m) (ap₂ built e f) g
-  where
-    built : ℕ → ℕ → ℕ → TreeBuilt
-    built k n m = record { refusal = k; boxes = n; places = m }
-
 module _ (points boxes : List Float) (nodes order : List ℕ) (r₁ r₂ : TreeBuilt) (boxes₁ boxes₂ : List Float) (nodes₁ nodes₂ order₁ order₂ : List ℕ)
     (a : BuildAnswered points boxes nodes order r₁ boxes₁ nodes₁ order₁) (b : BuildAnswered points boxes nodes order r₂ boxes₂ nodes₂ order₂) where
-  same-refusal : r₁ .refusal ≡ r₂ .refusal
-  same-refusal = a .answer ∙ sym (b .answer)
+  same : r₁ ≡ r₂
+  same = a .answer ∙ sym (b .answer)
 
   same-boxes : r₁ .boxes ≡ r₂ .boxes
-  same-boxes = a .boxes-counted ∙ rw same-refusal (sym (b .boxes-counted))
+  same-boxes = ap (λ (x : TreeBuilt). x .boxes) same
 
   same-places : r₁ .places ≡ r₂ .places
-  same-places = a .places-counted ∙ rw same-refusal (sym (b .places-counted))
+  same-places = ap (λ (x : TreeBuilt). x .places) same
 
   same-order : order₁ ≡ order₂
-  same-order = a .order-after ∙ rw (same-refusal, same-places) (sym (b .order-after))
+  same-order = a .order-after ∙ rw same (sym (b .order-after))
 
   -- a tree with a box is that of a place
   some : (i : ℕ) → i < r₁ .boxes → 0 < r₁ .places
@@ -259,7 +271,7 @@ module _ (points boxes : List Float) (nodes order : List ℕ) (r₁ r₂ : TreeB
   pub build-answered-once : SameBuild r₁ r₂ boxes₁ boxes₂ nodes₁ nodes₂ order₁ order₂
   build-answered-once =
       record {
-        answer = same-answer r₁ r₂ same-refusal same-boxes same-places;
+        answer = same;
         boxes-same = ext-getD nan boxes₁ boxes₂ (a .boxes-kept .same ∙ sym (b .boxes-kept .same)) (λ k h. box k (ltb k (r₁ .boxes * 6)) refl);
         nodes-same = ext-getD 0 nodes₁ nodes₂ (a .nodes-kept .same ∙ sym (b .nodes-kept .same)) (λ k h. node k (ltb k (r₁ .boxes * 3)) refl);
         order-same = same-order;

@@ -7,4 +7,5 @@ pub mod HalveLaws
 pub mod PresentLaws
 pub mod OrderLaws
 pub mod RankLaws
+pub mod AxisLaws
 pub mod OrderFigures
