@@ -7,7 +7,7 @@ use Prim.Native.Nat.{ℕ, zero, suc, _+_, _-_, _*_, _/_, _≤_, _<_}
 use lib.Dec.{eqb, leb}
 use lib.ListN.{length, getD}
 use lib.Ieee.{Float, nan}
-use Rattle.names.specs.Numbers.{triangleLimit}
+use Rattle.names.specs.Numbers.{triangleLimit, leafLimit}
 use Rattle.vectors.specs.Vectors.{largerV, smallerV}
 use Rattle.vectors.specs.Places.{vecAt}
 use Rattle.vectors.specs.declared.Vec3.{Vec3}
@@ -15,7 +15,6 @@ use Rattle.triangle.specs.Places.{triangleAt}
 use Rattle.boxes.specs.declared.Bounds.{Bounds}
 use Rattle.boxes.specs.Boxes.{boundsAt, paddedOf}
 use Rattle.tree.specs.Tree.{boxCount, countAt, leftAt, rightAt, presentAt, sumTo, one}
-use Rattle.tree_order.specs.Order.{leafLimit}
 
 -- ---- a run's box
 

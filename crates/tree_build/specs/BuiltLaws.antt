@@ -8,9 +8,9 @@ use borrow.Author.Tests.{eq-eqb, ne-eqb, eqb-true, leb-false, le-leb, lt-leb}
 use lib.Dec.{eqb, leb}
 use lib.ListN.{length, getD}
 use lib.Ieee.{Float}
+use Rattle.names.specs.Numbers.{leafLimit}
 use Rattle.boxes.specs.Boxes.{boundsAt}
 use Rattle.tree.specs.Tree.{countAt, innerAt, placeAt, sumTo, one, halvesOf, parentsTo, runTo, leafOf, standsTo}
-use Rattle.tree_order.specs.Order.{leafLimit}
 use Rattle.tree_build.specs.Built.{runBounds, BoxHolds, Built, leaf, pair, boxesWithin, boxesFor, timesIn}
 use Rattle.tree_build.specs.RunLaws.{sum-next, times-cut}
 

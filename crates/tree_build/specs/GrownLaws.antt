@@ -7,11 +7,11 @@ use native.Mathlib.Nat.{zero-add}
 use native.Mathlib.Omega.{arith}
 use lib.ListN.{getD}
 use lib.Ieee.{Float, nan}
+use Rattle.names.specs.Numbers.{leafLimit}
 use Rattle.triangle.specs.Places.{triangleAt}
 use Rattle.boxes.specs.declared.Bounds.{Bounds}
 use Rattle.boxes.specs.Boxes.{boundsAt, paddedOf}
 use Rattle.tree.specs.Tree.{countAt, leftAt, rightAt}
-use Rattle.tree_order.specs.Order.{leafLimit}
 use Rattle.tree_build.specs.Built.{joinOf, runBounds, BoxHolds, Built, leaf, pair, boxesWithin, boxesFor, PutBounds, PutNode, Grown, TreePut}
 use Rattle.tree_build.specs.RunLaws.{kept-same, kept-more, kept-through}
 use Rattle.tree_build.specs.BuiltLaws.{built-more, built-boxes}

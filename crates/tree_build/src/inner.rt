@@ -5,10 +5,8 @@ ghost use lib.ListN.{length, getD};
 ghost use Rattle.names.specs.Numbers.{triangleLimit};
 ghost use Rattle.tree_build.specs.Built.{joinOf, ownBox, runBounds, PlacesIn, RunFits, PutVec, PutBounds, PutNode, Grown, TreeFits, TreePut};
 use boxes::Bounds;
+use names::LEAF_LIMIT;
 use vectors::Vec3;
-
-// "until four or fewer remain"
-const LEAF_LIMIT: usize = 4;
 
 // Writes the boxes of the tree of the first m triangles of an order, from the front of two lists on. Answers how many there are.
 pub fn put_tree(

@@ -9,7 +9,8 @@ use lib.Dec.{leb}
 use lib.ListN.{length, take, drop, length-append, length-drop}
 use lib.Seq.{length-take-le}
 use lib.Ieee.{Float}
-use Rattle.tree_order.specs.Order.{alongWidest, leafLimit, halfOf, halvedWithin, halved, timesOf}
+use Rattle.names.specs.Numbers.{leafLimit}
+use Rattle.tree_order.specs.Order.{alongWidest, halfOf, halvedWithin, halved, timesOf}
 use Rattle.tree_order.specs.SortLaws.{times-append, times-cut, sorted-times, sorted-length}
 
 module _ (points : List Float) where

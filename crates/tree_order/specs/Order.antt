@@ -8,6 +8,7 @@ use lib.Dec.{eqb, leb}
 use lib.ListN.{length, getD, take, drop}
 use lib.Ieee as Ieee
 use lib.Ieee.{Float}
+use Rattle.names.specs.Numbers.{leafLimit}
 use Rattle.vectors.specs.Vectors.{addV, subV, largerV, smallerV}
 use Rattle.vectors.specs.declared.Vec3.{Vec3}
 use Rattle.triangle.specs.Places.{triangleAt}
@@ -68,10 +69,6 @@ unfoldable pub alongWidest : List Float → List ℕ → List ℕ
 alongWidest points run = sorted (keyOn points (widestOf (spreadOf points run))) run
 
 -- ---- by halves
-
--- "until four or fewer remain"
-abbrev pub leafLimit : ℕ
-leafLimit = 4
 
 -- how many go to the left half
 abbrev pub halfOf : List ℕ → ℕ

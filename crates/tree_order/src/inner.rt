@@ -11,11 +11,9 @@ ghost use Rattle.tree.specs.Tree.{presentAt};
 ghost use Rattle.tree_order.specs.Order.{keyAt, onAxis, keyOn, spreadOf, widestOf, sorted, alongWidest, halved, presentBelow, orderOf};
 ghost use Rattle.tree_order.specs.Ranks.{placeOf, ranked, PlacesOf, AcceptedPoints};
 use super::Axis;
+use names::LEAF_LIMIT;
 use names::TRIANGLE_LIMIT;
 use vectors::Vec3;
-
-// "until four or fewer remain"
-const LEAF_LIMIT: usize = 4;
 
 // Puts the places of the present triangles at the front of a list, in the builder's order. Answers how many there are.
 pub fn put_order(points: &[f32], order: &mut [u32]) -> usize
