@@ -7,22 +7,21 @@ use Prim.Native.Nat.{ℕ, zero, suc, _+_, _-_, _*_, _/_, _%_, _≤_, _<_}
 use native.Mathlib.Omega.{arith}
 use borrow.Author.Tests.{ltb-true, ltb-false}
 use lib.Dec.{eqb, ltb}
-use lib.ListN.{length, getD, take, drop, length-append, length-drop}
+use lib.ListN.{length, getD, take, drop}
 use lib.Seq.{length-take-le, getD-take, take-at, ext-getD}
 use lib.Ieee.{Float, nan}
 use Rattle.names.specs.Numbers.{triangleLimit}
-use Rattle.names.specs.Refusals.{firstOf, unlessRefused, Numbered, RefusedBy, refused-by, kept, given}
+use Rattle.names.specs.Refusals.{unlessRefused, Numbered, RefusedBy, refused-by, kept, given}
 use Rattle.names.specs.Passed.{passed}
-use Rattle.limits.specs.Limits.{badPoints}
 use Rattle.boxes.specs.declared.Bounds.{Bounds}
 use Rattle.boxes.specs.Boxes.{boundsAt}
 use Rattle.tree.specs.Tree.{boxCount, countAt, leftAt, rightAt, presentAt, one, AcceptedTree}
 use Rattle.tree.specs.TestLaws.{neither}
-use Rattle.tree_order.specs.Order.{orderOf, timesOf}
+use Rattle.tree_order.specs.Order.{orderOf}
 use Rattle.tree_order.specs.Ranks.{AcceptedPoints}
 use Rattle.tree_order.specs.OrderLaws.{order-once, order-few, order-places}
 use Rattle.tree_build.specs.declared.TreeBuilt.{TreeBuilt}
-use Rattle.tree_build.specs.Built.{Built, boxesWithin, boxesFor, timesIn, EachOnce, PlacesIn, KeptBeside, TreeFits, TreePut, BuiltTree}
+use Rattle.tree_build.specs.Built.{boxesWithin, boxesFor, timesIn, KeptBeside, TreeFits, TreePut, BuiltTree}
 use Rattle.tree_build.specs.Build.{wrongBuild, buildRows, buildRefusal, builtOf, BuildAnswered}
 use Rattle.tree_build.specs.RunLaws.{times-of, kept-same}
 use Rattle.tree_build.specs.BuiltLaws.{built-most}

@@ -1,6 +1,5 @@
 // A builder of box trees: document 02's C-20. Its trees are accepted for every scene that is not refused (`build-accepted`).
 ghost use mathlib.Core.Path.{_≡_};
-ghost use Rattle.names.specs.Refusals.{firstOf};
 ghost use Rattle.tree_build.specs.Build.{wrongBuild, buildRefusal, BuildAnswered};
 use names::TRIANGLE_LIMIT;
 

@@ -1,6 +1,6 @@
 -- How the loops go by one, and what a list holds of which two parts were lent one after the other.
-use mathlib.Core.Path.{_≡_, refl, sym, ap, _∙_}
-use mathlib.Core.List.{List, [], _∷_, _++_, map, append-nil}
+use mathlib.Core.Path.{_≡_, refl, _∙_}
+use mathlib.Core.List.{List, _++_, map, append-nil}
 use Prim.Native.Nat.{ℕ, _+_, _-_, _≤_, _<_}
 use native.Mathlib.Numerals.{add-one}
 use native.Mathlib.Omega.{arith}
@@ -9,7 +9,7 @@ use lib.Seq.{length-front, drop-cons, take-suc-set, append-snoc, take-all, take-
 use lib.Ieee.{Float}
 use Rattle.vectors.specs.Vectors.{largerV, smallerV}
 use Rattle.vectors.specs.declared.Vec3.{Vec3}
-use Rattle.hits.specs.Hits.{Struck, struck, paired}
+use Rattle.hits.specs.Hits.{paired}
 use Rattle.hits.specs.PairedLaws.{stored}
 use Rattle.tree_order.specs.Order.{keyAt, lowest, highest}
 use Rattle.tree_order.specs.Ranks.{rankOf, placeOf, ranked}

@@ -1,6 +1,6 @@
 -- The widest axis is one on which no other spreads wider; and a run of an accepted scene, put in order along it, ascends there with equal keys in the order
 -- before, so that no triangle of its right half lies below one of its left half. Assumes nothing.
-use mathlib.Core.Path.{_≡_, refl, sym, ap, _∙_}
+use mathlib.Core.Path.{_≡_, refl, sym, _∙_}
 use mathlib.Core.Bool.{Bool, true, false, cond, false≢true}
 use mathlib.Core.List.{List, [], _∷_}
 use Prim.Native.Nat.{ℕ, zero, suc}

@@ -1,7 +1,6 @@
 -- The builder's order, computed. The triangles are document 01's triangle Q, (0,0,0),(1,0,0),(0,1,0), moved along x or raised along z.
 use mathlib.Core.Path.{_≡_, refl}
 use mathlib.Core.List.{List, [], _∷_, _++_}
-use Prim.Native.Nat.{ℕ}
 use lib.Ieee as Ieee
 use lib.Ieee.{Float}
 use Rattle.names.specs.Bits.{lit, zero32, half32, one32, two32}

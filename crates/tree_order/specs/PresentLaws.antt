@@ -1,7 +1,7 @@
 -- The list of the present places, made one by one: each stands there once, and nothing else does. Assumes nothing.
 use mathlib.Core.Path.{_≡_, refl, sym, ap, _∙_}
 use mathlib.Core.Bool.{Bool, true, false, cond}
-use mathlib.Core.List.{List, [], _∷_, _++_, append-assoc}
+use mathlib.Core.List.{List, [], _∷_, _++_}
 use Prim.Native.Nat.{ℕ, zero, suc, _+_, _/_, _≤_, _<_}
 use native.Mathlib.Numerals.{add-one}
 use native.Mathlib.Omega.{arith}
@@ -13,7 +13,7 @@ use lib.Ieee.{Float}
 use Rattle.tree.specs.Tree.{presentAt, sumTo, one}
 use Rattle.tree.specs.SumLaws.{one-most, sum-less, sum-same, sum-ones, sum-none, sum-hit}
 use Rattle.tree.specs.TestLaws.{present-within}
-use Rattle.tree_order.specs.Order.{presentBelow, presentTo, presentPlaces, presentIn, timesOf}
+use Rattle.tree_order.specs.Order.{presentBelow, presentTo, presentPlaces, timesOf}
 use Rattle.tree_order.specs.SortLaws.{times-append}
 
 module _ (points : List Float) where

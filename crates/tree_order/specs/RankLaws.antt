@@ -1,28 +1,25 @@
 -- Keys put in order with ranks are the run put in order: ranks ascend, so that of two equal keys the one that stood first comes first. And the keys of an
 -- accepted scene are numbers. Assumes nothing.
-use mathlib.Core.Path.{_≡_, refl, sym, ap, ap₂, _∙_}
+use mathlib.Core.Path.{_≡_, refl, ap₂, _∙_}
 use mathlib.Core.Bool.{Bool, true, false, cond, _||_, _&&_}
-use mathlib.Core.List.{List, [], _∷_, _++_, map}
-use Prim.Native.Nat.{ℕ, zero, suc, _+_, _*_, _/_, _%_, _≤_, _<_}
+use mathlib.Core.List.{List, [], _∷_, map}
+use Prim.Native.Nat.{ℕ, suc, _+_, _*_, _/_, _≤_, _<_}
 use native.Mathlib.Omega.{arith}
 use borrow.Author.Tests.{ltb-true, ltb-false, le-ltb}
 use lib.Dec.{ltb, lit<}
-use lib.ListN.{length, getD, drop}
+use lib.ListN.{length, getD}
 use lib.Ieee.{Float, lt, eq, isNan}
 use Rattle.names.specs.Numbers.{triangleLimit}
 use Rattle.floats.specs.FiniteLaws.{finite-number}
-use Rattle.limits.specs.Limits.{badPoints}
 use Rattle.bounds.specs.Bounds.{EachAtMost}
 use Rattle.bounds.specs.BoundsLaws.{at-most-finite}
-use Rattle.bounds.specs.VectorLaws.{each-up, add-each}
+use Rattle.bounds.specs.VectorLaws.{add-each}
 use Rattle.rays_bounds.specs.TestBounds.{near-place}
-use Rattle.triangle.specs.Places.{triangleAt}
 use Rattle.hits.specs.Hits.{Struck, struck, before, insertOf, placesOf}
 use Rattle.hits.specs.Merge.{insertAll, sortOf, Numbers}
 use Rattle.tree_order.specs.declared.Axis.{Axis}
 use Rattle.tree_order.specs.declared.Axis.the-variants.{X, Y, Z}
-use Rattle.tree.specs.SumLaws.{one-self}
-use Rattle.tree_order.specs.Order.{keyAt, onAxis, keyOn, putIn, putAll, sorted, timesOf}
+use Rattle.tree_order.specs.Order.{keyAt, onAxis, keyOn, putIn, putAll, sorted}
 use Rattle.tree_order.specs.Ranks.{rankOf, placeOf, ranked, PlacesOf, AcceptedPoints}
 use Rattle.tree_order.specs.SortLaws.{times-here, NumberKeys}
 

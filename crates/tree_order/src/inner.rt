@@ -1,14 +1,13 @@
 // The places of the present triangles, put in the builder's order: the run of them is put in order along its widest axis and halved, and so are its halves.
 ghost use mathlib.Core.Path.{_≡_};
-ghost use mathlib.Core.Bool.{false, cond};
+ghost use mathlib.Core.Bool.{cond};
 ghost use mathlib.Core.List.{map, _++_};
 ghost use Prim.Native.Nat.{_+_, _/_, _≤_, _<_};
-ghost use lib.ListN.{length, getD, set, drop};
+ghost use lib.ListN.{length, set, drop};
 ghost use Rattle.names.specs.Numbers.{triangleLimit};
-ghost use Rattle.limits.specs.Limits.{badPoints};
 ghost use Rattle.hits.specs.Hits.{paired};
 ghost use Rattle.tree.specs.Tree.{presentAt};
-ghost use Rattle.tree_order.specs.Order.{keyAt, onAxis, keyOn, spreadOf, widestOf, sorted, alongWidest, halved, presentBelow, orderOf};
+ghost use Rattle.tree_order.specs.Order.{keyAt, onAxis, keyOn, spreadOf, widestOf, alongWidest, halved, presentBelow, orderOf};
 ghost use Rattle.tree_order.specs.Ranks.{placeOf, ranked, PlacesOf, AcceptedPoints};
 use super::Axis;
 use names::LEAF_LIMIT;

@@ -1,6 +1,6 @@
 -- `tree_order::inner::halve` meets its contract; the measure is the run's length. The two calls of itself put the halves in order that stand one after the other
 -- once the run is in order along its widest axis (`halved-cut`).
-use mathlib.Core.Path.{_≡_, sym, ap, ap₂, _∙_}
+use mathlib.Core.Path.{sym, ap, ap₂, _∙_}
 use mathlib.Core.List.{List, _++_}
 use Prim.Native.Nat.{ℕ, _/_, _≤_, _<_}
 use native.Mathlib.Omega.{arith}

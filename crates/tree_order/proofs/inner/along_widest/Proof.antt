@@ -1,7 +1,6 @@
 -- `tree_order::inner::along_widest` meets its contract: the ranks of the keys in order hold the places of the run in order.
-use mathlib.Core.Path.{_≡_, refl, sym, ap, _∙_}
+use mathlib.Core.Path.{_≡_, sym, ap, _∙_}
 use mathlib.Core.List.{List, map}
-use Prim.Native.Nat.{ℕ}
 use native.Mathlib.Omega.{arith}
 use lib.ListN.{length}
 use Rattle.hits.specs.Hits.{Struck, placesOf}

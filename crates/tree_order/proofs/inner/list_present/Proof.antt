@@ -1,9 +1,9 @@
 -- `tree_order::inner::list_present` meets its contract. The loop's invariant: at the front stand the present places below p, and nothing behind them changed.
-use mathlib.Core.Path.{_≡_, refl, ap, _∙_}
-use mathlib.Core.List.{List, _++_}
-use Prim.Native.Nat.{ℕ, _-_, _/_, _≤_}
+use mathlib.Core.Path.{_≡_, refl, _∙_}
+use mathlib.Core.List.{_++_}
+use Prim.Native.Nat.{_-_, _/_, _≤_}
 use native.Mathlib.Omega.{arith}
-use lib.ListN.{length, drop, length-append, length-drop}
+use lib.ListN.{length, drop}
 use Rattle.tree_order.specs.Order.{presentBelow}
 use Rattle.tree_order.specs.PresentLaws.{present-length, present-few, present-next, present-next-length}
 use Rattle.tree_order.proofs.inner.list_present.Statement.{statement}

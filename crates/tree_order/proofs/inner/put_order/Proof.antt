@@ -1,5 +1,5 @@
 -- `tree_order::inner::put_order` meets its contract: the present places are one run, which stands at the front of the list and is put in order there.
-use mathlib.Core.Path.{_≡_, sym, ap, ap₂, _∙_}
+use mathlib.Core.Path.{sym, ap, ap₂, _∙_}
 use mathlib.Core.List.{List, _++_}
 use Prim.Native.Nat.{ℕ, _/_}
 use native.Mathlib.Omega.{arith}
