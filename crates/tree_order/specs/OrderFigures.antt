@@ -18,9 +18,12 @@ three32 = lit 0x40400000
 abbrev four32 : Float
 four32 = lit 0x40800000
 
--- Q from x to the next whole number
-unfoldable pub movedTo : Float → Float → List Float
-movedTo x next = x ∷ zero32 ∷ zero32 ∷ next ∷ zero32 ∷ zero32 ∷ x ∷ one32 ∷ zero32 ∷ []
+-- Q from x to the next whole number, at a height, and at height 0
+unfoldable pub standAt : Float → Float → Float → List Float
+standAt x next z = x ∷ zero32 ∷ z ∷ next ∷ zero32 ∷ z ∷ x ∷ one32 ∷ z ∷ []
+
+abbrev movedTo : Float → Float → List Float
+movedTo x next = standAt x next zero32
 
 -- of sides 0, and so absent
 abbrev absent : List Float
@@ -51,5 +54,23 @@ pub order-figures :
     ∷ (0 ∷ 1 ∷ 4 ∷ 3 ∷ 2 ∷ [])
     ∷ (4 ∷ 3 ∷ 1 ∷ 0 ∷ 5 ∷ [])
     ∷ []
-unfolding raisedTo movedTo orderOf presentBelow halvedWithin alongWidest putAll putIn widestOf spreadOf lowest highest onAxis keyAt presentAt absentOf triangleAt largerOf smallerOf addV subV dotV crossV largerV smallerV Ieee.ofBits Ieee.ofFields Ieee.odd Ieee.neg Ieee.le Ieee.lt Ieee.eq Ieee.isNan Ieee.add Ieee.sub Ieee.mul Ieee.round Ieee.sum Ieee.units Ieee.size Ieee.span Ieee.climb
+unfolding raisedTo standAt orderOf presentBelow halvedWithin alongWidest putAll putIn widestOf spreadOf lowest highest onAxis keyAt presentAt absentOf triangleAt largerOf smallerOf addV subV dotV crossV largerV smallerV Ieee.ofBits Ieee.ofFields Ieee.odd Ieee.neg Ieee.le Ieee.lt Ieee.eq Ieee.isNan Ieee.add Ieee.sub Ieee.mul Ieee.round Ieee.sum Ieee.units Ieee.size Ieee.span Ieee.climb
 order-figures = refl
+
+-- ten along x, the first at the far end, and the sixth raised by 6: they turn about, and the half 9 8 7 6 5, put in order along z, stays, though four of its keys
+-- are equal and stand against the order of the list
+pub twice-figure :
+    orderOf
+    (movedTo (lit 0x41100000) (lit 0x41200000)
+    ++ movedTo (lit 0x41000000) (lit 0x41100000)
+    ++ movedTo (lit 0x40e00000) (lit 0x41000000)
+    ++ movedTo (lit 0x40c00000) (lit 0x40e00000)
+    ++ movedTo (lit 0x40a00000) (lit 0x40c00000)
+    ++ standAt four32 (lit 0x40a00000) (lit 0x40c00000)
+    ++ movedTo three32 four32
+    ++ movedTo two32 three32
+    ++ movedTo one32 two32
+    ++ movedTo zero32 one32)
+    ≡ 9 ∷ 8 ∷ 7 ∷ 6 ∷ 5 ∷ 4 ∷ 3 ∷ 2 ∷ 1 ∷ 0 ∷ []
+unfolding standAt orderOf presentBelow halvedWithin alongWidest putAll putIn widestOf spreadOf lowest highest onAxis keyAt presentAt absentOf triangleAt largerOf smallerOf addV subV dotV crossV largerV smallerV Ieee.ofBits Ieee.ofFields Ieee.odd Ieee.neg Ieee.le Ieee.lt Ieee.eq Ieee.isNan Ieee.add Ieee.sub Ieee.mul Ieee.round Ieee.sum Ieee.units Ieee.size Ieee.span Ieee.climb
+twice-figure = refl
