@@ -124,6 +124,10 @@ boxPadding = lit 0x3727c5ac
 abbrev pub depthLimit : ℕ
 depthLimit = 24
 
+-- "a builder that halves a run of triangles until four or fewer remain"
+abbrev pub leafLimit : ℕ
+leafLimit = 4
+
 -- ---- masks
 
 -- samples "clamped to 1..4096"

@@ -70,6 +70,8 @@ pub const BOX_PADDING: f32 = 1.0e-5;
 
 pub const DEPTH_LIMIT: u8 = 24;
 
+pub const LEAF_LIMIT: usize = 4;
+
 // ---- masks
 
 pub const MOST_SAMPLES: usize = 4096;

@@ -6,11 +6,12 @@ use Prim.Native.Nat.{ℕ, zero, suc, _+_, _-_, _*_, _/_, _≤_, _<_}
 use native.Mathlib.Omega.{arith}
 use borrow.Author.Tests.{eq-eqb, ne-eqb, eqb-true, leb-false, le-leb, lt-leb}
 use lib.Dec.{eqb, leb}
-use lib.ListN.{length, getD}
+use lib.ListN.{getD}
 use lib.Ieee.{Float}
+use Rattle.names.specs.Numbers.{leafLimit}
 use Rattle.boxes.specs.Boxes.{boundsAt}
 use Rattle.tree.specs.Tree.{countAt, innerAt, placeAt, sumTo, one, halvesOf, parentsTo, runTo, leafOf, standsTo}
-use Rattle.tree_build.specs.Built.{leafLimit, runBounds, BoxHolds, Built, leaf, pair, boxesWithin, boxesFor, timesIn}
+use Rattle.tree_build.specs.Built.{runBounds, BoxHolds, Built, leaf, pair, boxesWithin, boxesFor, timesIn}
 use Rattle.tree_build.specs.RunLaws.{sum-next, times-cut}
 
 -- ---- counting

@@ -10,11 +10,11 @@ use native.Mathlib.Omega.{arith}
 use borrow.Author.Tests.{ltb-true, ltb-false}
 use lib.Dec.{ltb}
 use lib.Ieee.{Float}
-use Rattle.names.specs.Numbers.{triangleLimit}
+use Rattle.names.specs.Numbers.{triangleLimit, leafLimit}
 use Rattle.triangle.specs.Places.{triangleAt}
 use Rattle.boxes.specs.Boxes.{boundsAt, paddedOf, insideOf}
 use Rattle.tree.specs.Tree.{innerAt, countAt, leftAt, rightAt, firstAt, placeAt, Deep, root, left, right}
-use Rattle.tree_build.specs.Built.{leafLimit, runBounds, Built, leaf, pair}
+use Rattle.tree_build.specs.Built.{runBounds, Built, leaf, pair}
 use Rattle.tree_build.specs.JoinLaws.{NumbersIn, run-holds, run-inside}
 use Rattle.tree_build.specs.BuiltLaws.{built-some, built-more, inner-of, leaf-of, built-bounds}
 

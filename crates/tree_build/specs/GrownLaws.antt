@@ -3,16 +3,18 @@
 use mathlib.Core.Path.{_≡_, refl, sym, ap, ap₂, _∙_}
 use mathlib.Core.List.{List}
 use Prim.Native.Nat.{ℕ, zero, suc, _+_, _-_, _*_, _/_, _≤_, _<_}
+use native.Mathlib.Nat.{zero-add}
 use native.Mathlib.Omega.{arith}
 use lib.ListN.{getD}
 use lib.Ieee.{Float, nan}
+use Rattle.names.specs.Numbers.{leafLimit}
 use Rattle.triangle.specs.Places.{triangleAt}
 use Rattle.boxes.specs.declared.Bounds.{Bounds}
 use Rattle.boxes.specs.Boxes.{boundsAt, paddedOf}
 use Rattle.tree.specs.Tree.{countAt, leftAt, rightAt}
-use Rattle.tree_build.specs.Built.{joinOf, runBounds, leafLimit, BoxHolds, Built, leaf, pair, PlacesIn, Arranged, PutBounds, PutNode, Grown}
-use Rattle.tree_build.specs.RunLaws.{places-parts, places-arranged, kept-more, kept-through, arranged-same, arranged-through, arranged-left, arranged-right}
-use Rattle.tree_build.specs.BuiltLaws.{built-more}
+use Rattle.tree_build.specs.Built.{joinOf, runBounds, BoxHolds, Built, leaf, pair, boxesWithin, boxesFor, PutBounds, PutNode, Grown, TreePut}
+use Rattle.tree_build.specs.RunLaws.{kept-same, kept-more, kept-through}
+use Rattle.tree_build.specs.BuiltLaws.{built-more, built-boxes}
 
 -- ---- where the numbers stay, a tree stays
 
@@ -66,29 +68,28 @@ module _ (points boxes boxes′ : List Float) (nodes nodes′ order order′ : L
 
 pub leaf-grown : (points boxes boxes′ : List Float) (nodes nodes′ order : List ℕ) (at first count : ℕ) → 1 ≤ count → count ≤ leafLimit
     → PutBounds boxes boxes′ at (runBounds points order first (count - 1)) → PutNode nodes nodes′ at count first 0
-    → Grown points boxes boxes′ nodes nodes′ order order at first count (at + 1)
+    → Grown points boxes boxes′ nodes nodes′ order at first count (at + 1)
 leaf-grown points boxes boxes′ nodes nodes′ order at first count a b p q =
     record {
       built = leaf a b (record { bounds = p .bounds; number = q .number; left = q .left; right = q .right });
       boxesKept = kept-more nan boxes boxes′ (at * 6) (at * 6 + 6) (at * 6) ((at + 1) * 6) (omega arith) (omega arith) (p .kept);
       nodesKept = kept-more 0 nodes nodes′ (at * 3) (at * 3 + 3) (at * 3) ((at + 1) * 3) (omega arith) (omega arith) (q .kept);
-      arranged = arranged-same order first count;
     }
 
 -- ---- two halves
 
-module _ (points b0 b1 b2 b3 : List Float) (n0 n1 n2 n3 o0 o1 o2 o3 : List ℕ) (at first count middle next : ℕ) where
-  pub pair-grown : leafLimit < count → Arranged o0 o1 first count → Grown points b0 b1 n0 n1 o1 o2 (at + 1) first (count / 2) middle
-      → Grown points b1 b2 n1 n2 o2 o3 middle (first + count / 2) (count - count / 2) next → PutBounds b2 b3 at (runBounds points o3 first (count - 1))
-      → PutNode n2 n3 at 0 (at + 1) middle → Grown points b0 b3 n0 n3 o0 o3 at first count next
-  pair-grown big s l r p q =
+module _ (points b0 b1 b2 b3 : List Float) (n0 n1 n2 n3 order : List ℕ) (at first count middle next : ℕ) where
+  pub pair-grown : leafLimit < count → Grown points b0 b1 n0 n1 order (at + 1) first (count / 2) middle
+      → Grown points b1 b2 n1 n2 order middle (first + count / 2) (count - count / 2) next → PutBounds b2 b3 at (runBounds points order first (count - 1))
+      → PutNode n2 n3 at 0 (at + 1) middle → Grown points b0 b3 n0 n3 order at first count next
+  pair-grown big l r p q =
       let x = built-more (l .built) in
       let y = built-more (r .built) in
       record {
         built =
             pair middle big (record { bounds = p .bounds; number = q .number; left = q .left; right = q .right })
-            (built-same points b1 b3 n1 n3 o2 o3 (λ k u v. p .kept .above k (omega arith) ∙ r .boxesKept .below k v) (λ k u v. q .kept .above k (omega arith) ∙ r .nodesKept .below k v) (λ k u v. r .arranged .kept .below k v) (l .built))
-            (built-same points b2 b3 n2 n3 o3 o3 (λ k u v. p .kept .above k (omega arith)) (λ k u v. q .kept .above k (omega arith)) (λ k u v. refl) (r .built));
+            (built-same points b1 b3 n1 n3 order order (λ k u v. p .kept .above k (omega arith) ∙ r .boxesKept .below k v) (λ k u v. q .kept .above k (omega arith) ∙ r .nodesKept .below k v) (λ k u v. refl) (l .built))
+            (built-same points b2 b3 n2 n3 order order (λ k u v. p .kept .above k (omega arith)) (λ k u v. q .kept .above k (omega arith)) (λ k u v. refl) (r .built));
         boxesKept =
             kept-through nan b0 b1 b3 (at * 6) (next * 6) (kept-more nan b0 b1 ((at + 1) * 6) (middle * 6) (at * 6) (next * 6) (omega arith) (omega arith) (l .boxesKept))
             (kept-through nan b1 b2 b3 (at * 6) (next * 6) (kept-more nan b1 b2 (middle * 6) (next * 6) (at * 6) (next * 6) (omega arith) (omega arith) (r .boxesKept))
@@ -97,23 +98,14 @@ module _ (points b0 b1 b2 b3 : List Float) (n0 n1 n2 n3 o0 o1 o2 o3 : List ℕ) 
             kept-through 0 n0 n1 n3 (at * 3) (next * 3) (kept-more 0 n0 n1 ((at + 1) * 3) (middle * 3) (at * 3) (next * 3) (omega arith) (omega arith) (l .nodesKept))
             (kept-through 0 n1 n2 n3 (at * 3) (next * 3) (kept-more 0 n1 n2 (middle * 3) (next * 3) (at * 3) (next * 3) (omega arith) (omega arith) (r .nodesKept))
             (kept-more 0 n2 n3 (at * 3) (at * 3 + 3) (at * 3) (next * 3) (omega arith) (omega arith) (q .kept)));
-        arranged =
-            arranged-through o0 o1 o3 first count s
-            (arranged-through o1 o2 o3 first count (arranged-left o1 o2 first count (count / 2) (omega arith) (l .arranged)) (arranged-right o2 o3 first count (count / 2) (omega arith) (r .arranged)));
       }
 
--- ---- places stay places, run by run
+-- ---- the whole run
 
-module _ (points : List Float) (o0 o1 o2 o3 : List ℕ) (first count : ℕ) (places : PlacesIn points o0 first count) (s : Arranged o0 o1 first count) where
-  pub left-places : PlacesIn points o1 first (count / 2)
-  left-places = places-parts points o1 first (count / 2) count (omega arith) (places-arranged points o0 o1 first count s places) .0
+module _ (points boxes boxes′ : List Float) (nodes nodes′ order : List ℕ) where
+  pub none-put : TreePut points boxes boxes nodes nodes order 0 0
+  unfolding boxesWithin
+  none-put = record { counted = refl; tree = λ h. absurd (omega arith); boxesKept = kept-same nan boxes 0 0; nodesKept = kept-same 0 nodes 0 0 }
 
-  module _ (l : Arranged o1 o2 first (count / 2)) where
-    middle-places : PlacesIn points o2 first count
-    middle-places = places-arranged points o0 o2 first count (arranged-through o0 o1 o2 first count s (arranged-left o1 o2 first count (count / 2) (omega arith) l)) places
-
-    pub right-places : PlacesIn points o2 (first + count / 2) (count - count / 2)
-    right-places = places-parts points o2 first (count / 2) count (omega arith) middle-places .1
-
-    pub whole-places : Arranged o2 o3 (first + count / 2) (count - count / 2) → PlacesIn points o3 first count
-    whole-places r = places-arranged points o2 o3 first count (arranged-right o2 o3 first count (count / 2) (omega arith) r) middle-places
+  pub run-put : (m n : ℕ) → Grown points boxes boxes′ nodes nodes′ order 0 0 m n → TreePut points boxes boxes′ nodes nodes′ order m n
+  run-put m n g = record { counted = built-boxes (g .built) ∙ zero-add (boxesFor m); tree = λ h. g .built; boxesKept = g .boxesKept; nodesKept = g .nodesKept }

@@ -1,5 +1,5 @@
 -- The boxes of a run are made by the order alone: two trees of one run hold the same in every box. Assumes nothing.
-use mathlib.Core.Path.{_≡_, refl, sym, ap, _∙_, subst}
+use mathlib.Core.Path.{_≡_, refl, sym, _∙_, subst}
 use mathlib.Core.Bool.{Bool, true, false}
 use mathlib.Core.List.{List}
 use mathlib.Core.Logic.{⊎-elim}
@@ -12,7 +12,7 @@ use lib.Ieee.{Float}
 use Rattle.boxes.specs.Boxes.{boundsAt}
 use Rattle.tree.specs.Tree.{countAt, leftAt, rightAt}
 use Rattle.tree_build.specs.Built.{BoxHolds, Built, leaf, pair}
-use Rattle.tree_build.specs.BuiltLaws.{built-more, built-boxes}
+use Rattle.tree_build.specs.BuiltLaws.{built-boxes}
 
 module _ (points boxes boxes′ : List Float) (nodes nodes′ order : List ℕ) where
   pub record SameBox (i : ℕ) : Type 0 where

@@ -1,6 +1,6 @@
 -- Runs of the order: a run is its two halves, what changed in a part changed in the whole, and what stands in a run is counted there. Assumes nothing.
 use mathlib.Core.Path.{_≡_, refl, sym, ap, _∙_}
-use mathlib.Core.List.{List}
+use mathlib.Core.List.{List, [], _∷_, _++_}
 use Prim.Native.Nat.{ℕ, zero, suc, _+_, _-_, _/_, _≤_, _<_}
 use native.Mathlib.Nat.{add-assoc, add-suc, add-zero}
 use native.Mathlib.Numerals.{add-one}
@@ -12,7 +12,8 @@ use lib.ListN.{length, getD}
 use lib.Ieee.{Float}
 use Rattle.tree.specs.Tree.{sumTo, one}
 use Rattle.tree.specs.SumLaws.{one-self, sum-more, sum-same}
-use Rattle.tree_build.specs.Built.{timesIn, PlacesIn, KeptBeside, Arranged}
+use Rattle.tree_order.specs.Order.{timesOf}
+use Rattle.tree_build.specs.Built.{timesIn, PlacesIn, KeptBeside}
 
 -- ---- sums, one further and in two parts
 
@@ -78,29 +79,15 @@ unfolding timesIn
 times-same l m first count p h =
     sum-same (λ k. one (eqb (getD m (first + k) 0) p)) (λ k. one (eqb (getD l (first + k) 0) p)) count (λ k q. ap (λ (n : ℕ). one (eqb n p)) (h (first + k) (omega arith) (omega arith)))
 
-pub arranged-same : (l : List ℕ) (first count : ℕ) → Arranged l l first count
-arranged-same l first count = record { kept = kept-same 0 l first (first + count); times = λ p. refl }
+-- ---- a list counted place by place
 
-pub arranged-through : (l m n : List ℕ) (first count : ℕ) → Arranged l m first count → Arranged m n first count → Arranged l n first count
-arranged-through l m n first count a b =
-    record { kept = kept-through 0 l m n first (first + count) (a .kept) (b .kept); times = λ p. b .times p ∙ a .times p }
-
--- the left half in another order, and the right half
-module _ (l m : List ℕ) (first count a : ℕ) (h : a ≤ count) where
-  pub arranged-left : Arranged l m first a → Arranged l m first count
-  arranged-left r =
-      record {
-        kept = kept-more 0 l m first (first + a) first (first + count) (omega arith) (omega arith) (r .kept);
-        times = λ p. let e = times-same l m (first + a) (count - a) p (λ k q g. r .kept .above k q) in let i = r .times p in omega (arith, times-cut m first a count p h, times-cut l first a count p h);
-      }
-
-  pub arranged-right : Arranged l m (first + a) (count - a) → Arranged l m first count
-  arranged-right r =
-      record {
-        kept = kept-more 0 l m (first + a) (first + a + (count - a)) first (first + count) (omega arith) (omega arith) (r .kept);
-        times = λ p. let e = times-same l m first a p (λ k q g. r .kept .below k g) in let i = r .times p in omega (arith, times-cut m first a count p h, times-cut l first a count p h);
-      }
-
--- places stay places
-pub places-arranged : (points : List Float) (l m : List ℕ) (first count : ℕ) → Arranged l m first count → PlacesIn points l first count → PlacesIn points m first count
-places-arranged points l m first count r w p h = r .times p ∙ w p h
+-- how often p stands in a list's front, one by one
+pub times-of : (l rest : List ℕ) (p : ℕ) → timesIn (l ++ rest) 0 (length l) p ≡ timesOf p l
+unfolding timesIn
+times-of [] rest p = refl
+times-of (q ∷ l) rest p =
+    let e : suc (length l) ≡ 1 + length l = omega arith in
+    let t = times-of l rest p in
+    let s = sum-parts (λ k. one (eqb (getD (q ∷ (l ++ rest)) (0 + k) 0) p)) 1 (length l) in
+    let u = sum-same (λ k. one (eqb (getD (q ∷ (l ++ rest)) (0 + (1 + k)) 0) p)) (λ k. one (eqb (getD (l ++ rest) (0 + k) 0) p)) (length l) (λ k h. let f : 0 + (1 + k) ≡ suc k = omega arith in let g : 0 + k ≡ k = omega arith in rw (f, g) refl) in
+    omega (arith, ap (sumTo (λ k. one (eqb (getD (q ∷ (l ++ rest)) (0 + k) 0) p))) e, s, t, u)

@@ -1,10 +1,9 @@
-// The builder run on scenes of 0, 1, 4, 5 and 4,096 triangles in a row, on triangles that all stand at one place, and on absent ones. For each it prints how
-// many boxes and places there are, and 1 if the tree is accepted; of five triangles also the places in their order and the nodes. The row begins at the far
-// end, so that its order turns about.
+// The builder run on scenes of 0, 1, 4, 5 and 4,096 triangles in a row, on triangles that all stand at one place, on absent ones, and on a row that leaves the
+// limits, which is refused. For each it prints how many boxes and places there are, and 1 if the tree is accepted; of five triangles also the places in their
+// order and the nodes. The first row begins at the far end, so that its order turns about; at one place the order stays.
 ghost use mathlib.Core.Path.{_≡_};
 ghost use Prim.Native.Nat.{_+_, _*_, _/_, _≤_, _<_};
 ghost use lib.ListN.{length};
-use tree_build::Sizes;
 
 const MOST: usize = 4096;
 
@@ -70,13 +69,14 @@ fn report(points: &[f32], n: usize)
     let mut order = [0; 4096];
     let e = n * 9;
     let part = &points[..e];
-    let r = tree_build::inner::build(part, &mut boxes, &mut nodes, &mut order);
-    match r {
-        Sizes::TooShort => {
-            io::write_all(1, b"short\n");
-        }
-        Sizes::Tree(a, b) => show(part, &boxes, &nodes, &order, a, b),
+    let r = tree_build::build_tree(part, &mut boxes, &mut nodes, &mut order);
+    if r.refusal == 0 {
+        show(part, &boxes, &nodes, &order, r.boxes, r.places);
+        return;
     }
+    io::write_all(1, b"refused ");
+    number(r.refusal as usize);
+    io::write_all(1, b"\n");
 }
 
 // 4,096 triangles along x, the first at the far end, each `step` from the one before.
@@ -105,5 +105,7 @@ fn main() {
     report(&points, 5);
     report(&points, 4096);
     scene(&mut points, 0.25, 0.0);
+    report(&points, 4096);
+    scene(&mut points, -1.0, 1.0);
     report(&points, 4096);
 }
