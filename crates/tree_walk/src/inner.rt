@@ -278,7 +278,7 @@ pub fn transmittance(
     );
     match met {
         Met::Dark => 0.0,
-        Met::Hits(m) => { passing(uses, numbers, &mut distances[..m], &mut places[..m]) }
+        Met::Hits(m) => passing(uses, numbers, &mut distances[..m], &mut places[..m]),
     }
 }
 
