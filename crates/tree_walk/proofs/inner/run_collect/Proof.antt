@@ -3,6 +3,7 @@
 use mathlib.Core.Path.{_≡_, refl, sym, ap, _∙_}
 use mathlib.Core.Bool.{true, false}
 use Prim.Native.Nat.{ℕ, _+_, _*_, _≤_, _<_, _-_}
+use native.Mathlib.Numerals.{add-one}
 use native.Mathlib.Omega.{arith}
 use lib.ListN.{length, getD, length-set}
 use Rattle.triangle.specs.declared.Meet.the-variants.{Miss}
@@ -238,8 +239,8 @@ loop-again-2 c =
       length-set (l .loop .distances) (l .loop .m) _ ∙ l .loop .inv .2,
       length-set (l .loop .places) (l .loop .m) _ ∙ l .loop .inv .3,
       omega (arith, f .first-open .ensures .0, l .loop .inv .4),
-      omega (arith, length-set (l .loop .distances) (l .loop .m) (c .before .before .before .before .h .given .0 .0), room .0),
-      omega (arith, length-set (l .loop .places) (l .loop .m) (m .before .word-at3 .result), room .1),
+      rw (add-one, length-set (l .loop .distances) (l .loop .m)) (room .0),
+      rw (add-one, length-set (l .loop .places) (l .loop .m)) (room .1),
       run-next _ _ _ _ _ _ _ (s .pre .0) _ (s .pre .1 .0 .0) (s .pre .1 .0 .1) _ _ (w .before .word-at .ensures .0) (w .word-at2 .ensures .0) _ _ _ _ _ _ (omega arith) (held-there f) (m .before .word-at3 .ensures .0)
           (ap came (stored (l .loop .distances) (l .loop .places) (l .loop .m) _ _ (room .0) (room .1))
           ∙ sym (collect-clear _ _ _ _ _ _ _ _ _ (sym (m .boxed-meet .ensures) ∙ c .before .before .before .before .h .given .1) _ (clear-hit c))),
