@@ -22,7 +22,6 @@ use Rattle.scan.specs.declared.Nearest.{Nearest}
 use Rattle.tree.specs.Tree.{boxCount, countAt, innerAt, leftAt, placeAt}
 use Rattle.tree_walk.specs.Boxed.{boxedAt, nearestStep}
 use Rattle.tree_walk.specs.BoxedLaws.{boxed-missed}
-use Rattle.tree_walk.specs.Turned.{Turned}
 use Rattle.tree_walk.specs.Walk.{runVisit, TreeFits}
 use Rattle.tree_walk.specs.Collect.{Collected, dark, came, collectMeet, collectStep}
 

@@ -1,6 +1,6 @@
 -- `tree_walk::inner::run_visit` meets its contract. The loop's invariant: what is held is what the triangles of the run before place k come to. What the search passes over, and what is not met, adds nothing.
-use mathlib.Core.Path.{_≡_, refl, sym, ap, _∙_}
-use Prim.Native.Nat.{ℕ, _+_, _*_, _≤_, _<_, _-_}
+use mathlib.Core.Path.{_≡_, sym, ap, _∙_}
+use Prim.Native.Nat.{ℕ, _≤_, _<_, _-_}
 use native.Mathlib.Omega.{arith}
 use lib.ListN.{length, getD}
 use Rattle.triangle.specs.declared.Meet.the-variants.{Miss}

@@ -1,6 +1,6 @@
 -- `tree_walk::inner::turn` meets its contract. The loop's invariant: the first k numbers are there.
-use mathlib.Core.Path.{_≡_, refl, sym, _∙_}
-use Prim.Native.Nat.{_-_, _*_, _≤_, _<_}
+use mathlib.Core.Path.{_≡_, refl, _∙_}
+use Prim.Native.Nat.{_-_, _≤_, _<_}
 use native.Mathlib.Omega.{arith}
 use lib.ListN.{length, length-set}
 use Rattle.tree_walk.proofs.Turning.{TurnedTo, turned-more, turned-whole}
