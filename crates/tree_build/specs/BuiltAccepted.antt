@@ -64,6 +64,7 @@ module _ (points boxes : List Float) (nodes order : List ℕ) (t : BuiltTree poi
         record {
           nodesFit = t .nodesFit;
           boxesFit = t .boxesFit;
+          orderFits = t .few;
           oneParent = parent;
           standsOnce = λ p e. stands p ∙ ap one e;
           othersNowhere = λ p e. stands p ∙ ap one e;
