@@ -204,19 +204,17 @@ pub fn tree_nearest(
     if refusal == 0 {
         let mut turned = [0.0f32; TURNED_NUMBERS];
         tree_walk::inner::turn(points, order, &mut turned);
-        return as_found(
-            tree_walk::inner::nearest(
-                points,
-                uses,
-                kinds,
-                numbers,
-                boxes,
-                nodes,
-                order,
-                &turned,
-                ray,
-            ),
-        );
+        return as_found(tree_walk::inner::nearest(
+            points,
+            uses,
+            kinds,
+            numbers,
+            boxes,
+            nodes,
+            order,
+            &turned,
+            ray,
+        ));
     }
     Found::Refused(refusal)
 }
