@@ -75,6 +75,7 @@ share-accepted b mask s a t z e =
       materials = p .materials;
       lighting = p .lighting;
       lamps = p .lamps;
+      tree = p .tree;
       progress = progress-row (sharing b mask) (s .progress) .1 (good-at-zero (sharing b mask) (s .progress) z);
       allowance = p .allowance;
       contents = any-of-three _ _ _ .1 (t .clean, c .1, c .2);
