@@ -93,19 +93,19 @@ fn bands_joined(a: [u64; 16], b: [u64; 16]) -> [u64; 16]
 }
 
 // The lowest of p and of q numbers, of which either may be none.
-fn lowest_of_both(p: u64, a: u64, q: u64, b: u64) -> u64
-    ensures { λ r. ⌜ r ≡ lowestOfBoth p a q b ⌝ }
+fn lowest_of_both(p: u64, first: u64, q: u64, second: u64) -> u64
+    ensures { λ r. ⌜ r ≡ lowestOfBoth p first q second ⌝ }
 {
     if p == 0 {
-        return b;
+        return second;
     }
     if q == 0 {
-        return a;
+        return first;
     }
-    if a < b {
-        return a;
+    if first < second {
+        return first;
     }
-    b
+    second
 }
 
 fn higher(a: u64, b: u64) -> u64
