@@ -231,3 +231,21 @@ figures-sized us h l =
     go : (k : ℕ) (b : Bool) → leb bandNumber k ≡ b → getD (tab (λ j. inBand j us) bandNumber 0) k 0 ≤ length us
     go k true e = rw (List·getD-eq-default (tab (λ j. inBand j us) bandNumber 0) 0 {n = k} (rw (length-tab (λ j. inBand j us) bandNumber 0) (leb-true bandNumber k e))) (omega arith)
     go k false e = rw (band-at us k (leb-false bandNumber k e)) (band-most k us)
+
+-- and joined, as long as both have no more than that together
+pub joined-sized : (f g : LightFigures) → Sized f → Sized g → f .voxels + g .voxels ≤ mostVoxels → Sized (joinedFigures f g)
+unfolding joinedFigures
+joined-sized f g p q h =
+    record {
+      voxels = h;
+      sum = omega (arith, p .sum, q .sum);
+      sixteen = length-tab (λ b. getD (f .bands) b 0 + getD (g .bands) b 0) bandNumber 0;
+      band = λ k. go k (leb bandNumber k) refl;
+    }
+  where
+    both : ℕ → ℕ
+    both b = getD (f .bands) b 0 + getD (g .bands) b 0
+
+    go : (k : ℕ) (t : Bool) → leb bandNumber k ≡ t → getD (tab both bandNumber 0) k 0 ≤ f .voxels + g .voxels
+    go k true e = rw (List·getD-eq-default (tab both bandNumber 0) 0 {n = k} (rw (length-tab both bandNumber 0) (leb-true bandNumber k e))) (omega arith)
+    go k false e = rw (getD-tab both bandNumber 0 k 0 (leb-false bandNumber k e), zero-add k) (omega (arith, p .band k, q .band k))
