@@ -10,11 +10,12 @@ use native.Mathlib.Omega.{arith}
 use lib.Dec.{ltb, leb, eqb, eqb·suc-zero}
 use lib.ListN.{length, take, drop, length-append, replicate}
 use lib.Ieee.{Float}
-use borrow.Author.Tests.{eq-eqb, ne-eqb, eqb-true, eqb-false, le-leb, lt-leb}
+use borrow.Author.Tests.{eqb-false, le-leb, leb-false, ltb-false}
 use Rattle.names.specs.Refusals.{firstOf}
 use Rattle.lists.specs.Fold.{tab}
 use Rattle.lists.specs.Some.{some}
 use Rattle.limits.specs.LimitsLaws.{either}
+use Rattle.bytes_le.specs.Bytes.{u32At}
 use Rattle.volume_file.specs.VolumeFile.{lightAt, faulty}
 use Rattle.light_units.specs.Units.{mostUnits, lightOutside}
 use Rattle.light_figures.specs.declared.LightFigures.{LightFigures}
@@ -104,6 +105,21 @@ report-turn zero files (x ∷ s) h = rw (eqb·suc-zero (length s), eqb·suc-zero
 report-turn (suc left) files s h =
     let e : left ≡ suc left - 1 = omega arith in
     ap (λ (k : ℕ). afterOpening files (λ file rest. afterFile files file (reportFrom k (files ++ lightAt file ∷ []) rest)) (openingOf (length files) (take 4 s)) (drop 4 s)) e
+
+-- a length stands before a file that may come, and is within the limit
+pub length-within : (files n : ℕ) (head : List ℕ) → Length n ≡ openingOf files head → (files < filesLimit) × (n ≤ lengthLimit)
+unfolding openingOf
+length-within files n head e = go (eqb (length head) 0) (leb filesLimit files) (ltb (length head) 4) (ltb lengthLimit (u32At head 0)) refl refl e
+  where
+    chain : Bool → Bool → Bool → Bool → Opening
+    chain a b c d = cond a End (cond b TooFar (cond c TooFar (cond d TooFar (Length (u32At head 0)))))
+
+    go : (a b c d : Bool) → leb filesLimit files ≡ b → ltb lengthLimit (u32At head 0) ≡ d → Length n ≡ chain a b c d → (files < filesLimit) × (n ≤ lengthLimit)
+    go true b c d p q f = let z : _≡_ {A = ℕ} 0 1 = cc in absurd (omega arith)
+    go false true c d p q f = let z : _≡_ {A = ℕ} 0 1 = cc in absurd (omega arith)
+    go false false true d p q f = let z : _≡_ {A = ℕ} 0 1 = cc in absurd (omega arith)
+    go false false false true p q f = let z : _≡_ {A = ℕ} 0 1 = cc in absurd (omega arith)
+    go false false false false p q f = let m : n ≡ u32At head 0 = cc in (leb-false filesLimit files p, omega (arith, ltb-false lengthLimit (u32At head 0) q))
 
 -- "none gives one line of zeros"
 pub report-none : reportOf [] ≡ figures 0 (record { voxels = 0; sum = 0; lowest = 0; highest = 0; bands = replicate 16 0 }) ∷ []
