@@ -7,7 +7,6 @@ ghost use Rattle.league_report.specs.FileLights.{lengthLimit};
 ghost use Rattle.league_report.specs.Report.{filesLimit, LeagueWithin};
 use league_report::League;
 use league_report::Opening;
-use light_figures::LightFigures;
 
 // A turn for each file that may come, and one in which the input ends or is refused.
 const TURNS: u64 = 65537;
@@ -50,11 +49,11 @@ fn turn(league: League, space: &mut [u8]) -> Step
     match opening {
         Opening::End => {
             let total = league.total;
-            print_line(league.files, total);
+            league_line::print_line(league.files, total);
             end(league)
         }
         Opening::TooFar => {
-            print_refusal(18, league.files);
+            league_line::print_refusal(18, league.files);
             end(league)
         }
         Opening::Length(long) => take_file(league, &mut space[..long]),
@@ -68,18 +67,18 @@ fn take_file(league: League, part: &mut [u8]) -> Step
 {
     let got = io::read_full(0, part);
     if got < part.len() {
-        print_refusal(18, league.files);
+        league_line::print_refusal(18, league.files);
         return end(league);
     }
     let answer = league_report::file_lights(part);
     let refusal = answer.refusal;
     if refusal != 0 {
-        print_refusal(refusal, league.files);
+        league_line::print_refusal(refusal, league.files);
         return end(league);
     }
     let figures = answer.figures;
     let next = league_report::inner::with_file(league, figures);
-    print_line(next.files, figures);
+    league_line::print_line(next.files, figures);
     Step {
         ended: false,
         league: next,
@@ -94,35 +93,4 @@ fn end(league: League) -> Step
         ended: true,
         league,
     }
-}
-
-// `first`, then the figures, single spaces between.
-fn print_line(first: u64, figures: LightFigures) {
-    io::print_decimal(1, first);
-    after_space(figures.voxels);
-    after_space(figures.sum);
-    after_space(figures.lowest);
-    after_space(figures.highest);
-    let bands = figures.bands;
-    let mut i: usize = 0;
-    while i < 16 {
-        after_space(bands[i]);
-        i += 1;
-    }
-    io::write_all(1, b"\n");
-}
-
-// The number, and the place of the file after so many.
-fn print_refusal(refusal: u32, files: u64)
-    requires { ⌜ files ≤ filesLimit ⌝ }
-{
-    io::write_all(1, b"refused");
-    after_space(refusal as u64);
-    after_space(files + 1);
-    io::write_all(1, b"\n");
-}
-
-fn after_space(n: u64) {
-    io::write_all(1, b" ");
-    io::print_decimal(1, n);
 }

@@ -2,8 +2,8 @@
 use borrow.Author.Needs.{needs}
 use native.Mathlib.Omega.{arith}
 use Prim.Native.Nat.{_-_, _≤_}
-use Rattle.league.proofs.print_line.Statement.{statement}
-use Rattle.league.proofs.print_line.Tie as tie
+use Rattle.league_line.proofs.print_line.Statement.{statement}
+use Rattle.league_line.proofs.print_line.Tie as tie
 
 abbrev Inv-loop : tie.InvT-loop
 Inv-loop first bands i₀ t5 i = i ≤ 16
