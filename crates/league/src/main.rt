@@ -1,7 +1,7 @@
 // Reads volume files one after another on standard input, each after its length as a u32, and prints the league report: a line for each file and one over all,
 // or a refusal instead of that one.
 ghost use mathlib.Core.Path.{_≡_};
-ghost use Prim.Native.Nat.{_<_, _≤_};
+ghost use Prim.Native.Nat.{_<_};
 ghost use lib.ListN.{length};
 ghost use Rattle.league_report.specs.FileLights.{lengthLimit};
 ghost use Rattle.league_report.specs.Report.{filesLimit, LeagueWithin};
@@ -49,11 +49,11 @@ fn turn(league: League, space: &mut [u8]) -> Step
     match opening {
         Opening::End => {
             let total = league.total;
-            league_line::print_line(league.files, total);
+            league_line::inner::print_line(league.files, total);
             end(league)
         }
         Opening::TooFar => {
-            league_line::print_refusal(18, league.files);
+            league_line::inner::print_refusal(18, league.files);
             end(league)
         }
         Opening::Length(long) => take_file(league, &mut space[..long]),
@@ -67,18 +67,18 @@ fn take_file(league: League, part: &mut [u8]) -> Step
 {
     let got = io::read_full(0, part);
     if got < part.len() {
-        league_line::print_refusal(18, league.files);
+        league_line::inner::print_refusal(18, league.files);
         return end(league);
     }
     let answer = league_report::file_lights(part);
     let refusal = answer.refusal;
     if refusal != 0 {
-        league_line::print_refusal(refusal, league.files);
+        league_line::inner::print_refusal(refusal, league.files);
         return end(league);
     }
     let figures = answer.figures;
     let next = league_report::inner::with_file(league, figures);
-    league_line::print_line(next.files, figures);
+    league_line::inner::print_line(next.files, figures);
     Step {
         ended: false,
         league: next,

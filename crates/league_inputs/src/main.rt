@@ -17,7 +17,7 @@ struct Step {
 }
 
 fn main() {
-    let mut space = [0u8; 131072];
+    let mut space = [0u8; 69632];
     all_inputs(&mut space);
 }
 
@@ -81,16 +81,16 @@ fn turn(league: League, input: &[u8], at: usize) -> Step
     match opening {
         Opening::End => {
             let total = league.total;
-            league_line::print_line(league.files, total);
+            league_line::inner::print_line(league.files, total);
             end(league)
         }
         Opening::TooFar => {
-            league_line::print_refusal(18, league.files);
+            league_line::inner::print_refusal(18, league.files);
             end(league)
         }
         Opening::Length(long) => {
             if input.len() - start < long {
-                league_line::print_refusal(18, league.files);
+                league_line::inner::print_refusal(18, league.files);
                 return end(league);
             }
             let next = start + long;
@@ -107,12 +107,12 @@ fn take_file(league: League, file: &[u8], next: usize) -> Step
     let answer = league_report::file_lights(file);
     let refusal = answer.refusal;
     if refusal != 0 {
-        league_line::print_refusal(refusal, league.files);
+        league_line::inner::print_refusal(refusal, league.files);
         return end(league);
     }
     let figures = answer.figures;
     let more = league_report::inner::with_file(league, figures);
-    league_line::print_line(more.files, figures);
+    league_line::inner::print_line(more.files, figures);
     Step {
         ended: false,
         league: more,

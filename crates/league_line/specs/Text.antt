@@ -13,16 +13,16 @@ use Rattle.league_report.specs.Report.{Line, figures, refused}
 -- ---- a number
 
 -- the first of k, k + 1, .. up to `more` further whose power of ten is above n
-unfoldable pub placesFrom : ℕ → ℕ → ℕ → ℕ
-placesFrom zero k n = k
-placesFrom (suc more) k n = cond (ltb n (10 ^ k)) k (placesFrom more (k + 1) n)
+unfoldable pub digitCountFrom : ℕ → ℕ → ℕ → ℕ
+digitCountFrom zero k n = k
+digitCountFrom (suc more) k n = cond (ltb n (10 ^ k)) k (digitCountFrom more (k + 1) n)
 
 -- how many decimal digits a number below 10^20 has, as every u64 is
-abbrev pub placesOf : ℕ → ℕ
-placesOf n = placesFrom 19 1 n
+abbrev pub digitCount : ℕ → ℕ
+digitCount n = digitCountFrom 19 1 n
 
 unfoldable pub decimalOf : ℕ → List ℕ
-decimalOf n = digits 10 (placesOf n) n
+decimalOf n = digits 10 (digitCount n) n
 
 -- each after a space
 unfoldable pub spaced : List ℕ → List ℕ

@@ -12,7 +12,7 @@ use Rattle.names.specs.Numbers.{voxelLimit}
 use Rattle.lists.specs.Fold.{ahead, tab}
 use Rattle.lists.specs.Some.{some}
 use Rattle.grid.specs.declared.Axes.{Axes}
-use Rattle.grid.specs.Grid.{voxels, AxesWithin}
+use Rattle.grid.specs.Grid.{voxels}
 use Rattle.grid.specs.GridLaws.{voxels-most}
 use Rattle.bytes_le.specs.Bytes.{floatsAt}
 use Rattle.contents.specs.Contents.{axesAt, offsetAt}

@@ -1,17 +1,15 @@
 -- What each return of the steps is: the opening by its tests, and the league of none and of one file more.
-use mathlib.Core.Path.{_≡_, refl, sym, _∙_}
+use mathlib.Core.Path.{_≡_, refl}
 use mathlib.Core.List.{List, []}
-use Prim.Native.Nat.{ℕ, _+_, _*_, _<_, _≤_}
+use Prim.Native.Nat.{ℕ, _+_, _<_, _≤_}
 use native.Mathlib.Omega.{arith}
 use lib.ListN.{length}
-use lib.Ieee.{Float}
 use borrow.Author.Tests.{eq-eqb, ne-eqb, le-leb, lt-leb, lt-ltb, le-ltb}
 use Rattle.bytes_le.specs.Bytes.{u32At}
 use Rattle.light_figures.specs.declared.LightFigures.{LightFigures}
-use Rattle.light_figures.specs.LightFigures.{figuresOf, unitsEach, lightFigures, joinedFigures, mostVoxels, Sized}
+use Rattle.light_figures.specs.LightFigures.{figuresOf, unitsEach, joinedFigures, FiguresSized}
 use Rattle.light_figures.specs.FiguresLaws.{joined-sized}
 use Rattle.league_report.specs.declared.League.{League}
-use Rattle.league_report.specs.declared.Opening.{Opening}
 use Rattle.league_report.specs.declared.Opening.the-variants.{End, Length, TooFar}
 use Rattle.league_report.specs.FileLights.{lengthLimit}
 use Rattle.league_report.specs.Report.{filesLimit, allLights, leagueOf, LeagueWithin, leagueWith, openingOf}
@@ -49,7 +47,7 @@ pub league-begun : (t : LightFigures) → t ≡ figuresOf [] → (record { files
 unfolding leagueOf allLights unitsEach
 league-begun t e = rw e (refl, league-within [] none (omega arith))
 
-pub league-more : (g : League) (f t : LightFigures) → LeagueWithin g → g .files < filesLimit → Sized f → f .voxels ≤ lengthLimit → t ≡ joinedFigures (g .total) f
+pub league-more : (g : League) (f t : LightFigures) → LeagueWithin g → g .files < filesLimit → FiguresSized f → f .voxels ≤ lengthLimit → t ≡ joinedFigures (g .total) f
     → (record { files = g .files + 1; total = t } ≡ leagueWith g f) × LeagueWithin (record { files = g .files + 1; total = t })
 unfolding leagueWith joinedFigures
 league-more g f t w h s v e =

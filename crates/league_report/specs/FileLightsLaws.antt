@@ -1,27 +1,26 @@
 -- What the call's record says: two results are equal; a number is answered exactly when its row is the first that holds; and how large the figures of an accepted file are.
 use mathlib.Core.Path.{_≡_, refl, sym, ap, _∙_}
-use mathlib.Core.Bool.{Bool, true, false, cond, not}
+use mathlib.Core.Bool.{Bool, true, false, cond}
 use mathlib.Core.List.{List, [], _∷_}
-use Prim.Native.Nat.{ℕ, zero, suc, _+_, _*_, _<_, _≤_}
-use native.Mathlib.Nat.{zero-add}
+use Prim.Native.Nat.{ℕ, zero, suc, _+_, _*_, _≤_}
 use native.Mathlib.Omega.{arith}
-use lib.Dec.{ltb, eqb}
-use lib.ListN.{length, getD}
+use lib.Dec.{eqb}
+use lib.ListN.{length}
 use lib.Ieee.{Float}
 use borrow.Author.Tests.{eqb-true, ltb-false}
-use Rattle.names.specs.Refusals.{firstOf, unlessRefused, RefusedBy, refused-by}
-use Rattle.names.specs.Passed.{Passed, passed}
+use Rattle.names.specs.Refusals.{unlessRefused, RefusedBy, refused-by}
+use Rattle.names.specs.Passed.{passed}
 use Rattle.lists.specs.Fold.{length-tab}
 use Rattle.lists.specs.Some.{some}
 use Rattle.limits.specs.LimitsLaws.{either}
 use Rattle.bytes_le.specs.Bytes.{f32At}
 use Rattle.contents.specs.Contents.{offsetAt}
 use Rattle.contents.specs.ContentsLaws.{Laid}
-use Rattle.volume_file.specs.VolumeFile.{voxelsAt, lightAt, faulty}
+use Rattle.volume_file.specs.VolumeFile.{voxelsAt, lightAt}
 use Rattle.volume_file.specs.VolumeFileLaws.{Accepted, accepted-row, accepted-laid}
-use Rattle.light_units.specs.Units.{mostUnits, unitsOf, lightOutside}
+use Rattle.light_units.specs.Units.{lightOutside}
 use Rattle.light_units.specs.UnitsLaws.{units-most}
-use Rattle.light_figures.specs.LightFigures.{figuresOf, unitsEach, lightFigures, mostVoxels, Sized, AllUnits}
+use Rattle.light_figures.specs.LightFigures.{figuresOf, unitsEach, lightFigures, mostVoxels, FiguresSized, AllUnits}
 use Rattle.light_figures.specs.FiguresLaws.{figures-sized}
 use Rattle.league_report.specs.declared.FileLights.{FileLights}
 use Rattle.league_report.specs.FileLights.{lengthLimit, lightsRows, lightsRefusal, noLights, lightsAnswer, LightsOfFile}
@@ -84,11 +83,11 @@ lights-few s f =
     let d : Laid s (voxelsAt s) = accepted-laid s (f .accepted) in
     rw (length-tab (λ i. f32At s (offsetAt s 0 + i * 4)) (voxelsAt s) 0) (omega (arith, d .within, f .short))
 
-pub lights-sized : (lights : List Float) → some lightOutside lights ≡ false → length lights ≤ mostVoxels → Sized (lightFigures lights)
+pub lights-sized : (lights : List Float) → some lightOutside lights ≡ false → length lights ≤ mostVoxels → FiguresSized (lightFigures lights)
 lights-sized lights e h = figures-sized (unitsEach lights) (units-inside lights e) (omega (arith, length-each lights))
 
 -- so that its figures can be joined to the league's
-pub file-lights-sized : (s : List ℕ) (r : FileLights) → LightsOfFile s r → r .refusal ≡ 0 → Sized (r .figures) × (r .figures .voxels ≤ lengthLimit)
+pub file-lights-sized : (s : List ℕ) (r : FileLights) → LightsOfFile s r → r .refusal ≡ 0 → FiguresSized (r .figures) × (r .figures .voxels ≤ lengthLimit)
 unfolding figuresOf
 file-lights-sized s r p e =
     let f = lights-fit s (sym (file-lights-refusal s r p) ∙ e) in

@@ -9,7 +9,7 @@ use lib.Ieee.{Float}
 use Rattle.bytes_le.specs.Bytes.{u32At}
 use Rattle.volume_file.specs.VolumeFile.{lightAt}
 use Rattle.light_figures.specs.declared.LightFigures.{LightFigures}
-use Rattle.light_figures.specs.LightFigures.{lightFigures, joinedFigures, Sized}
+use Rattle.light_figures.specs.LightFigures.{lightFigures, joinedFigures, FiguresSized}
 use Rattle.league_report.specs.declared.League.{League}
 use Rattle.league_report.specs.declared.Opening.{Opening}
 use Rattle.league_report.specs.declared.Opening.the-variants.{End, Length, TooFar}
@@ -34,7 +34,7 @@ leagueOf files = record { files = length files; total = lightFigures (allLights 
 pub record LeagueWithin (g : League) : Type 0 where
   pub files : g .files ≤ filesLimit
   pub voxels : g .total .voxels ≤ g .files * lengthLimit
-  pub sized : Sized (g .total)
+  pub sized : FiguresSized (g .total)
 
 -- one file more, of these figures
 unfoldable pub leagueWith : League → LightFigures → League

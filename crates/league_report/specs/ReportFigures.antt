@@ -2,7 +2,7 @@
 use mathlib.Core.Path.{_≡_, refl}
 use mathlib.Core.List.{List, [], _∷_, _++_}
 use Prim.Native.Nat.{ℕ}
-use lib.ListN.{length, replicate}
+use lib.ListN.{replicate}
 use lib.Ieee as Ieee
 use Rattle.names.specs.Refusals.{firstOf}
 use Rattle.lists.specs.Fold.{tab}
@@ -13,10 +13,9 @@ use Rattle.bytes_le.specs.Bytes.{f32At, bytes4}
 use Rattle.contents.specs.Contents.{marked, headed, kindOf, bodyFits, entryGood, contentsFrom}
 use Rattle.volume_file.specs.VolumeFile.{lightAt, cornersAt, badBodies, faulty}
 use Rattle.light_units.specs.Units.{unitsOf, lightOutside}
-use Rattle.light_figures.specs.declared.LightFigures.{LightFigures}
 use Rattle.light_figures.specs.LightFigures.{bandOf, sumOf, lowestFrom, lowestOf, highestOf, inBand, figuresOf, unitsEach, lightFigures}
 use Rattle.league_report.specs.FileLights.{lightsRefusal}
-use Rattle.league_report.specs.Report.{allLights, leagueOf, openingOf, Line, figures, refused, afterFile, afterOpening, reportFrom, reportOf}
+use Rattle.league_report.specs.Report.{allLights, leagueOf, openingOf, figures, afterFile, afterOpening, reportFrom, reportOf}
 
 -- a file of one voxel whose light has this pattern
 pub litFile : ℕ → List ℕ

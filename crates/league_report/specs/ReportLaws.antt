@@ -1,11 +1,10 @@
 -- What the report says: a line a file and then one line, of all lights put together or of a refusal; how the league goes by a file; how a turn goes; that no
 -- counter can overflow; and that no input gives a line of zeros. Assumes nothing.
-use mathlib.Core.Path.{_≡_, refl, sym, ap, _∙_, subst}
+use mathlib.Core.Path.{_≡_, refl, sym, ap}
 use mathlib.Core.Bool.{Bool, true, false, cond}
 use mathlib.Core.Logic.{_⊎_, inl, inr}
 use mathlib.Core.List.{List, [], _∷_, _++_, append-assoc, append-nil}
 use Prim.Native.Nat.{ℕ, zero, suc, _+_, _-_, _*_, _<_, _≤_}
-use native.Mathlib.Nat.{zero-add, add-zero}
 use native.Mathlib.Omega.{arith}
 use lib.Dec.{ltb, leb, eqb, eqb·suc-zero}
 use lib.ListN.{length, take, drop, length-append, replicate}
@@ -17,9 +16,8 @@ use Rattle.lists.specs.Some.{some}
 use Rattle.limits.specs.LimitsLaws.{either}
 use Rattle.bytes_le.specs.Bytes.{u32At}
 use Rattle.volume_file.specs.VolumeFile.{lightAt, faulty}
-use Rattle.light_units.specs.Units.{mostUnits, lightOutside}
-use Rattle.light_figures.specs.declared.LightFigures.{LightFigures}
-use Rattle.light_figures.specs.LightFigures.{sumOf, lowestOf, highestOf, inBand, figuresOf, unitsEach, lightFigures, joinedFigures, mostVoxels, Sized}
+use Rattle.light_units.specs.Units.{lightOutside}
+use Rattle.light_figures.specs.LightFigures.{sumOf, lowestOf, highestOf, inBand, figuresOf, unitsEach, lightFigures}
 use Rattle.light_figures.specs.FiguresLaws.{lights-joined, bands-voxels}
 use Rattle.league_report.specs.declared.League.{League}
 use Rattle.league_report.specs.declared.Opening.{Opening}

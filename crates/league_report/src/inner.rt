@@ -2,7 +2,7 @@
 ghost use mathlib.Core.Path.{_≡_};
 ghost use mathlib.Core.List.{[]};
 ghost use Prim.Native.Nat.{_<_, _≤_};
-ghost use Rattle.light_figures.specs.LightFigures.{Sized};
+ghost use Rattle.light_figures.specs.LightFigures.{FiguresSized};
 ghost use Rattle.league_report.specs.FileLights.{lengthLimit};
 ghost use Rattle.league_report.specs.Report.{filesLimit, leagueOf, leagueWith, LeagueWithin, openingOf};
 use super::League;
@@ -18,10 +18,7 @@ pub fn no_files() -> League
     ensures { λ r. ⌜ (r ≡ leagueOf []) × LeagueWithin r ⌝ }
 {
     let total = light_figures::inner::none();
-    League {
-        files: 0,
-        total,
-    }
+    League { files: 0, total }
 }
 
 // What stands before the next file, by the bytes that were read for its length: four, or fewer where the input ends.
@@ -46,7 +43,7 @@ pub fn opening(files: u64, head: &[u8]) -> Opening
 
 // One file more, of these figures.
 pub fn with_file(league: League, figures: LightFigures) -> League
-    requires { ⌜ LeagueWithin league × (league .files < filesLimit) × Sized figures × (figures .voxels ≤ lengthLimit) ⌝ }
+    requires { ⌜ LeagueWithin league × (league .files < filesLimit) × FiguresSized figures × (figures .voxels ≤ lengthLimit) ⌝ }
     ensures { λ r. ⌜ (r ≡ leagueWith league figures) × LeagueWithin r ⌝ }
 {
     let before = league.total;

@@ -8,7 +8,7 @@ ghost use Rattle.bytes_le.specs.Bytes.{floatsAt};
 ghost use Rattle.volume_file.specs.VolumeFile.{lightAt};
 ghost use Rattle.volume_file.specs.VolumeFileLaws.{Accepted};
 ghost use Rattle.light_units.specs.Units.{lightOutside};
-ghost use Rattle.league_report.specs.FileLights.{lengthLimit, noLights, lightsAnswer, LightsOfFile};
+ghost use Rattle.league_report.specs.FileLights.{noLights, lightsAnswer, LightsOfFile};
 use light_figures::LightFigures;
 
 pub mod inner;
@@ -95,8 +95,5 @@ fn no_lights(refusal: u32) -> FileLights
     ensures { λ r. ⌜ r ≡ noLights refusal ⌝ }
 {
     let figures = light_figures::inner::none();
-    FileLights {
-        refusal,
-        figures,
-    }
+    FileLights { refusal, figures }
 }

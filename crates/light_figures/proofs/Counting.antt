@@ -1,21 +1,21 @@
 -- One light more is a join with that light's figures; a run of one more light; and what the sizes say of sums.
-use mathlib.Core.Path.{_≡_, refl, sym, ap, ap₂, _∙_}
+use mathlib.Core.Path.{_≡_, refl, sym, ap, _∙_}
 use mathlib.Core.Bool.{Bool, true, false, cond}
 use mathlib.Core.List.{List, [], _∷_, _++_}
-use Prim.Native.Nat.{ℕ, zero, suc, _+_, _-_, _*_, _/_, _≤_, _<_, min, max}
+use Prim.Native.Nat.{ℕ, zero, suc, _+_, _-_, _≤_, _<_, max}
 use native.Mathlib.Nat.{add-zero, zero-add, max-zero}
 use native.Mathlib.Omega.{arith}
 use lib.Dec.{eqb}
 use lib.ListN.{length, getD, set, take, length-set}
 use lib.Seq.{ext-getD, getD-set-same, getD-set-other}
-use borrow.Author.Tests.{eqb-true, eqb-false, eq-eqb, ne-eqb}
+use borrow.Author.Tests.{eqb-true, eqb-false, eq-eqb}
 use lib.Ieee.{Float, nan}
 use Rattle.lists.specs.Fold.{tab, length-tab, getD-tab, tab-step, tab-end}
 use Rattle.lists.specs.Some.{some, none-out}
-use Rattle.light_units.specs.Units.{mostUnits, unitsOf, lightOutside}
+use Rattle.light_units.specs.Units.{unitsOf, lightOutside}
 use Rattle.light_units.specs.UnitsLaws.{units-most}
 use Rattle.light_figures.specs.declared.LightFigures.{LightFigures}
-use Rattle.light_figures.specs.LightFigures.{bandNumber, bandOf, sumOf, lowestFrom, lowestOf, highestOf, inBand, figuresOf, unitsEach, lowestOfBoth, joinedFigures, mostVoxels, Sized, BandsFit, AllUnits}
+use Rattle.light_figures.specs.LightFigures.{bandNumber, bandOf, sumOf, lowestFrom, lowestOf, highestOf, inBand, figuresOf, unitsEach, lowestOfBoth, joinedFigures, mostVoxels, FiguresSized, BandsFit}
 use Rattle.light_figures.specs.FiguresLaws.{band-at, figures-joined, figures-sized}
 
 -- ---- one light more
@@ -40,7 +40,7 @@ band-added bands u b l e h =
     go i q false p =
         rw (getD-set-other bands b i (getD bands b 0 + 1) 0 (λ d. eqb-false b i p (sym d)), band-at (u ∷ []) i q, band-single u i, ← e, p) (sym (add-zero (getD bands i 0)))
 
-pub light-added : (f : LightFigures) (u b low high : ℕ) → Sized f → b ≡ bandOf u → b < bandNumber
+pub light-added : (f : LightFigures) (u b low high : ℕ) → FiguresSized f → b ≡ bandOf u → b < bandNumber
     → low ≡ lowestOfBoth (f .voxels) (f .lowest) 1 u → high ≡ max (f .highest) u
     → record { voxels = f .voxels + 1; sum = f .sum + u; lowest = low; highest = high; bands = set (f .bands) b (getD (f .bands) b 0 + 1) } ≡ joinedFigures f (figuresOf (u ∷ []))
 unfolding joinedFigures figuresOf sumOf lowestOf lowestFrom highestOf
@@ -67,7 +67,7 @@ inside-at f n i e h =
     let o = none-out lightOutside (tab f n 0) nan e i (rw (length-tab f n 0) h) in
     sym (ap lightOutside (getD-tab f n 0 i nan h ∙ ap f (zero-add i))) ∙ o
 
-pub run-sized : (f : ℕ → Float) (n i : ℕ) → some lightOutside (tab f n 0) ≡ false → i ≤ n → n ≤ mostVoxels → Sized (figuresOf (tab (λ k. unitsOf (f k)) i 0))
+pub run-sized : (f : ℕ → Float) (n i : ℕ) → some lightOutside (tab f n 0) ≡ false → i ≤ n → n ≤ mostVoxels → FiguresSized (figuresOf (tab (λ k. unitsOf (f k)) i 0))
 run-sized f n i e h l =
     let g : ℕ → ℕ = λ k. unitsOf (f k) in
     figures-sized (tab g i 0)
@@ -85,7 +85,7 @@ module _ (f : ℕ → ℕ) (l : List ℕ) (i : ℕ) (e : length l ≡ bandNumber
   bands-end h w = let s = tab-end f l i (omega arith) in sym (rw e at s) ∙ w
 
 -- figures that are joined: of both, one by one
-pub bands-fit : (f g : LightFigures) → Sized f → Sized g → f .voxels + g .voxels ≤ mostVoxels → BandsFit (f .bands) (g .bands)
+pub bands-fit : (f g : LightFigures) → FiguresSized f → FiguresSized g → f .voxels + g .voxels ≤ mostVoxels → BandsFit (f .bands) (g .bands)
 bands-fit f g p q h b = omega (arith, p .band b, q .band b)
 
 pub both-joined : (f g : LightFigures) (low high : ℕ) (bands : List ℕ)

@@ -1,12 +1,11 @@
 -- What figures mean: joined, they are those of both lists put together; the bands add up to the voxels; the lowest is one of the units and none is below it,
 -- and so of the highest; a band holds the units from its own 2^20 up, and 1 falls in the last; how large they get. Assumes nothing.
-use mathlib.Core.Path.{_≡_, refl, sym, ap, ap₂, _∙_, subst}
+use mathlib.Core.Path.{_≡_, refl, sym, ap, ap₂, _∙_}
 use mathlib.Core.Bool.{Bool, true, false, cond}
 use mathlib.Core.Logic.{⊎-elim}
 use mathlib.Core.List.{List, [], _∷_, _++_}
-use Prim.Native.Nat.{ℕ, zero, suc, _+_, _-_, _*_, _/_, _%_, _≤_, _<_, min, max}
-use native.Mathlib.Nat.{add-zero, zero-add, add-assoc, suc-mul, le-max-left, le-max-right, max-eq-left, max-eq-right, le-trans, le-of-lt, eq-or-lt-of-le}
-use native.Mathlib.Numerals.{add-one}
+use Prim.Native.Nat.{ℕ, zero, suc, _+_, _*_, _/_, _≤_, _<_, min, max}
+use native.Mathlib.Nat.{zero-add, add-assoc, suc-mul, le-max-left, le-max-right, max-eq-left, max-eq-right, le-trans, le-of-lt, eq-or-lt-of-le}
 use native.Mathlib.Omega.{arith}
 use lib.Dec.{eqb, leb, eqb·suc-zero}
 use lib.ListN.{length, getD, length-append, List·getD-eq-default}
@@ -17,7 +16,7 @@ use Rattle.lists.specs.Fold.{tab, length-tab, getD-tab, tab-same}
 use Rattle.light_units.specs.Units.{mostUnits, unitsOf}
 use Rattle.light_units.specs.UnitsLaws.{one-units}
 use Rattle.light_figures.specs.declared.LightFigures.{LightFigures}
-use Rattle.light_figures.specs.LightFigures.{bandWidth, bandNumber, lastBand, bandOf, sumOf, lowestFrom, lowestOf, highestOf, inBand, figuresOf, unitsEach, lightFigures, lowestOfBoth, joinedFigures, mostVoxels, Sized, AllUnits}
+use Rattle.light_figures.specs.LightFigures.{bandWidth, bandNumber, lastBand, bandOf, sumOf, lowestFrom, lowestOf, highestOf, inBand, figuresOf, unitsEach, lightFigures, lowestOfBoth, joinedFigures, mostVoxels, FiguresSized, AllUnits}
 
 -- ---- figures joined are those of both lists put together
 
@@ -218,7 +217,7 @@ band-most k (u ∷ us) = go (eqb (bandOf u) k) (band-most k us)
     go false h = omega arith
 
 -- up to 2^32 voxels, which 65,536 files of 65,536 bytes never have, the sum stays below 2^57
-pub figures-sized : (us : List ℕ) → AllUnits us → length us ≤ mostVoxels → Sized (figuresOf us)
+pub figures-sized : (us : List ℕ) → AllUnits us → length us ≤ mostVoxels → FiguresSized (figuresOf us)
 unfolding figuresOf
 figures-sized us h l =
     record {
@@ -233,7 +232,7 @@ figures-sized us h l =
     go k false e = rw (band-at us k (leb-false bandNumber k e)) (band-most k us)
 
 -- and joined, as long as both have no more than that together
-pub joined-sized : (f g : LightFigures) → Sized f → Sized g → f .voxels + g .voxels ≤ mostVoxels → Sized (joinedFigures f g)
+pub joined-sized : (f g : LightFigures) → FiguresSized f → FiguresSized g → f .voxels + g .voxels ≤ mostVoxels → FiguresSized (joinedFigures f g)
 unfolding joinedFigures
 joined-sized f g p q h =
     record {

@@ -91,7 +91,7 @@ joinedFigures f g =
 abbrev pub mostVoxels : ℕ
 mostVoxels = 4294967296
 
-pub record Sized (f : LightFigures) : Type 0 where
+pub record FiguresSized (f : LightFigures) : Type 0 where
   pub voxels : f .voxels ≤ mostVoxels
   pub sum : f .sum ≤ f .voxels * mostUnits
   pub sixteen : length (f .bands) ≡ bandNumber

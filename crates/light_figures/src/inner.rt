@@ -8,7 +8,7 @@ ghost use Rattle.lists.specs.Fold.{tab};
 ghost use Rattle.lists.specs.Some.{some};
 ghost use Rattle.bytes_le.specs.Bytes.{floatsAt};
 ghost use Rattle.light_units.specs.Units.{mostUnits, lightOutside};
-ghost use Rattle.light_figures.specs.LightFigures.{bandNumber, bandOf, figuresOf, lightFigures, lowestOfBoth, joinedFigures, mostVoxels, Sized, BandsFit};
+ghost use Rattle.light_figures.specs.LightFigures.{bandNumber, bandOf, figuresOf, lightFigures, lowestOfBoth, joinedFigures, mostVoxels, FiguresSized, BandsFit};
 use super::LightFigures;
 
 const MOST_UNITS: u64 = 16777216;
@@ -47,7 +47,7 @@ pub fn counted(bytes: &[u8], at: usize, n: usize) -> LightFigures
 
 // The figures of both lists of lights put together.
 pub fn joined(a: LightFigures, b: LightFigures) -> LightFigures
-    requires { ⌜ Sized a × Sized b × (a .voxels + b .voxels ≤ mostVoxels) ⌝ }
+    requires { ⌜ FiguresSized a × FiguresSized b × (a .voxels + b .voxels ≤ mostVoxels) ⌝ }
     ensures { λ r. ⌜ r ≡ joinedFigures a b ⌝ }
 {
     let here = a.bands;
@@ -64,7 +64,7 @@ pub fn joined(a: LightFigures, b: LightFigures) -> LightFigures
 
 // One light more, of so many units.
 fn with_light(figures: LightFigures, units: u64) -> LightFigures
-    requires { ⌜ Sized figures × (units ≤ mostUnits) ⌝ }
+    requires { ⌜ FiguresSized figures × (units ≤ mostUnits) ⌝ }
     ensures { λ r. ⌜ r ≡ joinedFigures figures (figuresOf (units ∷ [])) ⌝ }
 {
     let band = band_of(units);

@@ -1,8 +1,8 @@
 -- A light times 2^24 is exact, since an f32 keeps its digits, so that its whole part is the light's units; and it is small enough to be cut to a u64.
 use mathlib.Core.Path.{_≡_, refl, sym, ap, _∙_, subst}
-use mathlib.Core.Bool.{Bool, true, false, cond, _&&_, false≢true, and-eq-true-iff}
-use Prim.Native.Nat.{ℕ, zero, suc, _+_, _-_, _*_, _/_, _%_, _^_, _≤_, _<_, min}
-use native.Mathlib.Nat.{mul-one, one-mul, mul-comm, mul-assoc, mul-right-comm, mul-le-mul-right, mul-pos, zero-mul, zero-div, lt-div-mul-add, div-le-of-le-mul, eq-of-mul-eq-mul-right, mul-div-mul-right, min-eq-left, lt-of-lt-of-le, lt-of-le-of-lt, lt-irrefl}
+use mathlib.Core.Bool.{Bool, true, false, _&&_, false≢true}
+use Prim.Native.Nat.{ℕ, zero, suc, _+_, _-_, _*_, _/_, _%_, _^_, _≤_, _<_}
+use native.Mathlib.Nat.{mul-one, one-mul, mul-comm, mul-assoc, mul-le-mul-right, zero-mul, zero-div, lt-div-mul-add, div-le-of-le-mul, eq-of-mul-eq-mul-right, mul-div-mul-right, min-eq-left, lt-of-lt-of-le, lt-of-le-of-lt, lt-irrefl}
 use native.Mathlib.Omega.{arith}
 use lib.IntN.{ℤ, pos, negsuc}
 use lib.Dec.{T, eqb, ltb, leb, ltb→lt, leb→le, lt→ltb, eqb→eq}
@@ -14,7 +14,7 @@ use lib.Ieee.Fits.{down-pos, and-l, and-r}
 use lib.Ieee.Exact.{HasValue, round-exact}
 use Rattle.names.specs.Bits.{lit}
 use Rattle.light_units.specs.Units.{mostUnits, unitsOf, lightOutside}
-use Rattle.light_units.specs.UnitsLaws.{Counted, above, minus-zero, counted-found, units-most}
+use Rattle.light_units.specs.UnitsLaws.{Counted, above, minus-zero, counted-found}
 
 -- a light's product by 2^24
 abbrev pub product : Float → Float

@@ -1,7 +1,7 @@
 -- Units of light. "counts each light in units of 2^-24, rounded down": a light of m·2^e has the whole part of m·2^e·2^24, whatever its sign, so that −0
 -- has 0. NaN and the infinities lie outside 0..1 and are never counted. Definitions only: specs/UnitsLaws.antt says what they mean.
 use mathlib.Core.Bool.{Bool, not}
-use Prim.Native.Nat.{ℕ, _*_, _/_, _^_}
+use Prim.Native.Nat.{ℕ, _*_, _/_}
 use lib.Ieee.{Float, nan, inf, fin, up, down}
 use Rattle.names.specs.Bits.{one32}
 use Rattle.limits.specs.Limits.{upTo}

@@ -1,10 +1,10 @@
 -- What the units of a light are: k exactly when k·2^-24 is not above the light and (k + 1)·2^-24 is; at most 2^24, and 2^24 of 1 alone. Assumes nothing.
-use mathlib.Core.Path.{_≡_, refl, sym, ap, _∙_, subst}
-use mathlib.Core.Bool.{Bool, true, false, not, _&&_, _||_, false≢true, and-eq-true-iff, or-true}
-use Prim.Native.Nat.{ℕ, zero, suc, _+_, _-_, _*_, _/_, _^_, _≤_, _<_}
-use native.Mathlib.Nat.{mul-one, one-mul, mul-comm, mul-assoc, mul-right-comm, mul-le-mul-right, mul-lt-mul-of-pos-right, zero-mul, zero-div, div-mul-le-self, lt-div-mul-add, div-le-of-le-mul, div-eq-of-lt-le, add-mul, le-div-iff-mul-le, le-trans}
+use mathlib.Core.Path.{_≡_, refl, sym, _∙_}
+use mathlib.Core.Bool.{Bool, true, false, _&&_, _||_, false≢true, and-eq-true-iff}
+use Prim.Native.Nat.{ℕ, _+_, _*_, _/_, _≤_, _<_}
+use native.Mathlib.Nat.{mul-one, one-mul, mul-le-mul-right, zero-mul, zero-div, div-mul-le-self, lt-div-mul-add, div-le-of-le-mul, div-eq-of-lt-le, add-mul}
 use native.Mathlib.Omega.{arith}
-use lib.IntN.{ℤ, pos, negsuc}
+use lib.IntN.{ℤ}
 use lib.Dec.{ltb, eqb}
 use borrow.Author.Tests.{not-false, ltb-true, eqb-true, eq-eqb}
 use lib.Ieee.Fits.{down-pos}

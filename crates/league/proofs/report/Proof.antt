@@ -1,7 +1,6 @@
 -- Safe, and ends: the measure is the number of turns that are left.
 use borrow.Author.Needs.{needs}
-use native.Mathlib.Omega.{arith}
-use mathlib.Core.Path.{_≡_, refl, _∙_}
+use mathlib.Core.Path.{_≡_}
 use lib.ListN.{length}
 use Rattle.league_report.specs.FileLights.{lengthLimit}
 use Rattle.league_report.specs.Report.{LeagueWithin}

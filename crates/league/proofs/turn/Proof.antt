@@ -1,6 +1,6 @@
 -- A length stands before a file that may come, and the space holds that file.
 use native.Mathlib.Omega.{arith}
-use mathlib.Core.Path.{_≡_, sym, _∙_}
+use mathlib.Core.Path.{sym, _∙_}
 use lib.ListN.{length-take}
 use Rattle.league_report.specs.ReportLaws.{length-within}
 use borrow.Author.Needs.{needs}

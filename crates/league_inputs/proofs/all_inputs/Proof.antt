@@ -1,6 +1,5 @@
 -- Safe, and ends: the measure is the number of turns that are left.
-use native.Mathlib.Omega.{arith}
-use mathlib.Core.Path.{_≡_, refl}
+use mathlib.Core.Path.{_≡_}
 use lib.ListN.{length}
 use borrow.Author.Needs.{needs}
 use Rattle.league_inputs.proofs.all_inputs.Statement.{statement}

@@ -1,6 +1,6 @@
 -- The lights stand at the place of the contents.
 use borrow.Author.Needs.{needs}
-use mathlib.Core.Path.{_≡_, sym, ap, _∙_}
+use mathlib.Core.Path.{ap, _∙_}
 use Rattle.lists.specs.Some.{some}
 use Rattle.light_units.specs.Units.{lightOutside}
 use Rattle.volume_file.specs.VolumeFileLaws.{accepted-axes}
@@ -22,10 +22,11 @@ counted-requires c κs =
     let s = c .before .before .before .before in
     let axes-at = c .before .before .axes-at in
     let voxel-count = c .before .voxel-count in
-    let place = lights-place (s .args .bytes .now) (s .pre .0) (axes-at .result) (voxel-count .result) _ (axes-at .ensures) (voxel-count .ensures) (c .offset-at .ensures) in
-    (lights-room (s .args .bytes .now) (s .pre .0) (axes-at .result) (voxel-count .result) _ (axes-at .ensures) (voxel-count .ensures) (c .offset-at .ensures),
-    lights-fewer (s .args .bytes .now) (s .pre .0) (axes-at .result) (voxel-count .result) _ (axes-at .ensures) (voxel-count .ensures) (c .offset-at .ensures),
-    ap (some lightOutside) place ∙ s .pre .1)
+    let place = lights-place (s .args .bytes .now) (s .pre .0) (axes-at .result) (voxel-count .result) _ (axes-at .ensures) (voxel-count .ensures) (c .offset-at .ensures) in (
+      lights-room (s .args .bytes .now) (s .pre .0) (axes-at .result) (voxel-count .result) _ (axes-at .ensures) (voxel-count .ensures) (c .offset-at .ensures),
+      lights-fewer (s .args .bytes .now) (s .pre .0) (axes-at .result) (voxel-count .result) _ (axes-at .ensures) (voxel-count .ensures) (c .offset-at .ensures),
+      ap (some lightOutside) place ∙ s .pre .1,
+    )
 
 returns : tie.Need-returns
 returns c =

@@ -1,7 +1,6 @@
 -- Each way out is a case of the definition.
 use native.Mathlib.Omega.{arith}
-use native.Mathlib.Nat.{min-eq-left, min-eq-right}
-use mathlib.Core.Path.{refl, sym}
+use mathlib.Core.Path.{refl}
 use borrow.Author.Tests.{eq-eqb, ne-eqb}
 use Rattle.light_figures.specs.LightFigures.{lowestOfBoth}
 use Rattle.light_figures.proofs.inner.lowest_of_both.Statement.{statement}

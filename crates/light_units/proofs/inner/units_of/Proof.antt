@@ -1,9 +1,9 @@
 -- The product is exact, and cut to a whole number it is the light's units.
-use mathlib.Core.Path.{_≡_, sym, subst, _∙_}
+use mathlib.Core.Path.{sym, subst, _∙_}
 use lib.Dec.{T}
 use lib.Ieee.{binary32, fits}
 use Rattle.light_units.specs.UnitsLaws.{units-most}
-use Rattle.light_units.proofs.Scaled.{Cut, cut-of}
+use Rattle.light_units.proofs.Scaled.{cut-of}
 use Rattle.light_units.proofs.inner.units_of.Statement.{statement}
 use Rattle.light_units.proofs.inner.units_of.Tie as tie
 

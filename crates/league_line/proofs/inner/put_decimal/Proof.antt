@@ -1,13 +1,11 @@
 -- The digits that `decimal` makes are the definition's, and stand where they are put.
 use native.Mathlib.Omega.{arith}
-use mathlib.Core.Path.{_≡_, refl, sym, ap, _∙_}
-use Prim.Native.Nat.{_+_}
-use lib.ListN.{length}
+use mathlib.Core.Path.{refl, sym, ap, _∙_}
 use lib.Seq.{sets}
 use Rattle.league_line.specs.TextLaws.{decimal-is, fewest-most, length-digits}
 use borrow.Author.Needs.{needs}
-use Rattle.league_line.proofs.put_decimal.Statement.{statement}
-use Rattle.league_line.proofs.put_decimal.Tie as tie
+use Rattle.league_line.proofs.inner.put_decimal.Statement.{statement}
+use Rattle.league_line.proofs.inner.put_decimal.Tie as tie
 
 decimal-requires : tie.Need-decimal-requires
 decimal-requires c κs = search needs

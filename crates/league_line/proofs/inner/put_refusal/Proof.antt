@@ -1,13 +1,12 @@
 -- The runs of bytes make the line.
-use native.Mathlib.Nat.{zero-add}
 use native.Mathlib.Omega.{arith}
-use mathlib.Core.Path.{_≡_, refl, _∙_}
+use mathlib.Core.Path.{refl}
 use mathlib.Core.List.{[], _∷_}
 use Rattle.league_line.specs.Text.{spaced, refusedWord, textOf}
 use Rattle.league_line.proofs.Runs.{line-long, line-whole}
 use borrow.Author.Needs.{needs}
-use Rattle.league_line.proofs.put_refusal.Statement.{statement}
-use Rattle.league_line.proofs.put_refusal.Tie as tie
+use Rattle.league_line.proofs.inner.put_refusal.Statement.{statement}
+use Rattle.league_line.proofs.inner.put_refusal.Tie as tie
 
 slice-aggregate-put-bytes : tie.Need-slice-aggregate-put-bytes
 slice-aggregate-put-bytes c = search needs

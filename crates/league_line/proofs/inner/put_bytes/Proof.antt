@@ -1,13 +1,13 @@
 -- After i turns the first i bytes of the text stand from `at` on.
 use borrow.Author.Needs.{needs}
 use native.Mathlib.Omega.{arith}
-use mathlib.Core.Path.{_≡_, refl, sym, ap, _∙_}
-use Prim.Native.Nat.{ℕ, _+_, _-_, _≤_}
+use mathlib.Core.Path.{_≡_, refl, _∙_}
+use Prim.Native.Nat.{_-_, _≤_}
 use lib.ListN.{length, take, length-set}
-use lib.Seq.{sets, length-sets, take-all}
+use lib.Seq.{sets, take-all}
 use Rattle.bytes_le.specs.BytesLaws.{sets-one-more}
-use Rattle.league_line.proofs.put_bytes.Statement.{statement}
-use Rattle.league_line.proofs.put_bytes.Tie as tie
+use Rattle.league_line.proofs.inner.put_bytes.Statement.{statement}
+use Rattle.league_line.proofs.inner.put_bytes.Tie as tie
 
 abbrev Inv-loop : tie.InvT-loop
 Inv-loop line₀ at text i₀ line i = (line ≡ sets line₀ at (take i text)) × (length line ≡ length line₀) × (i ≤ length text)

@@ -2,17 +2,14 @@
 use native.Mathlib.Omega.{arith}
 use lib.ListN.{length-take}
 use borrow.Author.Needs.{needs}
-use Rattle.league_line.proofs.print_refusal.Statement.{statement}
-use Rattle.league_line.proofs.print_refusal.Tie as tie
+use Rattle.league_line.proofs.inner.print_line.Statement.{statement}
+use Rattle.league_line.proofs.inner.print_line.Tie as tie
 
-slice-aggregate-put-refusal : tie.Need-slice-aggregate-put-refusal
-slice-aggregate-put-refusal c = search needs
+slice-aggregate-put-figures : tie.Need-slice-aggregate-put-figures
+slice-aggregate-put-figures c = search needs
 
-add-put-refusal : tie.Need-add-put-refusal
-add-put-refusal c = search needs
-
-put-refusal-requires : tie.Need-put-refusal-requires
-put-refusal-requires c κs = search needs
+put-figures-requires : tie.Need-put-figures-requires
+put-figures-requires c κs = search needs
 
 array-share-prefix-line : tie.Need-array-share-prefix-line
 array-share-prefix-line c = search needs
@@ -26,13 +23,12 @@ write-all-requires c κs = search needs
 returns : tie.Need-returns
 returns c = search needs
 
-pub print-refusal-spec : {M : Type 1} → statement M
-print-refusal-spec =
+pub print-line-spec : {M : Type 1} → statement M
+print-line-spec =
     tie.close
     (tie.spec
-    slice-aggregate-put-refusal
-    add-put-refusal
-    put-refusal-requires
+    slice-aggregate-put-figures
+    put-figures-requires
     array-share-prefix-line
     slice-aggregate-write-all
     write-all-requires

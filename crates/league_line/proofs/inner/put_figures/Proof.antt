@@ -1,13 +1,13 @@
 -- The runs of bytes make the line.
 use native.Mathlib.Nat.{zero-add}
 use native.Mathlib.Omega.{arith}
-use mathlib.Core.Path.{_≡_, refl, _∙_}
+use mathlib.Core.Path.{_∙_}
 use Rattle.lists.specs.Fold.{tab}
 use Rattle.league_line.specs.Text.{decimalOf, spaced, numbersOf, textOf}
 use Rattle.league_line.proofs.Runs.{line-long, line-whole}
 use borrow.Author.Needs.{needs}
-use Rattle.league_line.proofs.put_figures.Statement.{statement}
-use Rattle.league_line.proofs.put_figures.Tie as tie
+use Rattle.league_line.proofs.inner.put_figures.Statement.{statement}
+use Rattle.league_line.proofs.inner.put_figures.Tie as tie
 
 array-read-t10 : tie.Need-array-read-t10
 array-read-t10 c = search needs

@@ -1,14 +1,14 @@
 -- After i turns the first i numbers stand from `at` on, each after a space.
 use borrow.Author.Needs.{needs}
 use native.Mathlib.Omega.{arith}
-use mathlib.Core.Path.{_≡_, refl, sym, ap, _∙_}
-use Prim.Native.Nat.{ℕ, _+_, _-_, _*_, _≤_}
+use mathlib.Core.Path.{_≡_, refl, ap, _∙_}
+use Prim.Native.Nat.{_+_, _-_, _*_, _≤_}
 use lib.ListN.{length, take, length-set}
 use lib.Seq.{sets, length-sets, take-all}
 use Rattle.league_line.specs.Text.{spaced}
 use Rattle.league_line.proofs.Runs.{number-put, number-end}
-use Rattle.league_line.proofs.put_numbers.Statement.{statement}
-use Rattle.league_line.proofs.put_numbers.Tie as tie
+use Rattle.league_line.proofs.inner.put_numbers.Statement.{statement}
+use Rattle.league_line.proofs.inner.put_numbers.Tie as tie
 
 abbrev Inv-loop : tie.InvT-loop
 Inv-loop line₀ at numbers end₀ i₀ line end i =
@@ -47,12 +47,13 @@ loop-again c =
     let args = c .before .before .before .before .before .before .before .before .before .args in
     let loop = c .before .before .before .before .before .before .loop in
     let taken = c .before .before .before .before .before .loop-test .taken in
-    let put = c .before .before .put-decimal .ensures in
-    (number-put (args .line .now) (args .at) (args .numbers .now) (loop .i) (loop .end) taken (loop .inv .1) _ _ (loop .inv .0) (put .0),
-    number-end (args .line .now) (args .at) (args .numbers .now) (loop .i) (loop .end) taken (loop .inv .1) _ (put .1),
-    omega arith,
-    ap length (put .0) ∙ simp (length-sets, length-set) (loop .inv .3),
-    omega arith)
+    let put = c .before .before .put-decimal .ensures in (
+      number-put (args .line .now) (args .at) (args .numbers .now) (loop .i) (loop .end) taken (loop .inv .1) _ _ (loop .inv .0) (put .0),
+      number-end (args .line .now) (args .at) (args .numbers .now) (loop .i) (loop .end) taken (loop .inv .1) _ (put .1),
+      omega arith,
+      ap length (put .0) ∙ simp (length-sets, length-set) (loop .inv .3),
+      omega arith,
+    )
 
 same-length : tie.Need-same-length Inv-loop μ-loop
 same-length c = search needs
