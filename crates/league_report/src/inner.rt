@@ -5,13 +5,12 @@ ghost use Prim.Native.Nat.{_<_, _≤_};
 ghost use Rattle.light_figures.specs.LightFigures.{FiguresSized};
 ghost use Rattle.league_report.specs.FileLights.{lengthLimit};
 ghost use Rattle.league_report.specs.Report.{filesLimit, leagueOf, leagueWith, LeagueWithin, openingOf};
+use super::LENGTH_LIMIT;
 use super::League;
 use super::Opening;
 use light_figures::LightFigures;
 
 const FILES_LIMIT: u64 = 65536;
-
-const LENGTH_LIMIT: usize = 65536;
 
 // No file yet.
 pub fn no_files() -> League
