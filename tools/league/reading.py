@@ -1,6 +1,6 @@
 """The league report in Python, a second reading of the request (document 02, C-24) beside the proved one; volume files are judged by tools/volume_file.py.
 
-`report` is what the program league prints for an input.
+`report` is what the program league prints for an input, `volume` a good file to make one of.
 """
 import struct
 import sys
@@ -9,7 +9,8 @@ from pathlib import Path
 
 sys.dont_write_bytecode = True
 sys.path.insert(0, str(Path(__file__).resolve().parent.parent))
-from volume_file import judge, number
+from volume_file import assemble, bits, judge, number
+from volume_vectors import parts
 
 # the most bytes of a file, and the most files
 LENGTH, FILES = 65536, 65536
@@ -54,3 +55,10 @@ def report(data):
         lines.append(line(place, lights))
         everything += lights
     return "".join(lines) + line(files, everything)
+
+
+def volume(light, axes=None, extra=()):
+    """A good file of these lights, in a row of voxels unless axes say otherwise."""
+    axes = axes or (len(light), 1, 1)
+    corners = [bits(x) for x in (0, 0, 0, *axes)]
+    return assemble(axes, [*parts(axes=axes, corners=corners, light=list(light)), *extra])
