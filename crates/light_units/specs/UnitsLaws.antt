@@ -1,12 +1,13 @@
 -- What the units of a light are: k exactly when k·2^-24 is not above the light and (k + 1)·2^-24 is; at most 2^24, and 2^24 of 1 alone. Assumes nothing.
 use mathlib.Core.Path.{_≡_, refl, sym, _∙_}
-use mathlib.Core.Bool.{Bool, true, false, _&&_, _||_, false≢true, and-eq-true-iff}
+use mathlib.Core.Bool.{Bool, true, false, _&&_, _||_, false≢true, and-eq-true-iff, or-true}
+use mathlib.Core.Logic.{_↔_, ⊎-elim}
 use Prim.Native.Nat.{ℕ, _+_, _*_, _/_, _≤_, _<_}
-use native.Mathlib.Nat.{mul-one, one-mul, mul-le-mul-right, zero-mul, zero-div, div-mul-le-self, lt-div-mul-add, div-le-of-le-mul, div-eq-of-lt-le, add-mul}
+use native.Mathlib.Nat.{mul-one, one-mul, mul-le-mul-right, zero-mul, zero-div, div-mul-le-self, lt-div-mul-add, div-le-of-le-mul, div-eq-of-lt-le, add-mul, eq-or-lt-of-le}
 use native.Mathlib.Omega.{arith}
 use lib.IntN.{ℤ}
 use lib.Dec.{ltb, eqb}
-use borrow.Author.Tests.{not-false, ltb-true, eqb-true, eq-eqb}
+use borrow.Author.Tests.{not-false, ltb-true, eqb-true, eq-eqb, lt-ltb}
 use lib.Ieee.Fits.{down-pos}
 use lib.Ieee as Ieee
 use lib.Ieee.{Float, nan, inf, fin, up, down}
@@ -54,6 +55,22 @@ counted-found (fin false m e) h =
     let b : ℕ = 1 * 1 * down e in
     let le : m * up e ≤ down e = either-way (ltb a b) (eqb a b && true) (p .1) (λ t. omega (arith, ltb-true a b t)) (λ t. omega (arith, eqb-true a b (and-eq-true-iff (eqb a b) true .0 t .0))) in
     above le
+
+not-above : (a b : ℕ) → a ≤ b → ltb a b || (eqb a b && true) ≡ true
+not-above a b h = ⊎-elim (λ e. rw (eq-eqb a b e) (or-true (ltb a b))) (λ l. rw (lt-ltb a b l) refl) (eq-or-lt-of-le h)
+
+counted-given : (x : Float) → Counted x → lightOutside x ≡ false
+unfolding lightOutside upTo Ieee.ofBits Ieee.le Ieee.lt Ieee.eq
+counted-given _ (above {m} {e} h) = rw (not-above (0 * 1 * down e) (m * up e * 1) (omega (arith, zero-mul (down e))), not-above (m * up e * 1) (1 * 1 * down e) (omega arith)) refl
+counted-given _ (minus-zero {m} {e} h) =
+    let z : 0 * 1 * down e ≡ m * up e * 1 = omega (arith, zero-mul (down e)) in
+    let p : 0 * 1 * down e ≡ 0 = zero-mul (down e) in
+    let q : 0 < m * up e * 1 + 1 * 1 * down e = omega (arith, down-pos e) in
+    rw (eq-eqb _ _ z, eq-eqb _ _ p, lt-ltb _ _ q) refl
+
+-- exactly these are not outside
+pub counted-exactly : (x : Float) → (lightOutside x ≡ false) ↔ Counted x
+counted-exactly x = (counted-found x, counted-given x)
 
 -- ---- how many
 
