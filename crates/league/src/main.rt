@@ -3,8 +3,8 @@
 ghost use mathlib.Core.Path.{_≡_};
 ghost use Prim.Native.Nat.{_<_};
 ghost use lib.ListN.{length};
-ghost use Rattle.league_report.specs.FileLights.{lengthLimit};
-ghost use Rattle.league_report.specs.Report.{filesLimit, LeagueWithin};
+ghost use Rattle.names.specs.Numbers.{lengthLimit, filesLimit};
+ghost use Rattle.league_report.specs.Report.{LeagueWithin};
 use league_report::League;
 use league_report::Opening;
 

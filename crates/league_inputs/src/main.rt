@@ -2,7 +2,8 @@
 ghost use mathlib.Core.Path.{_≡_};
 ghost use Prim.Native.Nat.{_<_, _≤_};
 ghost use lib.ListN.{length};
-ghost use Rattle.league_report.specs.Report.{filesLimit, LeagueWithin};
+ghost use Rattle.names.specs.Numbers.{filesLimit};
+ghost use Rattle.league_report.specs.Report.{LeagueWithin};
 use league_report::League;
 use league_report::Opening;
 

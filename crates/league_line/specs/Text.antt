@@ -4,10 +4,10 @@ use mathlib.Core.List.{List, [], _∷_, _++_}
 use Prim.Native.Nat.{ℕ, zero, suc, _+_, _^_}
 use lib.Dec.{ltb}
 use lib.ListN.{getD}
+use Rattle.names.specs.Numbers.{bandNumber}
 use Rattle.io.specs.Digits.{digits}
 use Rattle.lists.specs.Fold.{tab}
 use Rattle.light_figures.specs.declared.LightFigures.{LightFigures}
-use Rattle.light_figures.specs.LightFigures.{bandNumber}
 use Rattle.league_report.specs.Report.{Line, figures, refused}
 
 -- ---- a number

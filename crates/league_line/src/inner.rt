@@ -3,7 +3,8 @@ ghost use mathlib.Core.Path.{_≡_};
 ghost use Prim.Native.Nat.{_+_, _*_, _≤_};
 ghost use lib.ListN.{length, take};
 ghost use lib.Seq.{sets};
-ghost use Rattle.league_report.specs.Report.{filesLimit, Line};
+ghost use Rattle.names.specs.Numbers.{filesLimit};
+ghost use Rattle.league_report.specs.Report.{Line};
 ghost use Rattle.league_line.specs.Text.{decimalOf, spaced, textOf};
 use light_figures::LightFigures;
 

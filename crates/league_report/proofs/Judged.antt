@@ -8,7 +8,7 @@ use lib.Dec.{ltb}
 use lib.ListN.{length}
 use lib.Ieee.{Float}
 use Rattle.names.specs.Refusals.{firstOf, unlessRefused}
-use Rattle.names.specs.Numbers.{voxelLimit}
+use Rattle.names.specs.Numbers.{voxelLimit, lengthLimit}
 use Rattle.lists.specs.Fold.{ahead, tab}
 use Rattle.lists.specs.Some.{some}
 use Rattle.grid.specs.declared.Axes.{Axes}
@@ -23,7 +23,7 @@ use Rattle.light_units.specs.Units.{lightOutside}
 use Rattle.light_figures.specs.declared.LightFigures.{LightFigures}
 use Rattle.light_figures.specs.LightFigures.{figuresOf, lightFigures, mostVoxels}
 use Rattle.league_report.specs.declared.FileLights.{FileLights}
-use Rattle.league_report.specs.FileLights.{lengthLimit, lightsRefusal, noLights, lightsAnswer, LightsOfFile}
+use Rattle.league_report.specs.FileLights.{lightsRefusal, noLights, lightsAnswer, LightsOfFile}
 
 -- ---- the judge's word
 

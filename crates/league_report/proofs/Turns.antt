@@ -5,14 +5,14 @@ use Prim.Native.Nat.{ℕ, _+_, _<_, _≤_}
 use native.Mathlib.Omega.{arith}
 use lib.ListN.{length}
 use borrow.Author.Tests.{eq-eqb, ne-eqb, le-leb, lt-leb, lt-ltb, le-ltb}
+use Rattle.names.specs.Numbers.{lengthLimit, filesLimit}
 use Rattle.bytes_le.specs.Bytes.{u32At}
 use Rattle.light_figures.specs.declared.LightFigures.{LightFigures}
 use Rattle.light_figures.specs.LightFigures.{figuresOf, unitsEach, joinedFigures, FiguresSized}
 use Rattle.light_figures.specs.FiguresLaws.{joined-sized}
 use Rattle.league_report.specs.declared.League.{League}
 use Rattle.league_report.specs.declared.Opening.the-variants.{End, Length, TooFar}
-use Rattle.league_report.specs.FileLights.{lengthLimit}
-use Rattle.league_report.specs.Report.{filesLimit, allLights, leagueOf, LeagueWithin, leagueWith, openingOf}
+use Rattle.league_report.specs.Report.{allLights, leagueOf, LeagueWithin, leagueWith, openingOf}
 use Rattle.league_report.specs.ReportLaws.{none, league-within}
 
 -- ---- what stands before a file

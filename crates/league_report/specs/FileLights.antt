@@ -5,16 +5,13 @@ use mathlib.Core.List.{List, [], _∷_}
 use Prim.Native.Nat.{ℕ}
 use lib.Dec.{ltb}
 use lib.ListN.{length}
+use Rattle.names.specs.Numbers.{lengthLimit}
 use Rattle.names.specs.Refusals.{Row, row, firstOf, unlessRefused}
 use Rattle.lists.specs.Some.{some}
 use Rattle.volume_file.specs.VolumeFile.{lightAt, faulty}
 use Rattle.light_units.specs.Units.{lightOutside}
 use Rattle.light_figures.specs.LightFigures.{figuresOf, lightFigures}
 use Rattle.league_report.specs.declared.FileLights.{FileLights}
-
--- "each after a u32 length of at most 65,536"
-abbrev pub lengthLimit : ℕ
-lengthLimit = 65536
 
 abbrev pub lightsRows : List ℕ → List Row
 lightsRows s = row 18 (ltb lengthLimit (length s)) ∷ row 12 (faulty s) ∷ row 18 (some lightOutside (lightAt s)) ∷ []

@@ -8,6 +8,7 @@ use lib.Dec.{eqb}
 use lib.ListN.{length}
 use lib.Ieee.{Float}
 use borrow.Author.Tests.{eqb-true, ltb-false}
+use Rattle.names.specs.Numbers.{lengthLimit}
 use Rattle.names.specs.Refusals.{unlessRefused, RefusedBy, refused-by}
 use Rattle.names.specs.Passed.{passed}
 use Rattle.lists.specs.Fold.{length-tab}
@@ -23,7 +24,7 @@ use Rattle.light_units.specs.UnitsLaws.{units-most}
 use Rattle.light_figures.specs.LightFigures.{figuresOf, unitsEach, lightFigures, mostVoxels, FiguresSized, AllUnits}
 use Rattle.light_figures.specs.FiguresLaws.{figures-sized}
 use Rattle.league_report.specs.declared.FileLights.{FileLights}
-use Rattle.league_report.specs.FileLights.{lengthLimit, lightsRows, lightsRefusal, noLights, lightsAnswer, LightsOfFile}
+use Rattle.league_report.specs.FileLights.{lightsRows, lightsRefusal, noLights, lightsAnswer, LightsOfFile}
 
 pub file-lights-one : (s : List ℕ) (r t : FileLights) → LightsOfFile s r → LightsOfFile s t → r ≡ t
 file-lights-one s r t p q = p .answer ∙ sym (q .answer)

@@ -6,6 +6,7 @@ use Prim.Native.Nat.{ℕ, zero, suc, _+_, _*_, _≤_}
 use lib.Dec.{ltb, leb, eqb}
 use lib.ListN.{length, take, drop}
 use lib.Ieee.{Float}
+use Rattle.names.specs.Numbers.{lengthLimit, filesLimit}
 use Rattle.bytes_le.specs.Bytes.{u32At}
 use Rattle.volume_file.specs.VolumeFile.{lightAt}
 use Rattle.light_figures.specs.declared.LightFigures.{LightFigures}
@@ -13,11 +14,7 @@ use Rattle.light_figures.specs.LightFigures.{lightFigures, joinedFigures, Figur
 use Rattle.league_report.specs.declared.League.{League}
 use Rattle.league_report.specs.declared.Opening.{Opening}
 use Rattle.league_report.specs.declared.Opening.the-variants.{End, Length, TooFar}
-use Rattle.league_report.specs.FileLights.{lengthLimit, lightsRefusal}
-
--- "At most 65,536 files"
-abbrev pub filesLimit : ℕ
-filesLimit = 65536
+use Rattle.league_report.specs.FileLights.{lightsRefusal}
 
 -- ---- what is said of the files so far
 

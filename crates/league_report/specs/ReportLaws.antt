@@ -10,6 +10,7 @@ use lib.Dec.{ltb, leb, eqb, eqb·suc-zero}
 use lib.ListN.{length, take, drop, length-append, replicate}
 use lib.Ieee.{Float}
 use borrow.Author.Tests.{eqb-false, le-leb, leb-false, ltb-false}
+use Rattle.names.specs.Numbers.{lengthLimit, filesLimit}
 use Rattle.names.specs.Refusals.{firstOf}
 use Rattle.lists.specs.Fold.{tab}
 use Rattle.lists.specs.Some.{some}
@@ -22,9 +23,9 @@ use Rattle.light_figures.specs.FiguresLaws.{lights-joined, bands-voxels}
 use Rattle.league_report.specs.declared.League.{League}
 use Rattle.league_report.specs.declared.Opening.{Opening}
 use Rattle.league_report.specs.declared.Opening.the-variants.{End, Length, TooFar}
-use Rattle.league_report.specs.FileLights.{lengthLimit, lightsRefusal}
+use Rattle.league_report.specs.FileLights.{lightsRefusal}
 use Rattle.league_report.specs.FileLightsLaws.{units-inside, length-each, lights-sized}
-use Rattle.league_report.specs.Report.{filesLimit, allLights, leagueOf, LeagueWithin, leagueWith, openingOf, Line, figures, refused, lastLine, placeAfter, cutOff, afterFile, afterOpening, reportFrom, reportOf}
+use Rattle.league_report.specs.Report.{allLights, leagueOf, LeagueWithin, leagueWith, openingOf, Line, figures, refused, lastLine, placeAfter, cutOff, afterFile, afterOpening, reportFrom, reportOf}
 
 -- ---- one file more
 

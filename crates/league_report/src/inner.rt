@@ -2,15 +2,14 @@
 ghost use mathlib.Core.Path.{_≡_};
 ghost use mathlib.Core.List.{[]};
 ghost use Prim.Native.Nat.{_<_, _≤_};
+ghost use Rattle.names.specs.Numbers.{lengthLimit, filesLimit};
 ghost use Rattle.light_figures.specs.LightFigures.{FiguresSized};
-ghost use Rattle.league_report.specs.FileLights.{lengthLimit};
-ghost use Rattle.league_report.specs.Report.{filesLimit, leagueOf, leagueWith, LeagueWithin, openingOf};
-use super::LENGTH_LIMIT;
+ghost use Rattle.league_report.specs.Report.{leagueOf, leagueWith, LeagueWithin, openingOf};
 use super::League;
 use super::Opening;
 use light_figures::LightFigures;
-
-const FILES_LIMIT: u64 = 65536;
+use names::FILES_LIMIT;
+use names::LENGTH_LIMIT;
 
 // No file yet.
 pub fn no_files() -> League

@@ -10,6 +10,7 @@ ghost use Rattle.volume_file.specs.VolumeFileLaws.{Accepted};
 ghost use Rattle.light_units.specs.Units.{lightOutside};
 ghost use Rattle.league_report.specs.FileLights.{noLights, lightsAnswer, LightsOfFile};
 use light_figures::LightFigures;
+use names::LENGTH_LIMIT;
 
 pub mod inner;
 
@@ -33,8 +34,6 @@ pub enum Opening {
     Length(usize),
     TooFar,
 }
-
-const LENGTH_LIMIT: usize = 65536;
 
 // The figures that `league` prints of a file; 18 above 65,536 bytes, then 12 for any fault, then 18 for a light outside 0..1.
 pub fn file_lights(bytes: &[u8]) -> FileLights

@@ -10,12 +10,13 @@ use lib.ListN.{length, getD, set, take, length-set}
 use lib.Seq.{ext-getD, getD-set-same, getD-set-other}
 use borrow.Author.Tests.{eqb-true, eqb-false, eq-eqb}
 use lib.Ieee.{Float, nan}
+use Rattle.names.specs.Numbers.{bandNumber}
 use Rattle.lists.specs.Fold.{tab, length-tab, getD-tab, tab-step, tab-end}
 use Rattle.lists.specs.Some.{some, none-out}
 use Rattle.light_units.specs.Units.{unitsOf, lightOutside}
 use Rattle.light_units.specs.UnitsLaws.{units-most}
 use Rattle.light_figures.specs.declared.LightFigures.{LightFigures}
-use Rattle.light_figures.specs.LightFigures.{bandNumber, bandOf, sumOf, lowestFrom, lowestOf, highestOf, inBand, figuresOf, unitsEach, lowestOfBoth, joinedFigures, mostVoxels, FiguresSized, BandsFit}
+use Rattle.light_figures.specs.LightFigures.{bandOf, sumOf, lowestFrom, lowestOf, highestOf, inBand, figuresOf, unitsEach, lowestOfBoth, joinedFigures, mostVoxels, FiguresSized, BandsFit}
 use Rattle.light_figures.specs.FiguresLaws.{band-at, figures-joined, figures-sized}
 
 -- ---- one light more

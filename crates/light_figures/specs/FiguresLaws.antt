@@ -11,12 +11,13 @@ use lib.Dec.{eqb, leb, eqb·suc-zero}
 use lib.ListN.{length, getD, length-append, List·getD-eq-default}
 use borrow.Author.Tests.{eqb-true, eqb-false, ne-eqb, leb-true, leb-false}
 use lib.Ieee.{Float}
+use Rattle.names.specs.Numbers.{mostUnits, bandWidth, bandNumber}
 use Rattle.names.specs.Bits.{one32}
 use Rattle.lists.specs.Fold.{tab, length-tab, getD-tab, tab-same}
-use Rattle.light_units.specs.Units.{mostUnits, unitsOf}
+use Rattle.light_units.specs.Units.{unitsOf}
 use Rattle.light_units.specs.UnitsLaws.{one-units}
 use Rattle.light_figures.specs.declared.LightFigures.{LightFigures}
-use Rattle.light_figures.specs.LightFigures.{bandWidth, bandNumber, lastBand, bandOf, sumOf, lowestFrom, lowestOf, highestOf, inBand, figuresOf, unitsEach, lightFigures, lowestOfBoth, joinedFigures, mostVoxels, FiguresSized, AllUnits}
+use Rattle.light_figures.specs.LightFigures.{lastBand, bandOf, sumOf, lowestFrom, lowestOf, highestOf, inBand, figuresOf, unitsEach, lightFigures, lowestOfBoth, joinedFigures, mostVoxels, FiguresSized, AllUnits}
 
 -- ---- figures joined are those of both lists put together
 

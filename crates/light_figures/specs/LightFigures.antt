@@ -8,18 +8,12 @@ use Prim.Native.Nat.{ℕ, _+_, _*_, _/_, _<_, _≤_, min, max}
 use lib.Dec.{eqb}
 use lib.ListN.{length, getD}
 use lib.Ieee.{Float}
+use Rattle.names.specs.Numbers.{mostUnits, bandWidth, bandNumber}
 use Rattle.lists.specs.Fold.{tab}
-use Rattle.light_units.specs.Units.{mostUnits, unitsOf}
+use Rattle.light_units.specs.Units.{unitsOf}
 use Rattle.light_figures.specs.declared.LightFigures.{LightFigures}
 
 -- ---- of a list of units
-
--- "sixteen band counts of width 2^20 units"
-abbrev pub bandWidth : ℕ
-bandWidth = 1048576
-
-abbrev pub bandNumber : ℕ
-bandNumber = 16
 
 abbrev pub lastBand : ℕ
 lastBand = 15

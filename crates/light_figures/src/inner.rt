@@ -4,16 +4,15 @@ ghost use mathlib.Core.Bool.{false};
 ghost use mathlib.Core.List.{[], _∷_};
 ghost use Prim.Native.Nat.{_+_, _*_, _<_, _≤_, max};
 ghost use lib.ListN.{length, getD};
+ghost use Rattle.names.specs.Numbers.{mostUnits, bandNumber};
 ghost use Rattle.lists.specs.Fold.{tab};
 ghost use Rattle.lists.specs.Some.{some};
 ghost use Rattle.bytes_le.specs.Bytes.{floatsAt};
-ghost use Rattle.light_units.specs.Units.{mostUnits, lightOutside};
-ghost use Rattle.light_figures.specs.LightFigures.{bandNumber, bandOf, figuresOf, lightFigures, lowestOfBoth, joinedFigures, mostVoxels, FiguresSized, BandsFit};
+ghost use Rattle.light_units.specs.Units.{lightOutside};
+ghost use Rattle.light_figures.specs.LightFigures.{bandOf, figuresOf, lightFigures, lowestOfBoth, joinedFigures, mostVoxels, FiguresSized, BandsFit};
 use super::LightFigures;
-
-const MOST_UNITS: u64 = 16777216;
-
-const BAND_WIDTH: u64 = 1048576;
+use names::BAND_WIDTH;
+use names::MOST_UNITS;
 
 const LAST_BAND: usize = 15;
 

@@ -12,8 +12,9 @@ use lib.Ieee as Ieee
 use lib.Ieee.{Float, nan, inf, fin, up, down, binary32, fits, round, mul, toUnsigned}
 use lib.Ieee.Fits.{down-pos, and-l, and-r}
 use lib.Ieee.Exact.{HasValue, round-exact}
+use Rattle.names.specs.Numbers.{mostUnits}
 use Rattle.names.specs.Bits.{lit}
-use Rattle.light_units.specs.Units.{mostUnits, unitsOf, lightOutside}
+use Rattle.light_units.specs.Units.{unitsOf, lightOutside}
 use Rattle.light_units.specs.UnitsLaws.{Counted, above, minus-zero, counted-found}
 
 -- a light's product by 2^24

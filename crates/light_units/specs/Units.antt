@@ -3,12 +3,9 @@
 use mathlib.Core.Bool.{Bool, not}
 use Prim.Native.Nat.{ℕ, _*_, _/_}
 use lib.Ieee.{Float, nan, inf, fin, up, down}
+use Rattle.names.specs.Numbers.{mostUnits}
 use Rattle.names.specs.Bits.{one32}
 use Rattle.limits.specs.Limits.{upTo}
-
--- how many units a light of 1 has, and no accepted light more: 2^24
-abbrev pub mostUnits : ℕ
-mostUnits = 16777216
 
 unfoldable pub unitsOf : Float → ℕ
 unitsOf nan = 0

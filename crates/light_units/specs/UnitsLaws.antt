@@ -11,9 +11,10 @@ use borrow.Author.Tests.{not-false, ltb-true, eqb-true, eq-eqb, lt-ltb}
 use lib.Ieee.Fits.{down-pos}
 use lib.Ieee as Ieee
 use lib.Ieee.{Float, nan, inf, fin, up, down}
+use Rattle.names.specs.Numbers.{mostUnits}
 use Rattle.names.specs.Bits.{lit, zero32, one32}
 use Rattle.limits.specs.Limits.{upTo}
-use Rattle.light_units.specs.Units.{mostUnits, unitsOf, lightOutside}
+use Rattle.light_units.specs.Units.{unitsOf, lightOutside}
 
 -- ---- rounded down
 

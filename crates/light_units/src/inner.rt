@@ -2,7 +2,8 @@
 ghost use mathlib.Core.Path.{_≡_};
 ghost use mathlib.Core.Bool.{false};
 ghost use Prim.Native.Nat.{_≤_};
-ghost use Rattle.light_units.specs.Units.{mostUnits, unitsOf, lightOutside};
+ghost use Rattle.names.specs.Numbers.{mostUnits};
+ghost use Rattle.light_units.specs.Units.{unitsOf, lightOutside};
 
 // 2^24: times a power of two is exact, so that the whole part is that of the light itself.
 const MOST_UNITS: f32 = 16777216.0;

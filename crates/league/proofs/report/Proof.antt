@@ -2,7 +2,7 @@
 use borrow.Author.Needs.{needs}
 use mathlib.Core.Path.{_≡_}
 use lib.ListN.{length}
-use Rattle.league_report.specs.FileLights.{lengthLimit}
+use Rattle.names.specs.Numbers.{lengthLimit}
 use Rattle.league_report.specs.Report.{LeagueWithin}
 use Rattle.league.proofs.report.Statement.{statement}
 use Rattle.league.proofs.report.Tie as tie
