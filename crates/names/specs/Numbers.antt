@@ -161,3 +161,24 @@ lastForeign = 255
 -- "`volstat` input above 65,536 bytes"
 abbrev pub figuresLimit : ℕ
 figuresLimit = 65536
+
+-- ---- the league report
+
+-- "counts each light in units of 2^-24": a light of 1 has so many, and no accepted light more
+abbrev pub mostUnits : ℕ
+mostUnits = 16777216
+
+-- "sixteen band counts of width 2^20 units"
+abbrev pub bandWidth : ℕ
+bandWidth = 1048576
+
+abbrev pub bandNumber : ℕ
+bandNumber = 16
+
+-- "each after a u32 length of at most 65,536"
+abbrev pub lengthLimit : ℕ
+lengthLimit = 65536
+
+-- "At most 65,536 files"
+abbrev pub filesLimit : ℕ
+filesLimit = 65536

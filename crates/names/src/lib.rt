@@ -87,3 +87,11 @@ pub const LEAST_ENTRIES: u32 = 5;
 pub const MOST_ENTRIES: u32 = 16;
 
 pub const FIGURES_LIMIT: usize = 65536;
+
+pub const MOST_UNITS: u64 = 16777216;
+
+pub const BAND_WIDTH: u64 = 1048576;
+
+pub const LENGTH_LIMIT: usize = 65536;
+
+pub const FILES_LIMIT: u64 = 65536;

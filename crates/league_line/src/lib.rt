@@ -1,0 +1,2 @@
+// The lines of the league report as text.
+pub mod inner;
