@@ -20,6 +20,8 @@ mod solid_places;
 mod table;
 mod text;
 mod timed;
+mod tree_places;
+mod trees;
 mod watch;
 mod wide_places;
 mod word_places;
