@@ -31,14 +31,15 @@ const USAGE: &str = "usage: oracle COMMAND ..
   record FOLDER                 writes each program's recorded answers to FOLDER/replay_PROGRAM/stdin, and to stdout beside it
                                 how many records and comparisons its program then says
   compare FOLDER                makes them again and compares
+  passed COUNT FIRST            rays over halls and scenes of those seeds, and what the full scan meets of triangles whose own padded box is passed over
   count FIRST COUNT             how many scenes, triangles, lamps and voxels those seeds hold
   time SEED                     bakes a seeded scene and says how fast
   one MODULE SEED PLACE         a single record of a stream, by its place, with what it holds as text
   shrink MODULE SEED PLACE CMD..  the smallest record that CMD still answers otherwise than the oracle
 MODULE is rays, masks, blurs, sun, bake, lookup or fired.";
 
-const COMMANDS: [&str; 16] = [
-    "directions", "families", "scene", "answer", "timed", "rays", "coverage", "stream", "bad", "every", "record", "compare", "count", "time", "one", "shrink",
+const COMMANDS: [&str; 17] = [
+    "directions", "families", "scene", "answer", "timed", "rays", "coverage", "stream", "bad", "every", "record", "compare", "passed", "count", "time", "one", "shrink",
 ];
 
 pub fn main() -> ExitCode {
@@ -156,6 +157,10 @@ fn run(words: &[String]) -> Result<bool, String> {
         }
         ["record", folder] => record(folder, false),
         ["compare", folder] => record(folder, true),
+        ["passed", count, first] => {
+            say(&crate::passed::searched(seeds(first, count)?))?;
+            Ok(true)
+        }
         ["count", first, count] => tally(seeds(first, count)?),
         ["time", seed] => time(number(seed, "SEED")?),
         ["one", name, seed, place] => crate::shrink::one(module(name)?, number(seed, "SEED")?, number(place, "PLACE")? as usize),

@@ -11,6 +11,7 @@ mod lamp_places;
 mod lamps;
 mod panel_places;
 mod panels;
+mod passed;
 mod progress_places;
 mod records;
 mod scene;

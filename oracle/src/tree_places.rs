@@ -770,8 +770,12 @@ pub fn changes(call: &Call, few: bool) -> Vec<Change> {
         put!(format!("leaf {i} begins at the end"), Some(16), sets(1, long));
         put!(format!("leaf {i} begins far past the end"), Some(16), sets(1, u32::MAX));
         // first and count together wrap about
-        put!(format!("leaf {i} wraps about"), Some(16), sets(1, 0u32.wrapping_sub(run).wrapping_add(1)));
+        put!(format!("leaf {i} wraps about"), Some(16), sets(1, run.wrapping_neg()));
         put!(format!("leaf {i}'s third number"), None, sets(2, u32::MAX));
+        if i + 1 < count {
+            let last = count as u32 - 1;
+            put!(format!("leaf {i} a box whose halves are the last"), Some(16), move |tree: &mut Tree| (0..3).for_each(|k| set(&mut tree.nodes, 3 * i + k, [0, last, last][k])));
+        }
         let here = first as usize;
         let place = |value: u32| move |tree: &mut Tree| set(&mut tree.order, here, value);
         put!(format!("leaf {i}, a place past the triangles"), Some(16), place(triangles as u32));
@@ -998,6 +1002,47 @@ fn bad_shapes(c: &mut Chance) -> Vec<Item> {
     for (tree, number, what) in trees {
         put(&mut out, Call::TreeNearest { lists: one.clone(), tree, ray: down }, Some(number), what);
     }
+    out.extend(alone());
+    out
+}
+
+/// Each condition broken and no other: every box holds everything, and all triangles that are there stand at one place.
+fn alone() -> Vec<Item> {
+    let mut out = Vec::new();
+    // so many triangles, an absent one more where asked
+    let mut tried = |count: usize, absent: bool, nodes: &[[u32; 3]], order: &[u32], number: u32, what: &str| {
+        let mut lists = at_one_place(count);
+        if absent {
+            lists.points.extend([1.0; 9]);
+            lists.uses.push(3);
+        }
+        let tree = Tree { boxes: [-9.0, -9.0, -9.0, 99.0, 99.0, 99.0].repeat(nodes.len()), nodes: nodes.concat(), order: order.to_vec() };
+        let [down, _] = down_and_up();
+        put(&mut out, Call::TreeTransmittance { hits: hits(&lists), lists, tree, ray: down }, Some(number), what);
+    };
+    let three = [0, 1, 2];
+    tried(3, false, &[[0, 1, 2], [1, 0, 0], [0, 3, 4], [1, 1, 0], [1, 2, 0]], &three, 0, "three leaves");
+    tried(3, false, &[[0, 2, 1], [0, 4, 3], [1, 0, 0], [1, 1, 0], [1, 2, 0]], &three, 0, "three leaves, right before left");
+    tried(3, false, &[[0, 1, 2], [0, 3, 4], [0, 4, 5], [1, 0, 0], [1, 1, 0], [1, 2, 0]], &three, 16, "a leaf of two boxes");
+    tried(3, false, &[[0, 1, 2], [0, 3, 3], [1, 0, 0], [2, 1, 0]], &three, 16, "a leaf that is both halves");
+    tried(3, false, &[[2, 0, 0], [1, 2, 0]], &three, 16, "a leaf that is no half");
+    tried(3, false, &[[0, 1, 3], [1, 0, 0], [1, 1, 0], [0, 2, 4], [1, 2, 0]], &three, 16, "a half before its box");
+    tried(3, false, &[[1, 0, 0], [0, 2, 3], [0, 1, 4], [1, 1, 0], [1, 2, 0]], &three, 16, "two boxes that are halves of each other");
+    tried(3, false, &[[2, 0, 0], [0, 1, 2], [1, 2, 0]], &three, 16, "a box that is its own half");
+    tried(3, false, &[[0, 1, 2], [0, 0, 3], [2, 0, 0], [1, 2, 0]], &three, 16, "the first box a half");
+    tried(2, true, &[[3, 0, 0]], &[0, 1, 0], 16, "a triangle twice in a leaf");
+    tried(2, true, &[[0, 1, 2], [2, 0, 0], [1, 2, 0]], &[0, 1, 0], 16, "a triangle in two leaves");
+    tried(2, false, &[[0, 1, 2], [2, 0, 0], [1, 1, 0]], &[0, 1], 16, "two leaves with one run");
+    tried(2, false, &[[1, 0, 0]], &[0], 16, "a triangle in no leaf");
+    tried(2, false, &[[1, 0, 0]], &[0, 1], 16, "a triangle in the order and in no leaf");
+    tried(2, true, &[[3, 0, 0]], &[0, 1, 2], 16, "an absent triangle in a leaf");
+    tried(2, true, &[[2, 0, 0]], &[0, 1, 2], 0, "an absent triangle outside every run");
+    tried(2, true, &[[2, 1, 0]], &[2, 1, 0], 0, "the same before the run");
+    tried(2, true, &[[3, 0, 0]], &[0, 1, 3], 16, "a place past the triangles in a leaf");
+    tried(2, true, &[[2, 0, 0]], &[0, 1, 3], 0, "a place past the triangles outside every run");
+    tried(2, true, &[[3, 0, 0]], &[0, 1], 16, "a run past the order");
+    tried(2, false, &[[2, 0, 0]], &[0, 1, 0], 16, "an order longer than the triangles are many");
+    tried(2, true, &[[0, 1, 2], [1, 0, 0], [1, 2, 0]], &[0, 2, 1], 0, "a gap between the runs");
     out
 }
 
