@@ -421,7 +421,7 @@ fn made_rays() -> Vec<Item> {
     }
     // the builder's, any, as deep as may be, all in one
     let lists = scattered(c, 27, false);
-    let rays = octants(c, 16);
+    let rays = octants(c, 11);
     let deepest = chained(c, &lists.points);
     for tree in [trees::built(&lists.points), deepest, any_tree(c, &lists.points), any_tree(c, &lists.points), one_leaf(c, &lists.points, Style { unbounded: true, ..plain })] {
         out.push(asked(&lists, tree, &rays));
@@ -716,7 +716,9 @@ pub fn changes(call: &Call, few: bool) -> Vec<Change> {
             let above = parent(i);
             if let Some(above) = above {
                 let bound = tree.boxes[6 * above + side];
-                put!(format!("{sort} {i}, {name} of the box above"), None, move |tree: &mut Tree| set(&mut tree.boxes, 6 * i + side, bound));
+                if !few || side % 2 == i % 2 {
+                    put!(format!("{sort} {i}, {name} of the box above"), None, move |tree: &mut Tree| set(&mut tree.boxes, 6 * i + side, bound));
+                }
                 put!(format!("{sort} {i}, {name} a step past the box above"), if bound.is_finite() { Some(16) } else { None }, move |tree: &mut Tree| {
                     set(&mut tree.boxes, 6 * i + side, step(bound, -inward))
                 });
@@ -893,8 +895,9 @@ pub fn bad(module: &str, seed: u64) -> Vec<Item> {
         for (k, fault) in wrong.iter().enumerate() {
             let every = match (module, which) {
                 ("rays", 0) => 1,
-                ("bake", _) => 6,
-                _ => 3,
+                ("sun", _) => 4,
+                ("bake", 1) => 12,
+                _ => 6,
             };
             if k % every == which {
                 let number = fault.number;
@@ -904,7 +907,7 @@ pub fn bad(module: &str, seed: u64) -> Vec<Item> {
             }
         }
         let faults: Vec<&Change> = wrong.iter().filter(|fault| fault.number == Some(16)).collect();
-        for _ in 0..4 {
+        for _ in 0..3 {
             let mut call = base.clone();
             (c.pick(&faults).make)(&mut call);
             (c.pick(&faults).make)(&mut call);
@@ -916,7 +919,8 @@ pub fn bad(module: &str, seed: u64) -> Vec<Item> {
         let before = 8;
         for (at, row) in rows.into_iter().enumerate() {
             let fit: Vec<&Change> = all.iter().filter(|change| change.number == Some(row) && !change.name.contains("triangles") && !change.name.starts_with("lamps:")).collect();
-            if fit.is_empty() {
+            // the second call of a module takes its own rows and the last before 16
+            if fit.is_empty() || which == 1 && row < 6 && row != 3 || which == 1 && module == "bake" && row < 8 {
                 continue;
             }
             for both in 0..2 {
