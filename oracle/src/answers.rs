@@ -316,7 +316,7 @@ pub fn answer(call: &Call) -> Answer {
             solid_answer(&after, refusal, progress, rays)
         }
         Call::TreeNearest { lists, tree, ray } => {
-            let mut words = vec![refusal, 0, 0, 0, 0, 0, 0];
+            let mut words = [refusal, 0, 0, 0, 0, 0, 0].to_vec();
             if good {
                 let tracer = RayTracer::new(&bare(lists));
                 let found = trees::through(|| nearest(&tracer, ray));

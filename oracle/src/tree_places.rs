@@ -2,11 +2,12 @@
 //! each condition of acceptance broken by the least step, alone, in pairs and beside a fault of every other row; for a seed its own scene through trees.
 //!
 //! Padded boxes, absent triangles and the shapes of trees are written here anew, so that what is asked does not move with what is answered.
-use crate::answers::{bake_call, tree_baked};
+use crate::answers::{bake_call, baked, sunned, tree_baked};
 use crate::bad::{self, change, meant, tree_of, Change};
-use crate::calls::{Bake, Call, Lists, Progress, Ray, RayCall, Scratch, Tree};
+use crate::calls::{Bake, Call, Grid, Lists, Progress, Ray, RayCall, Scratch, Tree};
 use crate::chance::Chance;
 use crate::items::{self, Item};
+use crate::lamp_places::met;
 use crate::panel_places::{self, along, down_and_up, half, of_each_kind, q, sheet};
 use crate::progress_places;
 use crate::solid_places;
@@ -313,9 +314,98 @@ pub fn passed_yet_met(count: usize) -> Vec<([f32; 9], Ray)> {
         let wanted = out.len() + count / 2;
         while out.len() < wanted {
             let (points, ray) = grazed(c, near);
-            if trees::passed_yet_met(&points, &ray).is_some() {
+            if yet_met(&points, &ray) {
                 out.push((points, ray));
             }
+        }
+    }
+    out
+}
+
+/// Whether a triangle is met though its own box is passed over.
+fn yet_met(points: &[f32; 9], ray: &Ray) -> bool {
+    let own = padded(points, 0);
+    let passed = (0..3).any(|k| {
+        let (o, d) = (ray.origin[k], ray.direction[k]);
+        o > own[3 + k] && (d > 0.0 || d == 0.0) || o < own[k] && (d < 0.0 || d == 0.0)
+    });
+    let p = [0, 1, 2].map(|corner| [0, 1, 2].map(|k| points[3 * corner + k]));
+    passed && met(p, ray.origin, ray.direction, ray.shortest, ray.longest).is_some()
+}
+
+/// A large triangle beside a ray that runs along one axis' planes, a step or two off its box, which the ray meets as it is computed; none if chance would
+/// have it otherwise.
+fn beside_a_ray(c: &mut Chance, ray: &Ray) -> Option<[f32; 9]> {
+    let flat: Vec<usize> = (0..3).filter(|k| ray.direction[*k] == 0.0).collect();
+    let axis = c.pick(&flat);
+    let inward = c.pick(&[1, -1]);
+    let size = c.between(10.0, 4000.0);
+    let far = c.between(1.0, 300.0);
+    let target = [0, 1, 2].map(|k| ray.origin[k] + ray.direction[k] * far);
+    let mut p = [target; 3];
+    let one = c.below(3);
+    for (corner, point) in p.iter_mut().enumerate() {
+        for (k, x) in point.iter_mut().enumerate() {
+            if k == axis {
+                *x = (0..c.from(1, 2)).fold(ray.origin[k], |x, _| step(x, inward));
+            }
+            if corner != one {
+                *x += if k == axis { inward as f32 * c.between(0.1, 1.0) * size } else { c.between(-size, size) };
+            }
+        }
+    }
+    let mut points = [0.0; 9];
+    points.iter_mut().zip(p.iter().flatten()).for_each(|(to, from)| *to = *from);
+    (points.iter().all(|x| x.abs() <= 4096.0) && yet_met(&points, ray)).then_some(points)
+}
+
+/// A voxel far off the middle.
+fn far_voxel(c: &mut Chance) -> Grid {
+    let low = [0, 1, 2].map(|_| c.between(-2500.0, 2500.0));
+    let edge = c.between(0.5, 4.0);
+    Grid { axes: [1, 1, 1], corners: [low[0], low[1], low[2], low[0] + edge, low[1] + edge, low[2] + edge] }
+}
+
+fn as_asked(ray: &crate::watch::Fired) -> Ray {
+    let (o, d) = (ray.origin, ray.direction);
+    Ray { origin: [o.x, o.y, o.z], direction: [d.x, d.y, d.z], shortest: ray.shortest, longest: ray.longest }
+}
+
+/// Suns whose ray the full scan would say a triangle stops, though it is passed over.
+fn passed_suns(c: &mut Chance, count: usize) -> Vec<Item> {
+    let mut out = Vec::new();
+    while out.len() < count {
+        let grid = far_voxel(c);
+        let mut direction = [0, 1, 2].map(|_| c.between(-1.0, 1.0));
+        direction[c.below(3)] = c.pick(&[0.0, -0.0]);
+        let ray = as_asked(&sunned(&grid, &Lists::default(), direction, Some(&[1])).rays[0]);
+        if let Some(points) = (0..2000).find_map(|_| beside_a_ray(c, &ray)) {
+            let mut lists = Lists::default();
+            add(&mut lists, points, [OPAQUE, TRANSLUCENT][out.len() % 2], numbers(0.5));
+            let tree = one_leaf(c, &lists.points, Style { unbounded: out.len() % 2 == 0, ..Style::default() });
+            out.push(Item::One(Call::TreeSun { grid, hits: hits(&lists), lists, tree, direction, active: vec![1], light: vec![0.5], scratch: vec![0.25] }));
+        }
+    }
+    out
+}
+
+/// Bakes of which one ray straight up would meet a triangle that is passed over.
+fn passed_bakes(c: &mut Chance, count: usize) -> Vec<Item> {
+    let mut out = Vec::new();
+    while out.len() < count {
+        let mut bake = crate::word_places::room([1, 1, 1], vec![1], false);
+        bake.grid = far_voxel(c);
+        let rays = baked(&bake, Some(&bake.active)).rays;
+        let up: Vec<Ray> = rays.iter().map(as_asked).filter(|ray| ray.direction.contains(&0.0)).collect();
+        if up.is_empty() {
+            continue;
+        }
+        let ray = up[c.below(up.len())];
+        if let Some(points) = (0..2000).find_map(|_| beside_a_ray(c, &ray)) {
+            add(&mut bake.lists, points, OPAQUE, [0.8, 0.6, 0.7, 0.5, 0.25, 0.125, 0.0]);
+            bake.hits = hits(&bake.lists);
+            let tree = one_leaf(c, &bake.lists.points, Style { unbounded: out.len() % 2 == 0, ..Style::default() });
+            out.push(calls(&bake, &tree, &[384, 384]));
         }
     }
     out
@@ -560,6 +650,7 @@ fn made_sun() -> Vec<Item> {
         out.push(tree_sun([2, 2, 1], &deep, tree, [0.1, 0.2, -1.0], vec![1; 4]));
     }
     out.push(tree_sun([2, 1, 1], &mostly_absent(), chained(c, &mostly_absent().points), up, vec![1; 2]));
+    out.extend(passed_suns(c, 4));
     out
 }
 
@@ -627,6 +718,7 @@ fn made_bakes() -> Vec<Item> {
     absent.hits = hits(&absent.lists);
     let tree = trees::built(&absent.lists.points);
     out.push(calls(&absent, &tree, &[384]));
+    out.extend(passed_bakes(c, 3));
     out
 }
 

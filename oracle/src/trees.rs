@@ -5,7 +5,7 @@
 //! box is not passed over. No tree is read for that. Each ray of it is then held to a walk of the lent tree, box by box, and where the two differ the
 //! oracle stops.
 use crate::answers;
-use crate::calls::{Lists, Ray, Tree};
+use crate::calls::{Lists, Tree};
 use crate::raytracer::{ray_triangle_intersect, RayTracer, Triangle};
 use crate::watch::{self, seen, seen_if, Branch, Fired};
 use glam::Vec3A;
@@ -374,18 +374,6 @@ impl<'a> Walk<'a> {
             found.iter().for_each(|hit| assert!(self.triangles[hit.0].is_some()));
         }
     }
-}
-
-/// The distance at which the full scan meets a single triangle whose own padded box is passed over, if it does.
-pub fn passed_yet_met(points: &[f32; 9], ray: &Ray) -> Option<f32> {
-    if !passed_over(&padded(points, 0), ray.origin, ray.direction) {
-        return None;
-    }
-    let lists = Lists { points: points.to_vec(), uses: vec![0], kinds: vec![0], numbers: vec![0.5; 7] };
-    let tracer = RayTracer::new(&answers::bare(&lists));
-    let triangle = tracer.triangles().first()?;
-    let vector = |v: [f32; 3]| Vec3A::new(v[0], v[1], v[2]);
-    ray_triangle_intersect(vector(ray.origin), vector(ray.direction), triangle, ray.shortest, ray.longest).map(|met| met.0)
 }
 
 /// Stops where the Rust's nearest hit over its candidates is another than a walk of the tree finds.
