@@ -293,12 +293,13 @@ impl<'a> Walk<'a> {
         self.lists.kinds[self.lists.uses[place] as usize]
     }
 
-    fn visit(&self, i: usize, ray: &Fired, found: &mut Vec<Hit>) {
+    /// A box, with so many that may still stand in it one in another.
+    fn visit(&self, i: usize, left: usize, ray: &Fired, found: &mut Vec<Hit>) {
         let bounds = Bounds::of(self.tree, i);
         let passed = passed_over(&bounds, three(ray.origin), three(ray.direction));
         match node(self.tree, i) {
             Node::Inner(_) if passed => seen(Branch::TreeInnerPassed),
-            Node::Inner(halves) => self.visit_halves(halves, ray, found),
+            Node::Inner(halves) => self.visit_halves(halves, left.checked_sub(1).expect("a tree no deeper than may be"), ray, found),
             Node::Leaf { .. } if passed => seen(Branch::TreeLeafPassed),
             Node::Leaf { first, count } => {
                 for place in self.tree.order[first..first + count].iter().map(|place| *place as usize) {
@@ -316,16 +317,15 @@ impl<'a> Walk<'a> {
         }
     }
 
-    fn visit_halves(&self, [left, right]: [usize; 2], ray: &Fired, found: &mut Vec<Hit>) {
-        self.visit(left, ray, found);
-        self.visit(right, ray, found);
+    fn visit_halves(&self, halves: [usize; 2], left: usize, ray: &Fired, found: &mut Vec<Hit>) {
+        halves.into_iter().for_each(|half| self.visit(half, left, ray, found));
     }
 
     /// What is met, in no order of its own.
     fn found(&self, ray: &Fired) -> Vec<Hit> {
         let mut found = Vec::new();
         if !self.tree.nodes.is_empty() {
-            self.visit(0, ray, &mut found);
+            self.visit(0, DEEPEST, ray, &mut found);
         }
         self.seen(ray, &found);
         found
