@@ -304,6 +304,34 @@ fn about_a_face() -> Vec<Ray> {
     out
 }
 
+/// Q where a float's step is so much larger than the padding that its box has no padding left: a ray from the box's own face meets it.
+fn far_q(way: f32) -> [f32; 9] {
+    q(false).map(|x| way * 2048.0 + x)
+}
+
+/// Rays from the faces of that box along them and away from it, from one step outside and one inside.
+fn from_a_face(way: f32) -> Vec<Ray> {
+    let least = way * 2048.0;
+    let own = padded(&far_q(way), 0);
+    let mut out = Vec::new();
+    for axis in 0..2 {
+        for (face, outward, aside) in [(own[axis], -1, 0.25), (own[3 + axis], 1, 0.0)] {
+            for (x, across) in [(face, 0.0), (face, -0.0), (step(face, outward), 0.0), (step(face, -outward), 0.0)] {
+                let mut origin = [least + aside, least + aside, least + 2.0];
+                origin[axis] = x;
+                let mut direction = [0.0, 0.0, -1.0];
+                direction[axis] = across;
+                out.push(Ray { origin, direction, shortest: 0.0, longest: f32::INFINITY });
+            }
+        }
+    }
+    for up in [1.0, -1.0] {
+        out.push(along([least + 0.25, least + 0.25, least], up));
+        out.push(along([least + 0.25, least + 0.25, step(least, up as i32)], up));
+    }
+    out
+}
+
 /// Triangles that a ray meets as it is computed, though their own padded box is passed over: the full scan answers otherwise. Found anew by chance, some with
 /// the origin far off and some within a hall.
 pub fn passed_yet_met(count: usize) -> Vec<([f32; 9], Ray)> {
@@ -490,6 +518,12 @@ fn made_rays() -> Vec<Item> {
     let mut one = Lists::default();
     add(&mut one, q(false), OPAQUE, numbers(0.5));
     out.push(asked(&one, trees::built(&one.points), &about_a_face()));
+    for way in [1.0, -1.0] {
+        let mut far = Lists::default();
+        add(&mut far, far_q(way), OPAQUE, numbers(0.5));
+        let tree = one_leaf(c, &far.points, Style { unbounded: way < 0.0, ..plain });
+        out.push(Item::TreeRays { hits: hits(&far), lists: far, tree, asked: from_a_face(way).into_iter().map(|ray| (RayCall::Nearest, ray)).collect() });
+    }
     // the box about it does not matter
     let some: Vec<Ray> = about_a_face().into_iter().step_by(3).collect();
     out.push(asked(&one, one_leaf(c, &one.points, Style { unbounded: true, junk: true, ..plain }), &some));
