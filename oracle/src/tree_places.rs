@@ -614,6 +614,12 @@ fn made_builds(c: &mut Chance) -> Vec<Item> {
     for axis in 0..3 {
         out.push(build(along_an_axis(c, axis, 11), 1));
     }
+    // halved along x, then along y, where keys are equal and stand as x has put them
+    let rows = [7, 2, 11, 4, 0, 9, 5, 10, 1, 8, 3, 6].into_iter().flat_map(|x| {
+        let (x, y) = (x as f32, [0.0, 10.0][x % 2]);
+        [x, y, 0.0, x + 0.5, y, 0.0, x, y + 0.5, 0.0]
+    });
+    out.push(build(rows.collect(), 0));
     // equal spreads: which axis is taken
     for spread in [[1.0, 1.0, 1.0], [1.0, 1.0, 0.5], [0.5, 1.0, 1.0], [1.0, 0.5, 1.0], [0.5, 0.25, 1.0], [0.25, 0.5, 1.0], [0.5, 1.0, 0.25], [1.0, 0.25, 0.5]] {
         let points = (0..6).flat_map(|k| {
