@@ -551,12 +551,14 @@ fn made_rays() -> Vec<Item> {
         out.push(asked(&lists, tree, &rays));
     }
     // just as deep as may be: 25 boxes one in another, each touching the one above
-    let exactly = scattered(c, DEEPEST + 1, false);
-    let places = present(&exactly.points);
-    if places.len() == DEEPEST + 1 {
-        let tree = laid(c, &exactly.points, &chain(&places, DEEPEST, false), plain);
-        out.push(asked(&exactly, tree, &octants(c, 6)));
-    }
+    let exactly = loop {
+        let lists = scattered(c, DEEPEST + 1, false);
+        if present(&lists.points).len() == DEEPEST + 1 {
+            break lists;
+        }
+    };
+    let tree = laid(c, &exactly.points, &chain(&present(&exactly.points), DEEPEST, false), plain);
+    out.push(asked(&exactly, tree, &octants(c, 6)));
     // what the full scan would meet
     for (k, (points, ray)) in passed_yet_met(8).into_iter().enumerate() {
         let mut lists = Lists::default();
