@@ -630,6 +630,8 @@ fn made_builds(c: &mut Chance) -> Vec<Item> {
         });
         out.push(build(points.collect(), 0));
     }
+    // sums that come out in this order alone: another loses the third number
+    out.push(build([5.0, 2.0, 4.0, 1.0, 3.0, 0.0].into_iter().flat_map(|x| [4096.0, 0.0, 0.0, -4096.0, 1.0, 0.0, x * 1.0e-5, 0.0, 1.0]).collect(), 0));
     // sums that round: large numbers of either sign, and keys of −0
     let large = (0..9).flat_map(|k| [0; 9].map(|_| c.pick(&[4096.0, -4096.0, 0.1, -0.3, k as f32, 1.0e-5, -0.0])).to_vec());
     out.push(build(large.collect(), 0));
