@@ -204,19 +204,17 @@ pub fn tree_nearest(
     if refusal == 0 {
         let mut turned = [0.0f32; TURNED_NUMBERS];
         tree_walk::inner::turn(points, order, &mut turned);
-        return as_found(
-            tree_walk::inner::nearest(
-                points,
-                uses,
-                kinds,
-                numbers,
-                boxes,
-                nodes,
-                order,
-                &turned,
-                ray,
-            ),
-        );
+        return as_found(tree_walk::inner::nearest(
+            points,
+            uses,
+            kinds,
+            numbers,
+            boxes,
+            nodes,
+            order,
+            &turned,
+            ray,
+        ));
     }
     Found::Refused(refusal)
 }
@@ -237,8 +235,8 @@ pub fn tree_transmittance(
     ensures { λ r. ⌜ TreeTransmittanceAnswered (now (points .entry)) (now (uses .entry)) (now (kinds .entry)) (now (numbers .entry)) (now (boxes .entry)) (now (nodes .entry)) (now (order .entry)) ray (now (distances .entry)) (now (places .entry)) r (now (distances .exit)) (now (places .exit)) ⌝ }
 {
     let n = uses.len();
-    let scene = limits::inner::wrong_scene(points, uses, kinds, numbers);
-    let wrong = scene | limits::inner::short_hits(false, distances.len(), places.len(), n);
+    let lists = limits::inner::wrong_scene(points, uses, kinds, numbers);
+    let wrong = lists | limits::inner::short_hits(false, distances.len(), places.len(), n);
     let refusal = scene_refusal(
         false,
         wrong,

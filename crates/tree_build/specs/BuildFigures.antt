@@ -19,7 +19,7 @@ use Rattle.triangle.specs.Places.{triangleAt}
 use Rattle.boxes.specs.Boxes.{boundsAt, paddedOf}
 use Rattle.tree.specs.Tree.{countAt, leftAt, rightAt, presentAt}
 use Rattle.tree.specs.TreeFigures.{raisedTo}
-use Rattle.tree_order.specs.Order.{keyAt, onAxis, lowest, highest, spreadOf, widestOf, putIn, putAll, alongWidest, halvedWithin, presentBelow, orderOf}
+use Rattle.tree_order.specs.Order.{keyAt, onAxis, lowestKeys, highestKeys, spreadOfKeys, widestOf, putIn, putAll, alongWidest, halvedWithin, presentBelow, orderOf}
 use Rattle.tree_build.specs.declared.TreeBuilt.{TreeBuilt}
 use Rattle.tree_build.specs.Built.{runBounds, boxesWithin, boxesFor, leaf, KeptBeside}
 use Rattle.tree_build.specs.Build.{wrongBuild, buildRefusal, builtOf, BuildAnswered}
@@ -55,7 +55,7 @@ pub answer-figures :
     ∷ builtOf (raisedTo nan) 6 3 1
     ∷ []
     ≡ built 0 0 0 ∷ built 0 1 1 ∷ built 0 1 4 ∷ built 0 3 5 ∷ built 0 0 0 ∷ built 3 0 0 ∷ built 3 0 0 ∷ built 3 0 0 ∷ built 3 0 0 ∷ built 5 0 0 ∷ []
-unfolding builtOf buildRefusal wrongBuild firstOf unlessRefused badPoints some within boxesWithin raisedTo orderOf presentBelow halvedWithin alongWidest putAll putIn widestOf spreadOf lowest highest onAxis keyAt presentAt absentOf triangleAt largerOf smallerOf addV subV dotV crossV largerV smallerV Ieee.ofBits Ieee.ofFields Ieee.odd Ieee.neg Ieee.le Ieee.lt Ieee.eq Ieee.isNan Ieee.add Ieee.sub Ieee.mul Ieee.round Ieee.sum Ieee.units Ieee.size Ieee.span Ieee.climb
+unfolding builtOf buildRefusal wrongBuild firstOf unlessRefused badPoints some within boxesWithin raisedTo orderOf presentBelow halvedWithin alongWidest putAll putIn widestOf spreadOfKeys lowestKeys highestKeys onAxis keyAt presentAt absentOf triangleAt largerOf smallerOf addV subV dotV crossV largerV smallerV Ieee.ofBits Ieee.ofFields Ieee.odd Ieee.neg Ieee.le Ieee.lt Ieee.eq Ieee.isNan Ieee.add Ieee.sub Ieee.mul Ieee.round Ieee.sum Ieee.units Ieee.size Ieee.span Ieee.climb
 answer-figures = refl
 
 -- 4,097 triangles are refused 4; of 4,096 only the points are asked, and there is room for them in lists of 24,576, 12,288 and 4,096

@@ -21,7 +21,7 @@ use Rattle.tree_order.specs.Order.{orderOf}
 use Rattle.tree_order.specs.Ranks.{AcceptedPoints}
 use Rattle.tree_order.specs.OrderLaws.{order-once, order-few, order-places}
 use Rattle.tree_build.specs.declared.TreeBuilt.{TreeBuilt}
-use Rattle.tree_build.specs.Built.{boxesWithin, boxesFor, timesIn, KeptBeside, TreeFits, TreePut, BuiltTree}
+use Rattle.tree_build.specs.Built.{boxesWithin, boxesFor, timesIn, KeptBeside, TreeRoom, TreePut, BuiltTree}
 use Rattle.tree_build.specs.Build.{wrongBuild, buildRows, buildRefusal, builtOf, BuildAnswered}
 use Rattle.tree_build.specs.RunLaws.{times-of, kept-same}
 use Rattle.tree_build.specs.BuiltLaws.{built-most}
@@ -76,7 +76,7 @@ module _ (points boxes : List Float) (nodes order : List ℕ) where
   refusal = buildRefusal points (length boxes) (length nodes) (length order)
 
   -- the order put, there is room for its boxes
-  pub order-fits : (order₁ : List ℕ) (m : ℕ) → refusal ≡ 0 → m ≡ length (orderOf points) → order₁ ≡ orderOf points ++ drop m order → length order₁ ≡ length order → TreeFits points boxes nodes order₁ m
+  pub order-fits : (order₁ : List ℕ) (m : ℕ) → refusal ≡ 0 → m ≡ length (orderOf points) → order₁ ≡ orderOf points ++ drop m order → length order₁ ≡ length order → TreeRoom points boxes nodes order₁ m
   order-fits order₁ m e number after same =
       let g = build-ready points (length boxes) (length nodes) (length order) e in
       let f = order-few points in

@@ -111,7 +111,7 @@ pub record Grown (points boxes boxes′ : List Float) (nodes nodes′ order : Li
 -- ---- the tree of an order
 
 -- what the tree of the first m triangles of an order asks: places of triangles, and room for a box for each of them
-pub record TreeFits (points boxes : List Float) (nodes order : List ℕ) (m : ℕ) : Type 0 where
+pub record TreeRoom (points boxes : List Float) (nodes order : List ℕ) (m : ℕ) : Type 0 where
   pub few : m ≤ triangleLimit
   pub boxesLong : m * 6 ≤ length boxes
   pub nodesLong : m * 3 ≤ length nodes

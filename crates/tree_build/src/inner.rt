@@ -3,7 +3,7 @@ ghost use mathlib.Core.Path.{_≡_};
 ghost use Prim.Native.Nat.{_+_, _-_, _*_, _/_, _≤_, _<_};
 ghost use lib.ListN.{length, getD};
 ghost use Rattle.names.specs.Numbers.{triangleLimit};
-ghost use Rattle.tree_build.specs.Built.{joinOf, ownBox, runBounds, PlacesIn, RunFits, PutVec, PutBounds, PutNode, Grown, TreeFits, TreePut};
+ghost use Rattle.tree_build.specs.Built.{joinOf, ownBox, runBounds, PlacesIn, RunFits, PutVec, PutBounds, PutNode, Grown, TreeRoom, TreePut};
 use boxes::Bounds;
 use names::LEAF_LIMIT;
 use vectors::Vec3;
@@ -16,7 +16,7 @@ pub fn put_tree(
     order: &[u32],
     m: usize,
 ) -> usize
-    requires { ⌜ TreeFits (now points) (now boxes) (now nodes) (now order) m ⌝ }
+    requires { ⌜ TreeRoom (now points) (now boxes) (now nodes) (now order) m ⌝ }
     ensures { λ r. ⌜ TreePut (now (points .entry)) (now (boxes .entry)) (now (boxes .exit)) (now (nodes .entry)) (now (nodes .exit)) (now (order .entry)) m r ⌝ }
 {
     if m == 0 {

@@ -11,37 +11,37 @@ use Rattle.vectors.specs.Vectors.{largerV, smallerV}
 use Rattle.vectors.specs.declared.Vec3.{Vec3}
 use Rattle.hits.specs.Hits.{paired}
 use Rattle.hits.specs.PairedLaws.{stored}
-use Rattle.tree_order.specs.Order.{keyAt, lowest, highest}
-use Rattle.tree_order.specs.Ranks.{rankOf, placeOf, ranked}
+use Rattle.tree_order.specs.Order.{keyAt, lowestKeys, highestKeys}
+use Rattle.tree_order.specs.Ranks.{runRank, placeOf, ranked}
 
--- ---- the lowest and the highest, one triangle on
+-- ---- the lowestKeys and the highestKeys, one triangle on
 
 module _ (points : List Float) (run : List ℕ) (v : Vec3) (k : ℕ) where
-  pub lowest-next : k < length run → lowest points v (drop k run) ≡ lowest points (smallerV v (keyAt points (getD run k 0))) (drop (k + 1) run)
-  unfolding lowest
+  pub lowest-next : k < length run → lowestKeys points v (drop k run) ≡ lowestKeys points (smallerV v (keyAt points (getD run k 0))) (drop (k + 1) run)
+  unfolding lowestKeys
   lowest-next h = rw (add-one k, drop-cons run k 0 h) refl
 
-  pub highest-next : k < length run → highest points v (drop k run) ≡ highest points (largerV v (keyAt points (getD run k 0))) (drop (k + 1) run)
-  unfolding highest
+  pub highest-next : k < length run → highestKeys points v (drop k run) ≡ highestKeys points (largerV v (keyAt points (getD run k 0))) (drop (k + 1) run)
+  unfolding highestKeys
   highest-next h = rw (add-one k, drop-cons run k 0 h) refl
 
-  pub lowest-end : length run ≤ k → lowest points v (drop k run) ≡ v
-  unfolding lowest
+  pub lowest-end : length run ≤ k → lowestKeys points v (drop k run) ≡ v
+  unfolding lowestKeys
   lowest-end h = rw (drop-of-length-le run h) refl
 
-  pub highest-end : length run ≤ k → highest points v (drop k run) ≡ v
-  unfolding highest
+  pub highest-end : length run ≤ k → highestKeys points v (drop k run) ≡ v
+  unfolding highestKeys
   highest-end h = rw (drop-of-length-le run h) refl
 
 -- ---- keys and ranks, one triangle on
 
 module _ (key : ℕ → Float) (run : List ℕ) (k : ℕ) where
   pub ranked-next : (keys : List Float) (ranks : List ℕ) → k < length run → k < length keys → k < length ranks
-      → paired (take (k + 1) (set keys k (key (getD run k 0)))) (take (k + 1) (set ranks k (rankOf k (getD run k 0)))) ++ ranked key (k + 1) (drop (k + 1) run)
+      → paired (take (k + 1) (set keys k (key (getD run k 0)))) (take (k + 1) (set ranks k (runRank k (getD run k 0)))) ++ ranked key (k + 1) (drop (k + 1) run)
       ≡ paired (take k keys) (take k ranks) ++ ranked key k (drop k run)
   unfolding ranked
   ranked-next keys ranks h p q =
-      rw (stored keys ranks k (key (getD run k 0)) (rankOf k (getD run k 0)) p q, drop-cons run k 0 h, add-one k)
+      rw (stored keys ranks k (key (getD run k 0)) (runRank k (getD run k 0)) p q, drop-cons run k 0 h, add-one k)
       (append-snoc (paired (take k keys) (take k ranks)) _ _)
 
   pub ranked-end : (keys : List Float) (ranks : List ℕ) → length run ≤ k → length keys ≤ k → length ranks ≤ k

@@ -10,7 +10,7 @@ use Rattle.floats.specs.OrderLaws.{lt-asymmetric, lt-irreflexive, lt-transitive
 use Rattle.vectors.specs.declared.Vec3.{Vec3}
 use Rattle.tree_order.specs.declared.Axis.{Axis}
 use Rattle.tree_order.specs.declared.Axis.the-variants.{X, Y, Z}
-use Rattle.tree_order.specs.Order.{onAxis, keyOn, spreadOf, widestOf, alongWidest, halfOf}
+use Rattle.tree_order.specs.Order.{onAxis, keyOn, spreadOfKeys, widestOf, alongWidest, halfOf}
 use Rattle.tree_order.specs.Ranks.{PlacesOf, AcceptedPoints}
 use Rattle.tree_order.specs.SortLaws.{NoneBelow, Ascending, equalTo, sorted-ascends, sorted-keeps}
 use Rattle.tree_order.specs.RankLaws.{number-keys}
@@ -49,15 +49,15 @@ widest-is-widest s axis = by (lt (s .x) (s .y)) refl (lt (s .y) (s .z)) refl (lt
 
 module _ (points : List Float) (a : AcceptedPoints points) (run : List ℕ) (w : PlacesOf points run) where
   abbrev key : ℕ → Float
-  key = keyOn points (widestOf (spreadOf points run))
+  key = keyOn points (widestOf (spreadOfKeys points run))
 
   pub widest-ascends : Ascending key (alongWidest points run)
   unfolding alongWidest
-  widest-ascends = sorted-ascends key run (number-keys points a (widestOf (spreadOf points run)) run w)
+  widest-ascends = sorted-ascends key run (number-keys points a (widestOf (spreadOfKeys points run)) run w)
 
   pub widest-keeps : (x : Float) → equalTo key x (alongWidest points run) ≡ equalTo key x run
   unfolding alongWidest
-  widest-keeps x = sorted-keeps key x run (number-keys points a (widestOf (spreadOf points run)) run w)
+  widest-keeps x = sorted-keeps key x run (number-keys points a (widestOf (spreadOfKeys points run)) run w)
 
   -- ---- its halves
 

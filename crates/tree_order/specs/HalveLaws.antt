@@ -11,7 +11,7 @@ use lib.Seq.{length-take-le}
 use lib.Ieee.{Float}
 use Rattle.names.specs.Numbers.{leafLimit}
 use Rattle.tree_order.specs.Order.{alongWidest, halfOf, halvedWithin, halved, timesOf}
-use Rattle.tree_order.specs.SortLaws.{times-append, times-cut, sorted-times, sorted-length}
+use Rattle.tree_order.specs.SortLaws.{times-append, times-of-cut, sorted-times, sorted-length}
 
 module _ (points : List Float) where
   pub widest-times : (p : ℕ) (run : List ℕ) → timesOf p (alongWidest points run) ≡ timesOf p run
@@ -36,7 +36,7 @@ module _ (points : List Float) where
   right-length run = let e = widest-length run in let f = length-drop (halfOf run) (alongWidest points run) in omega arith
 
   pub halves-times : (p : ℕ) (run : List ℕ) → timesOf p (leftOf run) + timesOf p (rightOf run) ≡ timesOf p run
-  halves-times p run = sym (times-cut p (halfOf run) (alongWidest points run)) ∙ widest-times p run
+  halves-times p run = sym (times-of-cut p (halfOf run) (alongWidest points run)) ∙ widest-times p run
 
   -- ---- enough is enough
 

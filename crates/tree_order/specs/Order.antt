@@ -33,17 +33,17 @@ keyOn points axis p = onAxis axis (keyAt points p)
 -- ---- the widest axis
 
 -- the smallest, and the largest, by component, of v and the keys of some triangles
-unfoldable pub lowest : List Float → Vec3 → List ℕ → Vec3
-lowest points v [] = v
-lowest points v (p ∷ ps) = lowest points (smallerV v (keyAt points p)) ps
+unfoldable pub lowestKeys : List Float → Vec3 → List ℕ → Vec3
+lowestKeys points v [] = v
+lowestKeys points v (p ∷ ps) = lowestKeys points (smallerV v (keyAt points p)) ps
 
-unfoldable pub highest : List Float → Vec3 → List ℕ → Vec3
-highest points v [] = v
-highest points v (p ∷ ps) = highest points (largerV v (keyAt points p)) ps
+unfoldable pub highestKeys : List Float → Vec3 → List ℕ → Vec3
+highestKeys points v [] = v
+highestKeys points v (p ∷ ps) = highestKeys points (largerV v (keyAt points p)) ps
 
 -- how far the keys of a run reach on each axis
-unfoldable pub spreadOf : List Float → List ℕ → Vec3
-spreadOf points run = subV (highest points (keyAt points (getD run 0 0)) (drop 1 run)) (lowest points (keyAt points (getD run 0 0)) (drop 1 run))
+unfoldable pub spreadOfKeys : List Float → List ℕ → Vec3
+spreadOfKeys points run = subV (highestKeys points (keyAt points (getD run 0 0)) (drop 1 run)) (lowestKeys points (keyAt points (getD run 0 0)) (drop 1 run))
 
 -- x, unless y or z spreads wider
 unfoldable pub widestOf : Vec3 → Axis
@@ -66,7 +66,7 @@ abbrev pub sorted : (ℕ → Float) → List ℕ → List ℕ
 sorted key run = putAll key [] run
 
 unfoldable pub alongWidest : List Float → List ℕ → List ℕ
-alongWidest points run = sorted (keyOn points (widestOf (spreadOf points run))) run
+alongWidest points run = sorted (keyOn points (widestOf (spreadOfKeys points run))) run
 
 -- ---- by halves
 

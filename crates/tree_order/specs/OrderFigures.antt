@@ -10,7 +10,7 @@ use Rattle.triangle.specs.Meet.{absentOf}
 use Rattle.triangle.specs.Places.{triangleAt}
 use Rattle.tree.specs.Tree.{presentAt}
 use Rattle.tree.specs.TreeFigures.{raisedTo}
-use Rattle.tree_order.specs.Order.{keyAt, onAxis, lowest, highest, spreadOf, widestOf, putIn, putAll, alongWidest, halvedWithin, presentBelow, orderOf}
+use Rattle.tree_order.specs.Order.{keyAt, onAxis, lowestKeys, highestKeys, spreadOfKeys, widestOf, putIn, putAll, alongWidest, halvedWithin, presentBelow, orderOf}
 
 abbrev three32 : Float
 three32 = lit 0x40400000
@@ -54,7 +54,7 @@ pub order-figures :
     ∷ (0 ∷ 1 ∷ 4 ∷ 3 ∷ 2 ∷ [])
     ∷ (4 ∷ 3 ∷ 1 ∷ 0 ∷ 5 ∷ [])
     ∷ []
-unfolding raisedTo standAt orderOf presentBelow halvedWithin alongWidest putAll putIn widestOf spreadOf lowest highest onAxis keyAt presentAt absentOf triangleAt largerOf smallerOf addV subV dotV crossV largerV smallerV Ieee.ofBits Ieee.ofFields Ieee.odd Ieee.neg Ieee.le Ieee.lt Ieee.eq Ieee.isNan Ieee.add Ieee.sub Ieee.mul Ieee.round Ieee.sum Ieee.units Ieee.size Ieee.span Ieee.climb
+unfolding raisedTo standAt orderOf presentBelow halvedWithin alongWidest putAll putIn widestOf spreadOfKeys lowestKeys highestKeys onAxis keyAt presentAt absentOf triangleAt largerOf smallerOf addV subV dotV crossV largerV smallerV Ieee.ofBits Ieee.ofFields Ieee.odd Ieee.neg Ieee.le Ieee.lt Ieee.eq Ieee.isNan Ieee.add Ieee.sub Ieee.mul Ieee.round Ieee.sum Ieee.units Ieee.size Ieee.span Ieee.climb
 order-figures = refl
 
 -- ten along x, the first at the far end, and the sixth raised by 6: they turn about, and the half 9 8 7 6 5, put in order along z, stays, though four of its keys
@@ -72,5 +72,5 @@ pub twice-figure :
     ++ movedTo one32 two32
     ++ movedTo zero32 one32)
     ≡ 9 ∷ 8 ∷ 7 ∷ 6 ∷ 5 ∷ 4 ∷ 3 ∷ 2 ∷ 1 ∷ 0 ∷ []
-unfolding standAt orderOf presentBelow halvedWithin alongWidest putAll putIn widestOf spreadOf lowest highest onAxis keyAt presentAt absentOf triangleAt largerOf smallerOf addV subV dotV crossV largerV smallerV Ieee.ofBits Ieee.ofFields Ieee.odd Ieee.neg Ieee.le Ieee.lt Ieee.eq Ieee.isNan Ieee.add Ieee.sub Ieee.mul Ieee.round Ieee.sum Ieee.units Ieee.size Ieee.span Ieee.climb
+unfolding standAt orderOf presentBelow halvedWithin alongWidest putAll putIn widestOf spreadOfKeys lowestKeys highestKeys onAxis keyAt presentAt absentOf triangleAt largerOf smallerOf addV subV dotV crossV largerV smallerV Ieee.ofBits Ieee.ofFields Ieee.odd Ieee.neg Ieee.le Ieee.lt Ieee.eq Ieee.isNan Ieee.add Ieee.sub Ieee.mul Ieee.round Ieee.sum Ieee.units Ieee.size Ieee.span Ieee.climb
 twice-figure = refl

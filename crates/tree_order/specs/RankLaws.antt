@@ -20,22 +20,22 @@ use Rattle.hits.specs.Merge.{insertAll, sortOf, Numbers}
 use Rattle.tree_order.specs.declared.Axis.{Axis}
 use Rattle.tree_order.specs.declared.Axis.the-variants.{X, Y, Z}
 use Rattle.tree_order.specs.Order.{keyAt, onAxis, keyOn, putIn, putAll, sorted}
-use Rattle.tree_order.specs.Ranks.{rankOf, placeOf, ranked, PlacesOf, AcceptedPoints}
-use Rattle.tree_order.specs.SortLaws.{times-here, NumberKeys}
+use Rattle.tree_order.specs.Ranks.{runRank, placeOf, ranked, PlacesOf, AcceptedPoints}
+use Rattle.tree_order.specs.SortLaws.{times-of-here, NumberKeys}
 
 -- ---- places of triangles
 
 module _ (points : List Float) where
   -- a place out of a list of places of triangles
-  pub place-within : (run : List ℕ) (k : ℕ) → PlacesOf points run → k < length run → getD run k 0 < length points / 9
-  place-within run k w h = by (ltb (getD run k 0) (length points / 9)) refl
+  pub order-place-within : (run : List ℕ) (k : ℕ) → PlacesOf points run → k < length run → getD run k 0 < length points / 9
+  order-place-within run k w h = by (ltb (getD run k 0) (length points / 9)) refl
     where
       by : (b : Bool) → ltb (getD run k 0) (length points / 9) ≡ b → getD run k 0 < length points / 9
       by true e = ltb-true _ _ e
-      by false e = absurd (omega (arith, w _ (ltb-false _ _ e), times-here run k h))
+      by false e = absurd (omega (arith, w _ (ltb-false _ _ e), times-of-here run k h))
 
   head-within : (p : ℕ) (ps : List ℕ) → PlacesOf points (p ∷ ps) → p < length points / 9
-  head-within p ps w = place-within (p ∷ ps) 0 w (omega arith)
+  head-within p ps w = order-place-within (p ∷ ps) 0 w (omega arith)
 
   tail-places : (p : ℕ) (ps : List ℕ) → PlacesOf points (p ∷ ps) → PlacesOf points ps
   tail-places p ps w q h = let e = w q h in omega arith
@@ -79,7 +79,7 @@ module _ (key : ℕ → Float) where
   stand-all points k [] few w s = stand-up (omega arith) s
   stand-all points k (p ∷ ps) few w s =
       let l = head-within points p ps w in
-      stand-up (omega arith) (stand-all points (suc k) ps few (tail-places points p ps w) (stand-put (suc k * triangleLimit) (struck (key p) (rankOf k p)) p refl (omega arith) (omega arith) (omega arith) s))
+      stand-up (omega arith) (stand-all points (suc k) ps few (tail-places points p ps w) (stand-put (suc k * triangleLimit) (struck (key p) (runRank k p)) p refl (omega arith) (omega arith) (omega arith) s))
 
   stand-places : {n : ℕ} {hs : List Struck} {ps : List ℕ} → Stand n hs ps → map placeOf (placesOf hs) ≡ ps
   stand-places none = refl

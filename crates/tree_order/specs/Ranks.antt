@@ -11,8 +11,8 @@ use Rattle.limits.specs.Limits.{badPoints}
 use Rattle.hits.specs.Hits.{Struck, struck}
 use Rattle.tree_order.specs.Order.{timesOf}
 
-abbrev pub rankOf : ℕ → ℕ → ℕ
-rankOf k p = k * triangleLimit + p
+abbrev pub runRank : ℕ → ℕ → ℕ
+runRank k p = k * triangleLimit + p
 
 abbrev pub placeOf : ℕ → ℕ
 placeOf rank = rank % triangleLimit
@@ -20,7 +20,7 @@ placeOf rank = rank % triangleLimit
 -- keys with ranks, of triangles that stand from place k of the run on
 unfoldable pub ranked : (ℕ → Float) → ℕ → List ℕ → List Struck
 ranked key k [] = []
-ranked key k (p ∷ ps) = struck (key p) (rankOf k p) ∷ ranked key (suc k) ps
+ranked key k (p ∷ ps) = struck (key p) (runRank k p) ∷ ranked key (suc k) ps
 
 -- a list of places of triangles
 abbrev pub PlacesOf : List Float → List ℕ → Type 0

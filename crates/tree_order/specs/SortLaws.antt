@@ -20,14 +20,14 @@ pub times-append : (p : ℕ) (l m : List ℕ) → timesOf p (l ++ m) ≡ timesOf
 times-append p [] m = omega arith
 times-append p (q ∷ l) m = let r = times-append p l m in omega arith
 
-pub times-cut : (p n : ℕ) (l : List ℕ) → timesOf p l ≡ timesOf p (take n l) + timesOf p (drop n l)
-times-cut p n l = sym (ap (timesOf p) (take-append-drop n l)) ∙ times-append p (take n l) (drop n l)
+pub times-of-cut : (p n : ℕ) (l : List ℕ) → timesOf p l ≡ timesOf p (take n l) + timesOf p (drop n l)
+times-of-cut p n l = sym (ap (timesOf p) (take-append-drop n l)) ∙ times-append p (take n l) (drop n l)
 
 -- what stands in a list is counted
-pub times-here : (l : List ℕ) (k : ℕ) → k < length l → 0 < timesOf (getD l k 0) l
-times-here [] k h = absurd (omega arith)
-times-here (q ∷ l) zero h = omega (arith, one-self q)
-times-here (q ∷ l) (suc k) h = let r = times-here l k (omega arith) in omega arith
+pub times-of-here : (l : List ℕ) (k : ℕ) → k < length l → 0 < timesOf (getD l k 0) l
+times-of-here [] k h = absurd (omega arith)
+times-of-here (q ∷ l) zero h = omega (arith, one-self q)
+times-of-here (q ∷ l) (suc k) h = let r = times-of-here l k (omega arith) in omega arith
 
 -- ---- the same triangles
 

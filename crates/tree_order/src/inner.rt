@@ -7,7 +7,7 @@ ghost use lib.ListN.{length, set, drop};
 ghost use Rattle.names.specs.Numbers.{triangleLimit};
 ghost use Rattle.hits.specs.Hits.{paired};
 ghost use Rattle.tree.specs.Tree.{presentAt};
-ghost use Rattle.tree_order.specs.Order.{keyAt, onAxis, keyOn, spreadOf, widestOf, alongWidest, halved, presentBelow, orderOf};
+ghost use Rattle.tree_order.specs.Order.{keyAt, onAxis, keyOn, spreadOfKeys, widestOf, alongWidest, halved, presentBelow, orderOf};
 ghost use Rattle.tree_order.specs.Ranks.{placeOf, ranked, PlacesOf, AcceptedPoints};
 use super::Axis;
 use names::LEAF_LIMIT;
@@ -115,7 +115,7 @@ fn put_places(ranks: &[usize], run: &mut [u32])
 // How far the keys of a run reach on each axis.
 fn spread(points: &[f32], run: &[u32]) -> Vec3
     requires { ⌜ PlacesOf (now points) (now run) × (0 < length (now run)) ⌝ }
-    ensures { λ r. ⌜ r ≡ spreadOf (now (points .entry)) (now (run .entry)) ⌝ }
+    ensures { λ r. ⌜ r ≡ spreadOfKeys (now (points .entry)) (now (run .entry)) ⌝ }
 {
     let mut low = key(points, tree::inner::word_at(run, 0));
     let mut high = low;

@@ -20,7 +20,7 @@ use Rattle.hits.specs.HitLaws.{put-only}
 use Rattle.hits.specs.Merge.{insertAll, sortOf, Numbers}
 use Rattle.scan.specs.OpaqueLaws.{clearPassOf}
 use Rattle.tree.specs.Tree.{boxCount, AcceptedTree}
-use Rattle.tree_walk.specs.declared.Met.the-variants.{Hits}
+use Rattle.tree_walk.specs.declared.Gained.the-variants.{Hits}
 use Rattle.tree_walk.specs.Boxed.{boxedMeetAt, hitsBoxed, transmittanceBoxed}
 use Rattle.tree_walk.specs.Walk.{nodeVisit, treeVisit, hitsThrough}
 use Rattle.tree_walk.specs.WalkLaws.{walk-hits}

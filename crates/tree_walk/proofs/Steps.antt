@@ -12,8 +12,8 @@ use Rattle.boxes.specs.Boxes.{boundsAt, passedOver}
 use Rattle.tree.specs.Tree.{countAt, innerAt, leftAt, rightAt}
 use Rattle.tree_walk.specs.Walk.{runVisit, nodeVisit, pairVisit}
 use Rattle.tree_walk.specs.UnderLaws.{placesUnder, halves-room, leaf-room}
-use Rattle.tree_walk.specs.declared.Met.{Met}
-use Rattle.tree_walk.specs.declared.Met.the-variants.{Dark, Hits}
+use Rattle.tree_walk.specs.declared.Gained.{Gained}
+use Rattle.tree_walk.specs.declared.Gained.the-variants.{Dark, Hits}
 use Rattle.tree_walk.specs.Kept.{MetWithin}
 
 -- ---- an inner box or a leaf
@@ -73,6 +73,6 @@ module _ (nodes order : List ℕ) where
   under-leaf (suc levels) i f q = sym (leaf-room nodes order levels i q)
 
 -- what is met within some is met within more
-pub met-more : (r : Met) (a b d e p q : ℕ) → MetWithin r a d p → a ≤ b → d ≡ e → p ≡ q → MetWithin r b e q
+pub met-more : (r : Gained) (a b d e p q : ℕ) → MetWithin r a d p → a ≤ b → d ≡ e → p ≡ q → MetWithin r b e q
 met-more Dark a b d e p q w h x y = tt
 met-more (Hits m) a b d e p q w h x y = (omega (arith, w .0), omega (arith, w .1), omega (arith, w .2))

@@ -8,16 +8,16 @@ use lib.ListN.{take}
 use lib.Ieee.{Float}
 use Rattle.names.specs.Scene.{otherKind}
 use Rattle.hits.specs.Hits.{paired}
-use Rattle.tree_walk.specs.declared.Met.{Met}
-use Rattle.tree_walk.specs.declared.Met.the-variants.{Dark, Hits}
+use Rattle.tree_walk.specs.declared.Gained.{Gained}
+use Rattle.tree_walk.specs.declared.Gained.the-variants.{Dark, Hits}
 use Rattle.tree_walk.specs.Collect.{Collected, dark, came}
 
-abbrev pub collectedBy : Met → List Float → List ℕ → Collected
+abbrev pub collectedBy : Gained → List Float → List ℕ → Collected
 collectedBy Dark distances places = dark
 collectedBy (Hits m) distances places = came (paired (take m distances) (take m places))
 
 -- there are at most n of them, and they lie within lists of these lengths
-abbrev pub MetWithin : Met → ℕ → ℕ → ℕ → Type 0
+abbrev pub MetWithin : Gained → ℕ → ℕ → ℕ → Type 0
 MetWithin Dark n distancesLength placesLength = Unit {0}
 MetWithin (Hits m) n distancesLength placesLength = (m ≤ n) × (m ≤ distancesLength) × (m ≤ placesLength)
 

@@ -20,8 +20,8 @@ ghost use Rattle.tree_walk.specs.Walk.{runVisit, nodeVisit, pairVisit, T
 ghost use Rattle.tree_walk.specs.UnderLaws.{placesUnder};
 ghost use Rattle.tree_walk.specs.Collect.{collectStep};
 ghost use Rattle.tree_walk.specs.Kept.{collectedBy, MetWithin, RoomFor};
-ghost use Rattle.tree_walk.specs.declared.Met.the-variants.{Hits};
-use super::Met;
+ghost use Rattle.tree_walk.specs.declared.Gained.the-variants.{Hits};
+use super::Gained;
 use names::DEPTH_LIMIT;
 use scan::Nearest;
 use triangle::Meet;
@@ -277,8 +277,8 @@ pub fn transmittance(
         places,
     );
     match met {
-        Met::Dark => 0.0,
-        Met::Hits(m) => passing(uses, numbers, &mut distances[..m], &mut places[..m]),
+        Gained::Dark => 0.0,
+        Gained::Hits(m) => passing(uses, numbers, &mut distances[..m], &mut places[..m]),
     }
 }
 
@@ -308,7 +308,7 @@ fn node_collect(
     m: usize,
     distances: &mut [f32],
     places: &mut [usize],
-) -> Met
+) -> Gained
     requires { ⌜ TreeFits (now points) (now uses) (now kinds) (now boxes) (now nodes) (now order) (now turned) ⌝ }
     requires { ⌜ i < boxCount (now nodes) ⌝ }
     requires { ⌜ (m ≤ length (now distances)) × (m ≤ length (now places)) ⌝ }
@@ -317,11 +317,11 @@ fn node_collect(
         × MetWithin r (m + length (placesUnder (now (nodes .entry)) (now (order .entry)) levels i)) (length (now (distances .entry))) (length (now (places .entry))) ⌝ }
 {
     if levels == 0 {
-        return Met::Hits(m);
+        return Gained::Hits(m);
     }
     let b = boxes::inner::bounds_at(boxes, i);
     if boxes::inner::passed_over(ray.origin, ray.direction, b) {
-        return Met::Hits(m);
+        return Gained::Hits(m);
     }
     if tree::inner::word_at(nodes, i * 3) == 0 {
         let left = tree::inner::word_at(nodes, i * 3 + 1);
@@ -375,7 +375,7 @@ fn pair_collect(
     m: usize,
     distances: &mut [f32],
     places: &mut [usize],
-) -> Met
+) -> Gained
     requires { ⌜ TreeFits (now points) (now uses) (now kinds) (now boxes) (now nodes) (now order) (now turned) ⌝ }
     requires { ⌜ (left < boxCount (now nodes)) × (right < boxCount (now nodes)) ⌝ }
     requires { ⌜ (m ≤ length (now distances)) × (m ≤ length (now places)) ⌝ }
@@ -399,8 +399,8 @@ fn pair_collect(
         places,
     );
     match met {
-        Met::Dark => met,
-        Met::Hits(k) => node_collect(
+        Gained::Dark => met,
+        Gained::Hits(k) => node_collect(
             points,
             uses,
             kinds,
@@ -432,7 +432,7 @@ fn run_collect(
     held: usize,
     distances: &mut [f32],
     places: &mut [usize],
-) -> Met
+) -> Gained
     requires { ⌜ TreeFits (now points) (now uses) (now kinds) (now boxes) (now nodes) (now order) (now turned) ⌝ }
     requires { ⌜ (i < boxCount (now nodes)) × (innerAt (now nodes) i ≡ false) ⌝ }
     requires { ⌜ (held ≤ length (now distances)) × (held ≤ length (now places)) ⌝ }
@@ -448,7 +448,7 @@ fn run_collect(
     while k < end {
         let j = scan::inner::first_open(turned, k, end, ray);
         if j == end {
-            return Met::Hits(m);
+            return Gained::Hits(m);
         }
         let p = tree::inner::word_at(order, j);
         let h = boxed_meet(points, uses, kinds, ray, p);
@@ -457,7 +457,7 @@ fn run_collect(
             Meet::Miss => {}
             Meet::Hit(t, _, _, _) => {
                 if panels::inner::stops_light(panels::inner::kind_at(uses, kinds, p)) {
-                    return Met::Dark;
+                    return Gained::Dark;
                 }
                 distances[m] = t;
                 places[m] = p;
@@ -465,7 +465,7 @@ fn run_collect(
             }
         }
     }
-    Met::Hits(m)
+    Gained::Hits(m)
 }
 
 // ---- one triangle

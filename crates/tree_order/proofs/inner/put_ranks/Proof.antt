@@ -7,7 +7,7 @@ use lib.ListN.{length, take, drop, length-set}
 use Rattle.hits.specs.Hits.{paired}
 use Rattle.tree_order.specs.Order.{keyOn}
 use Rattle.tree_order.specs.Ranks.{ranked}
-use Rattle.tree_order.specs.RankLaws.{place-within}
+use Rattle.tree_order.specs.RankLaws.{order-place-within}
 use Rattle.tree_order.proofs.Steps.{ranked-next, ranked-end}
 use borrow.Author.Needs.{needs}
 use Rattle.tree_order.proofs.inner.put_ranks.Statement.{statement}
@@ -32,7 +32,7 @@ key-requires : tie.Need-key-requires Inv-loop μ-loop
 key-requires c κs =
     let s = c .before .before .before .before .before .before .before in
     let l = c .before .before .loop in
-    omega (arith, c .word-at .ensures .0, place-within (s .args .points .now) (s .args .run .now) (l .k) (s .pre .0) (omega arith))
+    omega (arith, c .word-at .ensures .0, order-place-within (s .args .points .now) (s .args .run .now) (l .k) (s .pre .0) (omega arith))
 
 on-axis-requires : tie.Need-on-axis-requires Inv-loop μ-loop
 on-axis-requires c κs = search needs

@@ -1,10 +1,10 @@
--- `tree_order::inner::spread` meets its contract. The loop's invariant: the lowest and the highest, with what is left of the run, are those of the run.
+-- `tree_order::inner::spread` meets its contract. The loop's invariant: the lowestKeys and the highestKeys, with what is left of the run, are those of the run.
 use mathlib.Core.Path.{_≡_, refl, sym, ap, _∙_}
 use Prim.Native.Nat.{_-_, _≤_}
 use native.Mathlib.Omega.{arith}
 use lib.ListN.{length, getD, drop}
-use Rattle.tree_order.specs.Order.{keyAt, lowest, highest, spreadOf}
-use Rattle.tree_order.specs.RankLaws.{place-within}
+use Rattle.tree_order.specs.Order.{keyAt, lowestKeys, highestKeys, spreadOfKeys}
+use Rattle.tree_order.specs.RankLaws.{order-place-within}
 use Rattle.tree_order.proofs.Steps.{lowest-next, highest-next, lowest-end, highest-end}
 use borrow.Author.Needs.{needs}
 use Rattle.tree_order.proofs.inner.spread.Statement.{statement}
@@ -12,8 +12,8 @@ use Rattle.tree_order.proofs.inner.spread.Tie as tie
 
 abbrev Inv-loop : tie.InvT-loop
 Inv-loop points run low₀ high₀ k₀ low high k =
-    (1 ≤ k) × (k ≤ length run) × (lowest points low (drop k run) ≡ lowest points (keyAt points (getD run 0 0)) (drop 1 run))
-    × (highest points high (drop k run) ≡ highest points (keyAt points (getD run 0 0)) (drop 1 run))
+    (1 ≤ k) × (k ≤ length run) × (lowestKeys points low (drop k run) ≡ lowestKeys points (keyAt points (getD run 0 0)) (drop 1 run))
+    × (highestKeys points high (drop k run) ≡ highestKeys points (keyAt points (getD run 0 0)) (drop 1 run))
 
 abbrev μ-loop : tie.MeasureT-loop
 μ-loop points run low₀ high₀ k₀ low high k = length run - k
@@ -24,7 +24,7 @@ word-at-requires c κs = omega arith
 key-requires : tie.Need-key-requires Inv-loop μ-loop
 key-requires c κs =
     let s = c .before .before .before in
-    omega (arith, c .word-at .ensures .0, place-within (s .args .points .now) (s .args .run .now) 0 (s .pre .0) (omega arith))
+    omega (arith, c .word-at .ensures .0, order-place-within (s .args .points .now) (s .args .run .now) 0 (s .pre .0) (omega arith))
 
 loop-holds : tie.Need-loop-holds Inv-loop μ-loop
 loop-holds c =
@@ -38,7 +38,7 @@ key-requires-2 : tie.Need-key-requires-2 Inv-loop μ-loop
 key-requires-2 c κs =
     let s = c .before .before .before .before .before .before .before in
     let l = c .before .before .loop in
-    omega (arith, c .word-at2 .ensures .0, place-within (s .args .points .now) (s .args .run .now) (l .k) (s .pre .0) (omega arith))
+    omega (arith, c .word-at2 .ensures .0, order-place-within (s .args .points .now) (s .args .run .now) (l .k) (s .pre .0) (omega arith))
 
 smaller-requires : tie.Need-smaller-requires Inv-loop μ-loop
 smaller-requires c κs = search needs
@@ -69,7 +69,7 @@ sub-requires : tie.Need-sub-requires Inv-loop μ-loop
 sub-requires c κs = search needs
 
 returns : tie.Need-returns Inv-loop μ-loop
-unfolding spreadOf
+unfolding spreadOfKeys
 returns c =
     let s = c .before .before .before .before .before .before .before in
     let l = c .before .before .loop in

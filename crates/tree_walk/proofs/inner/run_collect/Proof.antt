@@ -10,7 +10,7 @@ use Rattle.triangle.specs.declared.Meet.the-variants.{Miss}
 use Rattle.panels.specs.Panels.{kindAt, stopsLight}
 use Rattle.hits.specs.PairedLaws.{stored}
 use Rattle.tree.specs.Tree.{countAt}
-use Rattle.tree_walk.specs.declared.Met.the-variants.{Hits}
+use Rattle.tree_walk.specs.declared.Gained.the-variants.{Hits}
 use Rattle.tree_walk.specs.Boxed.{boxedAt}
 use Rattle.tree_walk.specs.Walk.{runVisit}
 use Rattle.tree_walk.specs.Collect.{came, collectStep}
