@@ -1,12 +1,12 @@
 //! The Rust's answer to each call: the refusal by the table, else what the copies give.
-use crate::calls::{bits, halves, word, Answer, Bake, Call, Grid, Lists, Progress, Ray, Scratch};
+use crate::calls::{bits, halves, word, Answer, Bake, Call, Grid, Lists, Progress, Ray, Scratch, Tree};
 use crate::math::Vec3x4;
 use crate::raytracer::{ray_triangle_intersect, RayTracer};
 use crate::scene::Scene;
 use crate::voxelgrid::VoxelGrid;
 use crate::watch::{self, Fired};
 use crate::worlds::voxels;
-use crate::{gi, solid, table, words};
+use crate::{gi, solid, table, trees, words};
 use glam::{Vec3A, Vec4};
 
 pub fn vector(v: &[f32]) -> Vec3A {
@@ -123,6 +123,17 @@ pub fn solid_baked(bake: &Bake, active: Option<&[u8]>) -> Baked {
     figures
 }
 
+/// The same through C-20's tree: what the Rust gives over its candidates, each ray held to a walk of the tree.
+pub fn tree_baked(bake: &Bake, tree: &Tree) -> Baked {
+    let figures = trees::through(|| baked(bake, Some(&bake.active)));
+    trees::hold_all(&bake.lists, tree, &figures.rays);
+    figures
+}
+
+fn fired(kind: u32, ray: &Ray) -> Fired {
+    Fired { voxel: 0, kind, origin: vector(&ray.origin), direction: vector(&ray.direction), shortest: ray.shortest, longest: ray.longest }
+}
+
 pub fn blurred_volume(grid: &Grid, volume: &[f32]) -> Vec<f32> {
     let mut voxels = voxel_grid(grid);
     voxels.set_all_gi_sh4(packed(volume));
@@ -225,7 +236,7 @@ pub fn answer(call: &Call) -> Answer {
             }
             let scene = bare(lists);
             let tracer = RayTracer::new(&scene);
-            let fired = Fired { voxel: 0, kind: 1, origin: vector(&ray.origin), direction: vector(&ray.direction), shortest: ray.shortest, longest: ray.longest };
+            let fired = fired(1, ray);
             let value = tracer.trace_transmittance(fired.origin, fired.direction, &scene, fired.shortest, fired.longest);
             solid::hold(&tracer, &fired, value);
             Answer { words: vec![0, word(value)], lists: vec![] }
@@ -303,6 +314,65 @@ pub fn answer(call: &Call) -> Answer {
             let mut after = (**bake).clone();
             let (progress, rays) = if good { bake_call(&mut after, &solid_baked(bake, Some(&bake.active))) } else { as_handed_in(bake) };
             solid_answer(&after, refusal, progress, rays)
+        }
+        Call::TreeNearest { lists, tree, ray } => {
+            let mut words = [refusal, 0, 0, 0, 0, 0, 0].to_vec();
+            if good {
+                let tracer = RayTracer::new(&bare(lists));
+                let found = trees::through(|| nearest(&tracer, ray));
+                trees::hold_nearest(lists, tree, &tracer, &fired(0, ray), found);
+                if let Some((place, t, u, v, front)) = found {
+                    words = vec![0, 1, place, word(t), word(u), word(v), front as u32];
+                }
+            }
+            Answer { words, lists: vec![] }
+        }
+        Call::TreeTransmittance { lists, tree, ray, hits } => {
+            if !good {
+                return Answer { words: vec![refusal, 0], lists: scratch_words(hits).to_vec() };
+            }
+            let scene = bare(lists);
+            let tracer = RayTracer::new(&scene);
+            let fired = fired(1, ray);
+            let value = trees::through(|| tracer.trace_transmittance(fired.origin, fired.direction, &scene, fired.shortest, fired.longest));
+            trees::hold_transmittance(lists, tree, &tracer, &fired, value);
+            Answer { words: vec![0, word(value)], lists: vec![] }
+        }
+        Call::TreeSun { grid, lists, tree, direction, active, light, scratch, hits } => {
+            if !good {
+                let mut after = vec![bits(light), bits(scratch)];
+                after.extend(scratch_words(hits));
+                return Answer { words: vec![refusal, 0, 0], lists: after };
+            }
+            let s = trees::through(|| sunned(grid, lists, *direction, Some(active)));
+            let count = flags(active, grid).iter().filter(|a| **a).count() as u64;
+            assert!(s.rays.len() as u64 == count, "the sun pass fires a ray for each active voxel");
+            trees::hold_all(lists, tree, &s.rays);
+            let held = if count == 0 { bits(scratch) } else { bits(&s.before) };
+            let mut after = vec![bits(&s.after), held];
+            if count == 0 {
+                after.extend(scratch_words(hits));
+            }
+            let [low, high] = low_high(count);
+            Answer { words: vec![0, low, high], lists: after }
+        }
+        Call::TreeBake(bake, tree) => {
+            let mut after = (**bake).clone();
+            let (progress, rays) = if good { bake_call(&mut after, &tree_baked(bake, tree)) } else { as_handed_in(bake) };
+            bake_answer(&after, refusal, progress, rays)
+        }
+        Call::BuildTree { points, tree } => {
+            let mut words = vec![refusal, 0, 0];
+            let mut after = tree.clone();
+            if good {
+                let own = trees::built(points);
+                assert!(trees::accepted(points, &own), "the builder's trees are accepted");
+                words = vec![0, own.nodes.len() as u32 / 3, own.order.len() as u32];
+                after.boxes[..own.boxes.len()].copy_from_slice(&own.boxes);
+                after.nodes[..own.nodes.len()].copy_from_slice(&own.nodes);
+                after.order[..own.order.len()].copy_from_slice(&own.order);
+            }
+            Answer { words, lists: vec![bits(&after.boxes), after.nodes, after.order] }
         }
         Call::LightLookup { grid, light, position } => {
             let mut words = vec![refusal, 0];

@@ -1,10 +1,11 @@
 //! Calls that break each accepted number in turn, by the least step and in both directions, several at once, lengths one off either
 //! way, of masks in words, 4,097 triangles, 257 materials, nine lamps, unused bits, a bake's record, NaN and infinities; and beside each the
 //! accepted number next to it.
-use crate::calls::{Bake, Call, Grid, Lists, Progress, Ray, Scratch};
+use crate::calls::{Bake, Call, Grid, Lists, Progress, Ray, Scratch, Tree};
 use crate::chance::Chance;
 use crate::progress_places;
 use crate::table::{self, AXIS};
+use crate::tree_places;
 use crate::words;
 use crate::worlds::{self, step, voxels, World};
 use std::rc::Rc;
@@ -19,7 +20,7 @@ pub struct Change {
     pub make: Rc<dyn Fn(&mut Call)>,
 }
 
-fn change(name: impl Into<String>, number: Option<u32>, make: impl Fn(&mut Call) + 'static) -> Change {
+pub fn change(name: impl Into<String>, number: Option<u32>, make: impl Fn(&mut Call) + 'static) -> Change {
     Change { name: name.into(), number, sets_rays: false, make: Rc::new(make) }
 }
 
@@ -60,7 +61,11 @@ fn slots(call: &mut Call, visit: Visit) {
             each(points, "point", -4096.0, 4096.0, 5, visit);
             ray_slots(ray, visit);
         }
-        Call::Nearest { lists, ray } | Call::Transmittance { lists, ray, .. } | Call::SolidTransmittance { lists, ray } => {
+        Call::Nearest { lists, ray }
+        | Call::Transmittance { lists, ray, .. }
+        | Call::SolidTransmittance { lists, ray }
+        | Call::TreeNearest { lists, ray, .. }
+        | Call::TreeTransmittance { lists, ray, .. } => {
             each(&mut lists.points, "point", -4096.0, 4096.0, 5, visit);
             material_slots(lists, visit);
             ray_slots(ray, visit);
@@ -71,13 +76,13 @@ fn slots(call: &mut Call, visit: Visit) {
         }
         Call::LightBlur { light, .. } => each(light, "light", -light_bound, light_bound, 13, visit),
         Call::CoefficientBlur { volume, .. } => each(volume, "coefficient", -coefficient_bound, coefficient_bound, 13, visit),
-        Call::Sun { grid, lists, direction, .. } | Call::SolidSun { grid, lists, direction, .. } => {
+        Call::Sun { grid, lists, direction, .. } | Call::SolidSun { grid, lists, direction, .. } | Call::TreeSun { grid, lists, direction, .. } => {
             each(&mut grid.corners, "corner", -4096.0, 4096.0, 2, visit);
             each(&mut lists.points, "point", -4096.0, 4096.0, 5, visit);
             material_slots(lists, visit);
             each(direction, "light direction", -4096.0, 4096.0, 7, visit);
         }
-        Call::Bake(b) | Call::SolidBake(b) => {
+        Call::Bake(b) | Call::SolidBake(b) | Call::TreeBake(b, _) => {
             each(&mut b.grid.corners, "corner", -4096.0, 4096.0, 2, visit);
             each(&mut b.lists.points, "point", -4096.0, 4096.0, 5, visit);
             material_slots(&mut b.lists, visit);
@@ -111,6 +116,7 @@ fn slots(call: &mut Call, visit: Visit) {
             each(volume, "coefficient read or not", -coefficient_bound, coefficient_bound, 0, visit);
         }
         Call::Part { .. } => {}
+        Call::BuildTree { points, .. } => each(points, "point", -4096.0, 4096.0, 5, visit),
     }
 }
 
@@ -118,15 +124,24 @@ fn lists_of(call: &mut Call) -> Option<&mut Lists> {
     match call {
         Call::Nearest { lists, .. } | Call::Transmittance { lists, .. } | Call::Sun { lists, .. } => Some(lists),
         Call::SolidTransmittance { lists, .. } | Call::SolidSun { lists, .. } => Some(lists),
-        Call::Bake(b) | Call::SolidBake(b) => Some(&mut b.lists),
+        Call::TreeNearest { lists, .. } | Call::TreeTransmittance { lists, .. } | Call::TreeSun { lists, .. } => Some(lists),
+        Call::Bake(b) | Call::SolidBake(b) | Call::TreeBake(b, _) => Some(&mut b.lists),
+        _ => None,
+    }
+}
+
+/// The tree that a call is lent to read.
+pub fn tree_of(call: &mut Call) -> Option<&mut Tree> {
+    match call {
+        Call::TreeNearest { tree, .. } | Call::TreeTransmittance { tree, .. } | Call::TreeSun { tree, .. } | Call::TreeBake(_, tree) => Some(tree),
         _ => None,
     }
 }
 
 fn hits_of(call: &mut Call) -> Option<&mut Scratch> {
     match call {
-        Call::Transmittance { hits, .. } | Call::Sun { hits, .. } => Some(hits),
-        Call::Bake(b) => Some(&mut b.hits),
+        Call::Transmittance { hits, .. } | Call::Sun { hits, .. } | Call::TreeTransmittance { hits, .. } | Call::TreeSun { hits, .. } => Some(hits),
+        Call::Bake(b) | Call::TreeBake(b, _) => Some(&mut b.hits),
         _ => None,
     }
 }
@@ -135,8 +150,8 @@ pub fn axes_of(call: &mut Call) -> Option<&mut [u64; 3]> {
     match call {
         Call::Masks { grid, .. } | Call::Sun { grid, .. } | Call::LightLookup { grid, .. } | Call::CoefficientLookup { grid, .. } => Some(&mut grid.axes),
         Call::LightBlur { axes, .. } | Call::CoefficientBlur { axes, .. } | Call::Part { axes, .. } => Some(axes),
-        Call::SolidSun { grid, .. } => Some(&mut grid.axes),
-        Call::Bake(b) | Call::SolidBake(b) => Some(&mut b.grid.axes),
+        Call::SolidSun { grid, .. } | Call::TreeSun { grid, .. } => Some(&mut grid.axes),
+        Call::Bake(b) | Call::SolidBake(b) | Call::TreeBake(b, _) => Some(&mut b.grid.axes),
         _ => None,
     }
 }
@@ -144,24 +159,24 @@ pub fn axes_of(call: &mut Call) -> Option<&mut [u64; 3]> {
 fn grid_of(call: &mut Call) -> Option<&mut Grid> {
     match call {
         Call::Masks { grid, .. } | Call::Sun { grid, .. } | Call::LightLookup { grid, .. } | Call::CoefficientLookup { grid, .. } => Some(grid),
-        Call::SolidSun { grid, .. } => Some(grid),
-        Call::Bake(b) | Call::SolidBake(b) => Some(&mut b.grid),
+        Call::SolidSun { grid, .. } | Call::TreeSun { grid, .. } => Some(grid),
+        Call::Bake(b) | Call::SolidBake(b) | Call::TreeBake(b, _) => Some(&mut b.grid),
         _ => None,
     }
 }
 
 fn direction_of(call: &mut Call) -> Option<&mut [f32]> {
     match call {
-        Call::Sun { direction, .. } | Call::SolidSun { direction, .. } => Some(direction),
-        Call::Bake(b) | Call::SolidBake(b) => Some(&mut b.sunlight[..3]),
+        Call::Sun { direction, .. } | Call::SolidSun { direction, .. } | Call::TreeSun { direction, .. } => Some(direction),
+        Call::Bake(b) | Call::SolidBake(b) | Call::TreeBake(b, _) => Some(&mut b.sunlight[..3]),
         _ => None,
     }
 }
 
 fn mask_of(call: &mut Call) -> Option<&mut Vec<u8>> {
     match call {
-        Call::Sun { active, .. } | Call::SolidSun { active, .. } => Some(active),
-        Call::Bake(b) | Call::SolidBake(b) => Some(&mut b.active),
+        Call::Sun { active, .. } | Call::SolidSun { active, .. } | Call::TreeSun { active, .. } => Some(active),
+        Call::Bake(b) | Call::SolidBake(b) | Call::TreeBake(b, _) => Some(&mut b.active),
         _ => None,
     }
 }
@@ -201,11 +216,11 @@ fn resized(call: &mut Call, which: usize, by: i64) -> Option<&'static str> {
         }
         Call::LightBlur { light, scratch, .. } => lists!(light => "light", scratch => "light scratch"),
         Call::CoefficientBlur { volume, scratch, .. } => lists!(volume => "volume", scratch => "scratch"),
-        Call::Sun { active, light, scratch, .. } | Call::SolidSun { active, light, scratch, .. } => {
+        Call::Sun { active, light, scratch, .. } | Call::SolidSun { active, light, scratch, .. } | Call::TreeSun { active, light, scratch, .. } => {
             masks!(active => "active");
             lists!(light => "light", scratch => "light scratch");
         }
-        Call::Bake(b) | Call::SolidBake(b) => {
+        Call::Bake(b) | Call::SolidBake(b) | Call::TreeBake(b, _) => {
             lists!(&mut b.sky => "sky", &mut b.lamps => "lamps");
             masks!(&mut b.active => "active");
             lists!(&mut b.light => "light", &mut b.volume => "volume", &mut b.scratch => "scratch");
@@ -376,7 +391,7 @@ pub fn changes(call: &Call, few: bool) -> Vec<Change> {
     }
     // triangles and materials
     if lists_of(&mut call.clone()).map(|l| l.uses.len()).unwrap_or(0) >= 2 {
-        let counts: &[(usize, Option<u32>)] = if matches!(call, Call::Bake(_) | Call::SolidBake(_)) { &[(4097, Some(4))] } else { &[(4097, Some(4)), (4096, None)] };
+        let counts: &[(usize, Option<u32>)] = if matches!(call, Call::Bake(_) | Call::SolidBake(_) | Call::TreeBake(..)) { &[(4097, Some(4))] } else { &[(4097, Some(4)), (4096, None)] };
         for (count, number) in counts.iter().cloned() {
             out.push(change(format!("{count} triangles"), number, move |call| {
                 grow(lists_of(call).expect("lists"), count);
@@ -457,11 +472,11 @@ pub fn changes(call: &Call, few: bool) -> Vec<Change> {
         }
     }
     // the bake's own
-    if let Call::Bake(b) | Call::SolidBake(b) = call {
+    if let Call::Bake(b) | Call::SolidBake(b) | Call::TreeBake(b, _) = call {
         let n = b.active.len() as u64;
         for (progress, number) in [(n + 1, Some(9)), (u64::MAX, Some(9)), (n, None), (n - 1, None)] {
             out.push(change(format!("progress := {progress}"), number, move |call| {
-                if let Call::Bake(b) | Call::SolidBake(b) = call {
+                if let Call::Bake(b) | Call::SolidBake(b) | Call::TreeBake(b, _) = call {
                     b.progress.next = progress;
                     if !b.volume.iter().all(|x| x.is_finite()) {
                         b.volume.fill(0.25);
@@ -472,14 +487,14 @@ pub fn changes(call: &Call, few: bool) -> Vec<Change> {
         let cost = table::cost(&b.lamps);
         for (allowance, number) in [(cost - 1, Some(10)), (0, Some(10)), (cost, None), (u64::MAX, None)] {
             out.push(change(format!("allowance := {allowance}"), number, move |call| {
-                if let Call::Bake(b) | Call::SolidBake(b) = call {
+                if let Call::Bake(b) | Call::SolidBake(b) | Call::TreeBake(b, _) = call {
                     b.allowance = allowance;
                 }
             }));
         }
         for progress in [0, n] {
             out.push(change(format!("NaN in the volume at progress {progress}"), None, move |call| {
-                if let Call::Bake(b) | Call::SolidBake(b) = call {
+                if let Call::Bake(b) | Call::SolidBake(b) | Call::TreeBake(b, _) = call {
                     b.progress.next = progress;
                     b.volume.fill(f32::NAN);
                     b.scratch.fill(f32::INFINITY);
@@ -487,13 +502,14 @@ pub fn changes(call: &Call, few: bool) -> Vec<Change> {
             }));
         }
         out.push(change("allowance one short at the end", Some(10), move |call| {
-            if let Call::Bake(b) | Call::SolidBake(b) = call {
+            if let Call::Bake(b) | Call::SolidBake(b) | Call::TreeBake(b, _) = call {
                 b.progress.next = n;
                 b.allowance = cost - 1;
             }
         }));
         lamp_changes(&mut out);
     }
+    out.extend(tree_places::changes(call, few));
     if let Call::Part { axes, .. } = call {
         let n = axes[0] * axes[1] * axes[2];
         for (index, number) in [(n, Some(11)), (n + 1, Some(11)), (u64::MAX, Some(11)), (1 << 60, Some(11)), (n - 1, None), (0, None)] {
@@ -526,7 +542,7 @@ fn record_changes(bake: &Bake, few: bool) -> Vec<Change> {
             let (least, most) = progress_places::least_and_most(bake, next);
             let number = if next > n || rays < least || rays > most { Some(9) } else { None };
             let made = change(format!("record := {next}, {rays}"), number, move |call| {
-                if let Call::Bake(b) | Call::SolidBake(b) = call {
+                if let Call::Bake(b) | Call::SolidBake(b) | Call::TreeBake(b, _) = call {
                     b.progress = Progress { next, rays };
                     if !b.volume.iter().all(|x| x.is_finite()) {
                         b.volume.fill(0.25);
@@ -544,7 +560,7 @@ fn of_records(bake: &Bake, base: &Call, others: &[Change], few: bool) -> Vec<Bad
     let mut c = Chance::new(0xC16 ^ bake.light[0].to_bits() as u64 ^ bake.lamps.len() as u64);
     let all = record_changes(bake, few);
     let mut out: Vec<Bad> = all.iter().map(|change| applied(base, &[change])).collect();
-    let rows = [1, 2, 3, 4, 5, 6, 7, 19, 9, 10, 13];
+    let rows = [1, 2, 3, 4, 5, 6, 7, 19, 16, 9, 10, 13];
     for (place, row) in rows.into_iter().enumerate() {
         let fit: Vec<&Change> = others.iter().filter(|change| change.number == Some(row) && !change.name.contains("triangles")).collect();
         if row == 9 || fit.is_empty() {
@@ -555,11 +571,11 @@ fn of_records(bake: &Bake, base: &Call, others: &[Change], few: bool) -> Vec<Bad
             .iter()
             .map(|record| applied(base, &[other, record]))
             // axes and lengths come first, and without good ones there is nothing to count
-            .filter(|both| row < 4 || matches!(&both.call, Call::Bake(b) | Call::SolidBake(b) if !progress_places::keeps(b)))
+            .filter(|both| row < 4 || matches!(&both.call, Call::Bake(b) | Call::SolidBake(b) | Call::TreeBake(b, _) if !progress_places::keeps(b)))
             .collect();
         let k = c.below(wrong.len());
         let both = wrong.into_iter().nth(k).expect("a record that breaks the rule");
-        meant(table::refusal(&both.call), if place < 8 { row } else { 9 }, &both.what);
+        meant(table::refusal(&both.call), if place < 9 { row } else { 9 }, &both.what);
         out.push(both);
     }
     out
@@ -569,7 +585,7 @@ fn of_records(bake: &Bake, base: &Call, others: &[Change], few: bool) -> Vec<Bad
 fn lamp_changes(out: &mut Vec<Change>) {
     let mut lamps = |name: &str, number: Option<u32>, make: fn(&mut Bake)| {
         out.push(change(format!("lamps: {name}"), number, move |call| {
-            if let Call::Bake(b) | Call::SolidBake(b) = call {
+            if let Call::Bake(b) | Call::SolidBake(b) | Call::TreeBake(b, _) = call {
                 make(b);
             }
         }))
@@ -752,9 +768,9 @@ pub fn applied(base: &Call, changes: &[&Change]) -> Bad {
 pub fn of(c: &mut Chance, base: &Call, few: bool, several: usize) -> Vec<Bad> {
     meant(table::refusal(base), 0, "a base");
     let mut all = changes(base, few);
-    if few && matches!(base, Call::Bake(b) | Call::SolidBake(b) if !b.lamps.is_empty()) {
+    if few && matches!(base, Call::Bake(b) | Call::SolidBake(b) | Call::TreeBake(b, _) if !b.lamps.is_empty()) {
         // beside what concerns the lamps, a fault of each row that they stand among
-        let beside = ["lamp", "allowance", "progress", "sky", "coefficient", "unused bit", "NaN in the volume", "hit scratch", "kind :="];
+        let beside = ["lamp", "allowance", "progress", "sky", "coefficient", "unused bit", "NaN in the volume", "hit scratch", "kind :=", "tree"];
         all.retain(|change| beside.iter().any(|name| change.name.starts_with(name)));
     }
     let mut out: Vec<Bad> = all.iter().map(|change| applied(base, &[change])).collect();
@@ -765,6 +781,10 @@ pub fn of(c: &mut Chance, base: &Call, few: bool, several: usize) -> Vec<Bad> {
     let mut rows: Vec<u32> = (1..14).collect();
     if all.iter().any(|change| change.number == Some(19)) {
         rows.insert(7, 19);
+    }
+    if all.iter().any(|change| change.number == Some(16)) {
+        let after = rows.iter().position(|row| *row == 8).expect("row 8");
+        rows.insert(after, 16);
     }
     for (place, first) in rows.iter().cloned().enumerate() {
         for later in rows[place + 1..].iter().cloned() {
@@ -786,7 +806,7 @@ pub fn of(c: &mut Chance, base: &Call, few: bool, several: usize) -> Vec<Bad> {
             out.push(applied(base, &set));
         }
     }
-    if let Call::Bake(bake) | Call::SolidBake(bake) = base {
+    if let Call::Bake(bake) | Call::SolidBake(bake) | Call::TreeBake(bake, _) = base {
         out.extend(of_records(bake, base, &all, few));
     }
     out

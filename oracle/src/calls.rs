@@ -16,6 +16,14 @@ pub struct Scratch {
     pub places: Vec<u64>,
 }
 
+/// C-20's tree of boxes as it is lent: six numbers a box, three words a node, and places of triangles.
+#[derive(Clone, Debug, Default, PartialEq)]
+pub struct Tree {
+    pub boxes: Vec<f32>,
+    pub nodes: Vec<u32>,
+    pub order: Vec<u32>,
+}
+
 #[derive(Clone, Copy, Debug)]
 pub struct Ray {
     pub origin: [f32; 3],
@@ -48,6 +56,12 @@ pub enum Call {
     SolidSun { grid: Grid, lists: Lists, direction: [f32; 3], active: Vec<u8>, light: Vec<f32>, scratch: Vec<f32> },
     /// Hit scratch is not lent; the list of it is empty.
     SolidBake(Box<Bake>),
+    TreeNearest { lists: Lists, tree: Tree, ray: Ray },
+    TreeTransmittance { lists: Lists, tree: Tree, ray: Ray, hits: Scratch },
+    TreeSun { grid: Grid, lists: Lists, tree: Tree, direction: [f32; 3], active: Vec<u8>, light: Vec<f32>, scratch: Vec<f32>, hits: Scratch },
+    TreeBake(Box<Bake>, Tree),
+    /// C-20's builder over lists that are lent to it.
+    BuildTree { points: Vec<f32>, tree: Tree },
 }
 
 impl Call {
@@ -57,6 +71,18 @@ impl Call {
             Call::Transmittance { lists, ray, hits: _ } => Some(Call::SolidTransmittance { lists, ray }),
             Call::Sun { grid, lists, direction, active, light, scratch, hits: _ } => Some(Call::SolidSun { grid, lists, direction, active, light, scratch }),
             Call::Bake(bake) => Some(Call::SolidBake(Box::new(bake.without_hits()))),
+            _ => None,
+        }
+    }
+
+    /// C-20's call with the same arguments and this tree, if there is one.
+    pub fn through(&self, tree: &Tree) -> Option<Call> {
+        let tree = tree.clone();
+        match self.clone() {
+            Call::Nearest { lists, ray } => Some(Call::TreeNearest { lists, tree, ray }),
+            Call::Transmittance { lists, ray, hits } => Some(Call::TreeTransmittance { lists, tree, ray, hits }),
+            Call::Sun { grid, lists, direction, active, light, scratch, hits } => Some(Call::TreeSun { grid, lists, tree, direction, active, light, scratch, hits }),
+            Call::Bake(bake) => Some(Call::TreeBake(bake, tree)),
             _ => None,
         }
     }

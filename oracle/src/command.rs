@@ -6,6 +6,7 @@ use crate::progress_places;
 use crate::records::Record;
 use crate::solid_places;
 use crate::scene::recorded_bits;
+use crate::tree_places;
 use crate::watch;
 use crate::wide_places;
 use crate::word_places;
@@ -30,14 +31,15 @@ const USAGE: &str = "usage: oracle COMMAND ..
   record FOLDER                 writes each program's recorded answers to FOLDER/replay_PROGRAM/stdin, and to stdout beside it
                                 how many records and comparisons its program then says
   compare FOLDER                makes them again and compares
+  passed COUNT FIRST            rays over halls and scenes of those seeds, and what the full scan meets of triangles whose own padded box is passed over
   count FIRST COUNT             how many scenes, triangles, lamps and voxels those seeds hold
   time SEED                     bakes a seeded scene and says how fast
   one MODULE SEED PLACE         a single record of a stream, by its place, with what it holds as text
   shrink MODULE SEED PLACE CMD..  the smallest record that CMD still answers otherwise than the oracle
 MODULE is rays, masks, blurs, sun, bake, lookup or fired.";
 
-const COMMANDS: [&str; 16] = [
-    "directions", "families", "scene", "answer", "timed", "rays", "coverage", "stream", "bad", "every", "record", "compare", "count", "time", "one", "shrink",
+const COMMANDS: [&str; 17] = [
+    "directions", "families", "scene", "answer", "timed", "rays", "coverage", "stream", "bad", "every", "record", "compare", "passed", "count", "time", "one", "shrink",
 ];
 
 pub fn main() -> ExitCode {
@@ -155,6 +157,10 @@ fn run(words: &[String]) -> Result<bool, String> {
         }
         ["record", folder] => record(folder, false),
         ["compare", folder] => record(folder, true),
+        ["passed", count, first] => {
+            say(&crate::passed::searched(seeds(first, count)?))?;
+            Ok(true)
+        }
         ["count", first, count] => tally(seeds(first, count)?),
         ["time", seed] => time(number(seed, "SEED")?),
         ["one", name, seed, place] => crate::shrink::one(module(name)?, number(seed, "SEED")?, number(place, "PLACE")? as usize),
@@ -190,9 +196,10 @@ fn coverage(seeds: Range<u64>) -> Result<bool, String> {
                 both[which] += made.both as u64;
                 good &= accepted(&made, &format!("{name}: record {place} of seed {seed}"))?;
             }
-            for (place, item) in solid_places::refused(name, seed).iter().enumerate() {
-                let place = inside.len() + place;
-                good &= kinds_refused(&item.record(), &format!("{name}: record {place} of seed {seed}"))?;
+            for (number, why, items) in [(6, "a kind other than 0 stands in its list", solid_places::refused(name, seed)), (16, "its tree is not accepted", tree_places::refused(name, seed))] {
+                for (place, item) in items.iter().enumerate() {
+                    good &= refused_by(&item.record(), number, why, &format!("{name}: refused record {place} of seed {seed}"))?;
+                }
             }
         }
     }
@@ -213,11 +220,11 @@ fn accepted(record: &Record, what: &str) -> Result<bool, String> {
     }
 }
 
-/// Whether every answer of a record is refusal 6; says which is not.
-fn kinds_refused(record: &Record, what: &str) -> Result<bool, String> {
-    match record.refusals.iter().find(|r| **r != 6) {
-        Some(number) => {
-            say(&format!("{what}: answered {number}, though a kind other than 0 stands in its list\n"))?;
+/// Whether every answer of a record is this refusal; says which is not.
+fn refused_by(record: &Record, number: u32, why: &str, what: &str) -> Result<bool, String> {
+    match record.refusals.iter().find(|r| **r != number) {
+        Some(other) => {
+            say(&format!("{what}: answered {other}, though {why}\n"))?;
             Ok(false)
         }
         None => Ok(true),
@@ -274,9 +281,14 @@ fn recorded(name: &str) -> [(bool, Vec<Item>); 6] {
     [(true, out), (false, bad), (true, wide_places::made(name)), (false, wide_places::bad(name, 0)), (true, panel_places::made(name)), (false, panel_places::bad(name, 0))]
 }
 
-/// The records of C-22's calls, which stand after all others of a program: those inside the limits, then the bad inputs.
+/// The records of C-22's calls, which stand after all of before it of a program: those inside the limits, then the bad inputs.
 fn recorded_solid(name: &str) -> [(bool, Vec<Item>); 2] {
     [(true, solid_places::made(name)), (false, solid_places::bad(name, 0))]
+}
+
+/// The records of C-20's calls, which stand after those: likewise.
+fn recorded_trees(name: &str) -> [(bool, Vec<Item>); 2] {
+    [(true, tree_places::made(name)), (false, tree_places::bad(name, 0))]
 }
 
 /// The program that replays a module's records: the bake's also has the rays that it fires.
@@ -297,6 +309,9 @@ fn record(folder: &str, compare: bool) -> Result<bool, String> {
         }
         for module in modules() {
             stretches.extend(recorded_solid(module).map(|(inside, items)| (module, inside, items)));
+        }
+        for module in modules() {
+            stretches.extend(recorded_trees(module).map(|(inside, items)| (module, inside, items)));
         }
         for (module, inside, items) in &stretches {
             for item in items {

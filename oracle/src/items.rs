@@ -1,7 +1,7 @@
 //! What is compared, module by module: for a seed the records of one seeded scene, and for a seed of bad inputs those of one base.
 use crate::answers::{baked, sunned};
 use crate::bad;
-use crate::calls::{Bake, Call, Grid, Lists, Progress, Ray, RayCall, Scratch};
+use crate::calls::{Bake, Call, Grid, Lists, Progress, Ray, RayCall, Scratch, Tree};
 use crate::chance::Chance;
 use crate::lamp_places;
 use crate::panel_places;
@@ -9,6 +9,7 @@ use crate::progress_places;
 use crate::records::{self, Record};
 use crate::solid_places;
 use crate::table;
+use crate::tree_places;
 use crate::wide_places;
 use crate::word_places;
 use crate::worlds::{self, voxels, World};
@@ -22,6 +23,8 @@ pub enum Item {
     Bakes { bake: Box<Bake>, calls: Vec<(Progress, u64)> },
     SolidBakes { bake: Box<Bake>, calls: Vec<(Progress, u64)> },
     Fired(Box<Bake>),
+    TreeRays { lists: Lists, tree: Tree, hits: Scratch, asked: Vec<(RayCall, Ray)> },
+    TreeBakes { bake: Box<Bake>, tree: Tree, calls: Vec<(Progress, u64)> },
 }
 
 impl Item {
@@ -34,6 +37,8 @@ impl Item {
             Item::Bakes { bake, calls } => records::bakes(bake, calls),
             Item::SolidBakes { bake, calls } => records::solid_bakes(bake, calls),
             Item::Fired(bake) => records::fired(bake),
+            Item::TreeRays { lists, tree, hits, asked } => records::tree_rays(lists, tree, hits, asked),
+            Item::TreeBakes { bake, tree, calls } => records::tree_bakes(bake, tree, calls),
         }
     }
 
@@ -89,15 +94,16 @@ pub fn bad(module: &str, seed: u64, few: bool, several: usize) -> Vec<Item> {
     out
 }
 
-/// What of a seed is streamed: all that is inside the limits, then what C-22 refuses of its scene.
+/// What of a seed is streamed: all that is inside the limits, then what C-22 and C-20 refuse of its scene.
 pub fn seeded(module: &str, seed: u64) -> Vec<Item> {
     let mut out = inside(module, seed);
     out.extend(solid_places::refused(module, seed));
+    out.extend(tree_places::refused(module, seed));
     out
 }
 
 /// What of a seed is inside the limits: its scene's records, then those of a grid of whole words or nearly so, of a bake's progress, of a wide grid, of
-/// panels and of solid walls.
+/// panels, of solid walls and of trees.
 pub fn inside(module: &str, seed: u64) -> Vec<Item> {
     let mut out = good(module, seed);
     out.extend(word_places::seeded(module, seed));
@@ -105,6 +111,7 @@ pub fn inside(module: &str, seed: u64) -> Vec<Item> {
     out.extend(wide_places::seeded(module, seed));
     out.extend(panel_places::seeded(module, seed));
     out.extend(solid_places::seeded(module, seed));
+    out.extend(tree_places::seeded(module, seed));
     out
 }
 
@@ -117,16 +124,19 @@ pub fn all_bad(module: &str, seed: u64, few: bool, several: usize) -> Vec<Item> 
     out.extend(panel_places::bad(module, seed));
     out.extend(solid_places::bad(module, seed));
     out.extend(solid_places::broken(module, seed, few, several));
+    out.extend(tree_places::bad(module, seed));
+    out.extend(tree_places::broken(module, seed, few, several));
     out
 }
 
 pub fn module_of(call: &Call) -> &'static str {
     match call {
         Call::Triangle { .. } | Call::Nearest { .. } | Call::Transmittance { .. } | Call::SolidTransmittance { .. } => "rays",
+        Call::TreeNearest { .. } | Call::TreeTransmittance { .. } | Call::BuildTree { .. } => "rays",
         Call::Masks { .. } => "masks",
         Call::LightBlur { .. } | Call::CoefficientBlur { .. } => "blurs",
-        Call::Sun { .. } | Call::SolidSun { .. } => "sun",
-        Call::Bake(_) | Call::SolidBake(_) => "bake",
+        Call::Sun { .. } | Call::SolidSun { .. } | Call::TreeSun { .. } => "sun",
+        Call::Bake(_) | Call::SolidBake(_) | Call::TreeBake(..) => "bake",
         Call::LightLookup { .. } | Call::CoefficientLookup { .. } | Call::Part { .. } => "lookup",
     }
 }

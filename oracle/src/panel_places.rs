@@ -427,7 +427,7 @@ fn palette() -> Lists {
 }
 
 /// Rooms with panels, and lamps on both sides of them.
-fn rooms() -> Vec<Bake> {
+pub fn rooms() -> Vec<Bake> {
     let mut out = Vec::new();
     let mut room = |wide: bool, lamps: &[[f32; 3]], put: &dyn Fn(&mut Lists)| {
         let mut lists = palette();

@@ -32,7 +32,7 @@ pub fn chosen(bake: &Bake, next: u64) -> Progress {
 
 /// Gives a bake's record rays that fit its next voxel.
 pub fn choose(call: &mut Call) {
-    if let Call::Bake(bake) | Call::SolidBake(bake) = call {
+    if let Call::Bake(bake) | Call::SolidBake(bake) | Call::TreeBake(bake, _) = call {
         bake.progress = chosen(bake, bake.progress.next);
     }
 }

@@ -9,8 +9,8 @@
 //! (not for a triangle, which has none), one for each word or group of words held to the answer, one for each list, and one where hit scratch
 //! must stand as it was. A record that `through_both` lets pass is put through C-22's call as well, and each of its answers is held once more,
 //! of the rays that a bake fires their count, but not that the lists fit, and no hit scratch. The records of the solid calls are laid out as the others, with no hit scratch in them.
-use crate::answers::{self, as_handed_in, bake_answer, bake_call, baked, solid_answer, solid_baked};
-use crate::calls::{bits, bytes, halves, Answer, Bake, Call, Grid, Lists, Progress, Ray, RayCall, Scratch};
+use crate::answers::{self, as_handed_in, bake_answer, bake_call, baked, solid_answer, solid_baked, tree_baked};
+use crate::calls::{bits, bytes, halves, Answer, Bake, Call, Grid, Lists, Progress, Ray, RayCall, Scratch, Tree};
 use crate::table::{self, AXIS};
 
 /// A record, led by its length; the comparisons that its program makes of it; the refusals among its answers, 0 for none; and whether calls of it
@@ -117,6 +117,12 @@ impl Writer {
         self.list(&halves(&h.places));
     }
 
+    fn tree(&mut self, t: &Tree) {
+        self.list(&bits(&t.boxes));
+        self.list(&t.nodes);
+        self.list(&t.order);
+    }
+
     fn axes(&mut self, axes: [u64; 3]) {
         self.wide_grid = axes.iter().all(|a| (1..=AXIS).contains(a)) && axes.iter().any(|a| *a > AXIS_BEFORE);
         for a in axes {
@@ -171,6 +177,10 @@ pub const PART: u32 = 10;
 pub const FIRED: u32 = 11;
 pub const SOLID_SUN: u32 = 12;
 pub const SOLID_BAKE: u32 = 13;
+pub const TREE_RAYS: u32 = 14;
+pub const TREE_SUN: u32 = 15;
+pub const TREE_BAKE: u32 = 16;
+pub const BUILD_TREE: u32 = 17;
 
 /// A record of one call and the oracle's answer.
 pub fn record(call: &Call) -> Record {
@@ -182,6 +192,10 @@ pub fn record(call: &Call) -> Record {
         Call::CoefficientLookup { grid, volume, position } => coefficient_lookups(grid, volume, &[*position]),
         Call::Bake(bake) => bakes(bake, &[(bake.progress, bake.allowance)]),
         Call::SolidBake(bake) => solid_bakes(bake, &[(bake.progress, bake.allowance)]),
+        Call::TreeNearest { lists, tree, ray } => tree_rays(lists, tree, &Scratch::default(), &[(RayCall::Nearest, *ray)]),
+        Call::TreeTransmittance { lists, tree, ray, hits } => tree_rays(lists, tree, hits, &[(RayCall::Transmittance, *ray)]),
+        Call::TreeBake(bake, tree) => tree_bakes(bake, tree, &[(bake.progress, bake.allowance)]),
+        Call::BuildTree { points, tree } => build_tree(points, tree),
         _ => plain(call),
     }
 }
@@ -237,6 +251,18 @@ fn plain(call: &Call) -> Record {
             w.hits(&Scratch::default());
             w.word(0);
         }
+        Call::TreeSun { grid, lists, tree, direction, active, light, scratch, hits } => {
+            w.word(TREE_SUN);
+            w.grid(grid);
+            w.floats(direction);
+            w.lists(lists);
+            w.list(&bytes(active));
+            w.list(&bits(light));
+            w.list(&bits(scratch));
+            w.hits(hits);
+            w.tree(tree);
+            w.word((answer.lists.len() > 2) as u32);
+        }
         Call::Part { axes, volume, scratch, index, choice } => {
             w.word(PART);
             w.axes(*axes);
@@ -259,6 +285,7 @@ fn plain(call: &Call) -> Record {
         // refusal, rays, light and scratch once more by the other engine
         Call::Sun { .. } => 5 + (answer.lists.len() > 2) as u64 + 4 * w.both as u64,
         Call::SolidSun { .. } => 5,
+        Call::TreeSun { .. } => 5 + (answer.lists.len() > 2) as u64,
         Call::Part { .. } => 3,
         _ => 4,
     };
@@ -294,6 +321,44 @@ pub fn rays(lists: &Lists, hits: &Scratch, asked: &[(RayCall, Ray)]) -> Record {
         w.held(1 + (through && words[0] != 0) as u64 + both as u64, words[0]);
         w.words.extend(words);
     }
+    w.record()
+}
+
+/// The same through C-20's tree, whose three lists stand behind hit scratch; a ray is the nearest hit or the transmittance.
+pub fn tree_rays(lists: &Lists, tree: &Tree, hits: &Scratch, asked: &[(RayCall, Ray)]) -> Record {
+    let mut w = Writer::default();
+    w.word(TREE_RAYS);
+    w.lists(lists);
+    w.hits(hits);
+    w.tree(tree);
+    w.word(asked.len() as u32);
+    w.comparisons = 1;
+    for (which, ray) in asked {
+        w.word(*which as u32);
+        w.ray(ray);
+        let (lists, tree, ray) = (lists.clone(), tree.clone(), *ray);
+        let call = match which {
+            RayCall::Nearest => Call::TreeNearest { lists, tree, ray },
+            RayCall::Transmittance => Call::TreeTransmittance { lists, tree, ray, hits: hits.clone() },
+            RayCall::SolidTransmittance => unreachable!("no solid call takes a tree"),
+        };
+        let mut words = answers::answer(&call).words;
+        words.resize(7, 0);
+        w.held(1 + (*which == RayCall::Transmittance && words[0] != 0) as u64, words[0]);
+        w.words.extend(words);
+    }
+    w.record()
+}
+
+/// C-20's builder: points, the three lists as they are lent, then refusal, boxes and places, and the three lists afterwards.
+pub fn build_tree(points: &[f32], tree: &Tree) -> Record {
+    let mut w = Writer::default();
+    w.word(BUILD_TREE);
+    w.list(&bits(points));
+    w.tree(tree);
+    let answer = answers::answer(&Call::BuildTree { points: points.to_vec(), tree: tree.clone() });
+    w.held(7, answer.words[0]);
+    w.answer(&answer);
     w.record()
 }
 
@@ -347,22 +412,47 @@ fn bake_arguments(w: &mut Writer, b: &Bake) {
 /// two of them: next voxel, rays so far and allowance handed in, whether hit scratch is held, the refusal, next voxel and rays so far answered,
 /// and the rays of this call; then volume and scratch.
 pub fn bakes(bake: &Bake, calls: &[(Progress, u64)]) -> Record {
-    calls_of(bake, calls, false)
+    calls_of(bake, calls, &Engine::Lent)
 }
 
 /// The same by C-22's engine. No hit scratch is lent.
 pub fn solid_bakes(bake: &Bake, calls: &[(Progress, u64)]) -> Record {
-    calls_of(&bake.without_hits(), calls, true)
+    calls_of(&bake.without_hits(), calls, &Engine::Solid)
 }
 
-fn calls_of(bake: &Bake, calls: &[(Progress, u64)], solid: bool) -> Record {
+/// The same through C-20's tree, whose three lists stand behind hit scratch.
+pub fn tree_bakes(bake: &Bake, tree: &Tree, calls: &[(Progress, u64)]) -> Record {
+    calls_of(bake, calls, &Engine::Tree(tree))
+}
+
+/// By which call a bake is made.
+#[derive(PartialEq)]
+enum Engine<'a> {
+    Lent,
+    Solid,
+    Tree(&'a Tree),
+}
+
+fn calls_of(bake: &Bake, calls: &[(Progress, u64)], engine: &Engine) -> Record {
+    let solid = *engine == Engine::Solid;
     let mut w = Writer::default();
-    w.word(if solid { SOLID_BAKE } else { BAKE });
+    w.word(match engine {
+        Engine::Lent => BAKE,
+        Engine::Solid => SOLID_BAKE,
+        Engine::Tree(_) => TREE_BAKE,
+    });
     bake_arguments(&mut w, bake);
+    if let Engine::Tree(tree) = engine {
+        w.tree(tree);
+    }
     w.word(calls.len() as u32);
     w.comparisons = 1;
-    w.both = !solid && !calls.is_empty() && through_both(&bake.lists, &bake.hits);
-    let figured = if solid || w.both { solid_baked } else { baked };
+    w.both = *engine == Engine::Lent && !calls.is_empty() && through_both(&bake.lists, &bake.hits);
+    let figured = |bake: &Bake, both: bool| match engine {
+        Engine::Tree(tree) => tree_baked(bake, tree),
+        _ if solid || both => solid_baked(bake, Some(&bake.active)),
+        _ => baked(bake, Some(&bake.active)),
+    };
     let mut now = bake.clone();
     let mut figures = None;
     for (progress, allowance) in calls {
@@ -370,10 +460,14 @@ fn calls_of(bake: &Bake, calls: &[(Progress, u64)], solid: bool) -> Record {
         now.allowance = *allowance;
         let call = Call::Bake(Box::new(now.clone()));
         let by_solid = call.solid().map(|solid| table::refusal(&solid));
-        let refusal = if solid { by_solid.expect("a bake") } else { table::refusal(&call) };
+        let refusal = match engine {
+            Engine::Lent => table::refusal(&call),
+            Engine::Solid => by_solid.expect("a bake"),
+            Engine::Tree(tree) => table::refusal(&Call::TreeBake(Box::new(now.clone()), (*tree).clone())),
+        };
         assert!(!w.both || by_solid == Some(refusal), "both engines give one answer");
         let (answered, rays) = if refusal == 0 {
-            let figures = figures.get_or_insert_with(|| figured(bake, Some(&bake.active)));
+            let figures = figures.get_or_insert_with(|| figured(bake, w.both));
             bake_call(&mut now, figures)
         } else {
             as_handed_in(&now)

@@ -1,7 +1,8 @@
 //! From a record that the port answers otherwise to the smallest one that still shows it.
-use crate::calls::{Bake, Call, Lists, Scratch};
+use crate::calls::{Bake, Call, Lists, Scratch, Tree};
 use crate::items::{self, Item};
 use crate::progress_places::fitted;
+use crate::trees;
 use std::io::Write;
 use std::process::{Command, Stdio};
 
@@ -72,6 +73,11 @@ fn fewer_triangles(l: &Lists, h: Option<&Scratch>) -> Vec<(Lists, Option<Scratch
     out
 }
 
+/// The tree of what is left of a scene: the same while no triangle is gone, then the builder's.
+fn tree_of(before: &Lists, tree: &Tree, left: &Lists) -> Tree {
+    if left.uses.len() == before.uses.len() { tree.clone() } else { trees::built(&left.points) }
+}
+
 /// Records that hold a little less.
 fn smaller(item: &Item) -> Vec<Item> {
     let mut out = Vec::new();
@@ -121,6 +127,30 @@ fn smaller(item: &Item) -> Vec<Item> {
                 if let Item::Bakes { bake, calls } = less {
                     out.push(Item::SolidBakes { bake, calls });
                 }
+            }
+        }
+        Item::TreeRays { lists, tree, hits, asked } => {
+            for less in smaller(&Item::Rays { lists: lists.clone(), hits: hits.clone(), asked: asked.clone() }) {
+                if let Item::Rays { lists: left, hits, asked } = less {
+                    out.push(Item::TreeRays { tree: tree_of(lists, tree, &left), lists: left, hits, asked });
+                }
+            }
+        }
+        Item::TreeBakes { bake, tree, calls } => {
+            for less in smaller(&Item::Bakes { bake: bake.clone(), calls: calls.clone() }) {
+                if let Item::Bakes { bake: left, calls } = less {
+                    out.push(Item::TreeBakes { tree: tree_of(&bake.lists, tree, &left.lists), bake: left, calls });
+                }
+            }
+        }
+        Item::One(Call::TreeSun { lists, .. }) => {
+            for (l, _) in fewer_triangles(lists, None) {
+                let mut call = item.clone();
+                if let Item::One(Call::TreeSun { lists, tree, .. }) = &mut call {
+                    *tree = trees::built(&l.points);
+                    *lists = l;
+                }
+                out.push(call);
             }
         }
         Item::Fired(bake) => {

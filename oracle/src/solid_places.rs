@@ -259,7 +259,7 @@ const BESIDE: [f32; 3] = [0.5, -3.0, 0.25];
 const ABOVE: [f32; 3] = [-0.5, 0.75, 5.0];
 
 /// Halls of solid walls: closed and open ones, one within another, with lamps before the walls and behind them.
-fn halls() -> Vec<Bake> {
+pub fn halls() -> Vec<Bake> {
     let mut out = Vec::new();
     let one = || vec![1];
     let floor = |material: u32| move |lists: &mut Lists| level(lists, -2.0, false, material);

@@ -1,7 +1,7 @@
-//! Document 01's table of refusals with what document 02's C-12, C-16, C-18, C-19, C-21 and C-22 make of it, and the order in which each call tests them,
+//! Document 01's table of refusals with what document 02's C-12, C-16, C-18, C-19, C-20, C-21 and C-22 make of it, and the order in which each call tests them,
 //! written from these and the open points alone: which numbers are accepted, and for each call the first number whose condition holds, 0 if none.
-use crate::calls::{Bake, Call, Grid, Lists, Progress, Ray, Scratch};
-use crate::words;
+use crate::calls::{Bake, Call, Grid, Lists, Progress, Ray, Scratch, Tree};
+use crate::{trees, words};
 
 /// "Axes rise to 1..128."
 pub const AXIS: u64 = 128;
@@ -80,7 +80,7 @@ pub fn refusal(call: &Call) -> u32 {
             (7, &|| bad_direction(*direction)),
             (13, &|| bad_mask(active, grid)),
         ]),
-        Call::Bake(bake) => bake_refusal(bake, false),
+        Call::Bake(bake) => bake_refusal(bake, false, None),
         Call::LightLookup { grid, light, position } => first(&[
             (1, &|| bad_axes(grid.axes)),
             (2, &|| bad_corners(grid)),
@@ -118,12 +118,57 @@ pub fn refusal(call: &Call) -> u32 {
             (7, &|| bad_direction(*direction)),
             (13, &|| bad_mask(active, grid)),
         ]),
-        Call::SolidBake(bake) => bake_refusal(bake, true),
+        Call::SolidBake(bake) => bake_refusal(bake, true, None),
+        // C-20's calls: the rows of the call without a tree, and 16 "after 7 and 19"
+        Call::TreeNearest { lists, tree, ray } => first(&[
+            (3, &|| misfit(lists)),
+            (4, &|| too_many(lists)),
+            (5, &|| bad_points(&lists.points)),
+            (6, &|| bad_materials(lists)),
+            (16, &|| bad_tree(lists, tree)),
+            (8, &|| bad_ray(ray)),
+        ]),
+        Call::TreeTransmittance { lists, tree, ray, hits } => first(&[
+            (3, &|| misfit(lists) || too_short(hits, lists)),
+            (4, &|| too_many(lists)),
+            (5, &|| bad_points(&lists.points)),
+            (6, &|| bad_materials(lists)),
+            (16, &|| bad_tree(lists, tree)),
+            (8, &|| bad_ray(ray)),
+        ]),
+        Call::TreeSun { grid, lists, tree, direction, active, light, scratch, hits } => first(&[
+            (1, &|| bad_axes(grid.axes)),
+            (2, &|| bad_corners(grid)),
+            (3, &|| {
+                let n = count(grid.axes);
+                misfit(lists) || misfit_mask(active, grid) || [light, scratch].iter().any(|list| list.len() != n) || too_short(hits, lists)
+            }),
+            (4, &|| too_many(lists)),
+            (5, &|| bad_points(&lists.points)),
+            (6, &|| bad_materials(lists)),
+            (7, &|| bad_direction(*direction)),
+            (16, &|| bad_tree(lists, tree)),
+            (13, &|| bad_mask(active, grid)),
+        ]),
+        Call::TreeBake(bake, tree) => bake_refusal(bake, false, Some(tree)),
+        Call::BuildTree { points, tree } => first(&[
+            (3, &|| {
+                let triangles = points.len() / 9;
+                points.len() % 9 != 0 || tree.boxes.len() < 6 * triangles || tree.nodes.len() < 3 * triangles || tree.order.len() < triangles
+            }),
+            (4, &|| points.len() / 9 > TRIANGLES),
+            (5, &|| bad_points(points)),
+        ]),
     }
 }
 
-/// The rows of a bake, by C-22's engine where `solid`.
-fn bake_refusal(bake: &Bake, solid: bool) -> u32 {
+/// "16, tree not accepted".
+fn bad_tree(lists: &Lists, tree: &Tree) -> bool {
+    !trees::accepted(&lists.points, tree)
+}
+
+/// The rows of a bake, by C-22's engine where `solid`, through C-20's tree where there is one.
+fn bake_refusal(bake: &Bake, solid: bool, tree: Option<&Tree>) -> u32 {
     let grid = &bake.grid;
     let lists = &bake.lists;
     let s = bake.sunlight;
@@ -151,6 +196,7 @@ fn bake_refusal(bake: &Bake, solid: bool) -> u32 {
                 || beyond(&bake.sky, COLOUR)
         }),
         (19, &|| bad_lamps(&bake.lamps)),
+        (16, &|| tree.is_some_and(|tree| bad_tree(lists, tree))),
         (9, &|| bad_progress(bake)),
         (10, &|| bake.allowance < cost(&bake.lamps)),
         (13, &|| {

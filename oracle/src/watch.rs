@@ -143,6 +143,44 @@ branches! {
     SolidNearestFirst true "solid: of several walls the nearest stands first in the list";
     SolidNearestLast true "solid: of several walls the nearest stands last in the list";
     SolidTied true "solid: another wall at the distance of the first in the list";
+    TreeNodesMisfit true "tree: nodes whose number is no multiple of 3";
+    TreeBoxesMisfit true "tree: boxes that are not six numbers a node";
+    TreeOrderLong true "tree: an order longer than the triangles are many";
+    TreeEmpty true "tree: empty, and a triangle is present";
+    TreeHalfPast true "tree: a half past the list";
+    TreeHalfBefore true "tree: a half that does not follow its box";
+    TreeRunPast true "tree: a leaf's run past the order's end";
+    TreeNoParent true "tree: a box that no box has as a half";
+    TreeTwoParents true "tree: a box that is a half twice";
+    TreeDeep true "tree: a box deeper than 24";
+    TreeHalfOutside true "tree: a half that does not lie in its box";
+    TreePlacePast true "tree: a leaf with a place past the triangles";
+    TreeAbsentListed true "tree: a leaf with an absent triangle";
+    TreeTriangleOutside true "tree: a triangle that does not lie in its leaf";
+    TreeMissing true "tree: a present triangle in no leaf";
+    TreeTwice true "tree: a triangle that stands twice";
+    TreeBare true "tree: the empty one, accepted";
+    TreeDeepest true "tree: accepted with a box 24 deep";
+    TreeTouching true "tree: accepted with a face of a box on that of the one above";
+    TreeUnbounded true "tree: accepted with a bound that is not finite";
+    TreeLoose true "tree: accepted with a leaf of more than four";
+    TreeBuilt true "builder: an inner box";
+    TreeBuiltLeaf true "builder: a leaf";
+    TreeBuiltByX true "builder: halved along x";
+    TreeBuiltByY true "builder: halved along y";
+    TreeBuiltByZ true "builder: halved along z";
+    TreeBuiltOfEquals true "builder: a first of the right half whose key is the last of the left half's";
+    TreeInnerPassed true "tree: an inner box passed over";
+    TreeLeafPassed true "tree: a leaf passed over";
+    TreeTrianglePassed true "tree: a triangle's own box passed over in a leaf that is not";
+    TreeTaken true "tree: a triangle that is tested";
+    TreeAboveFlat true "tree: passed over for an origin above and a direction of 0";
+    TreeBelowFlat true "tree: passed over for an origin below and a direction of 0";
+    TreeAboveAway true "tree: passed over for an origin above and a direction above 0";
+    TreeBelowAway true "tree: passed over for an origin below and a direction below 0";
+    TreeOnFace true "tree: an origin on a face of a triangle's own box, with a direction away from it or along it";
+    TreeHit true "tree: a ray that meets a triangle";
+    TreePassedHit true "tree: a triangle that the full scan would meet, passed over";
 }
 
 #[inline(always)]

@@ -111,6 +111,11 @@ pub fn fits(s: &[u8], at: usize, most: usize) -> bool {
     small(s, at) <= most
 }
 
+// Whether the three lists of a tree are, boxes, nodes and order, the first of which stands at `at`.
+pub fn tree_fits(s: &[u8], at: usize) -> bool {
+    fits(s, at, 24600) & fits(s, nth(s, at, 1), 12300) & fits(s, nth(s, at, 2), 4100)
+}
+
 // The place after the list at `at`.
 pub fn past(s: &[u8], at: usize) -> usize {
     let k = small(s, further(at, 1));
@@ -227,19 +232,47 @@ fn mask_bit(s: &[u8], at: usize, k: usize, j: usize) -> u64
     0
 }
 
-// Fills a scene's four lists, which stand one after another from `from` on.
-pub fn scene(
-    s: &[u8],
-    from: usize,
-    points: &mut [f32],
-    uses: &mut [u32],
-    kinds: &mut [u8],
-    numbers: &mut [f32],
-) {
-    floats(s, from, points);
-    words(s, nth(s, from, 1), uses);
-    bytes(s, nth(s, from, 2), kinds);
-    floats(s, nth(s, from, 3), numbers);
+// ---- lists that stand one behind another in one list, which is lent in their place
+
+// Where the list at `at` ends that begins at `from`.
+pub fn end(s: &[u8], from: usize, at: usize) -> usize {
+    further(from, small(s, at))
+}
+
+// A part of a list, empty where there is none.
+pub fn float_part(l: &[f32], from: usize, to: usize) -> &[f32] {
+    if to <= l.len() {
+        if from <= to {
+            return &l[from..to];
+        }
+    }
+    &l[..0]
+}
+
+pub fn word_part(l: &[u32], from: usize, to: usize) -> &[u32] {
+    if to <= l.len() {
+        if from <= to {
+            return &l[from..to];
+        }
+    }
+    &l[..0]
+}
+
+// Fills a part with the list at `at`.
+pub fn floats_into(s: &[u8], at: usize, l: &mut [f32], from: usize, to: usize) {
+    if to <= l.len() {
+        if from <= to {
+            floats(s, at, &mut l[from..to]);
+        }
+    }
+}
+
+pub fn words_into(s: &[u8], at: usize, l: &mut [u32], from: usize, to: usize) {
+    if to <= l.len() {
+        if from <= to {
+            words(s, at, &mut l[from..to]);
+        }
+    }
 }
 
 // Fills the two lists of hit scratch, the first of which stands at `at`.
@@ -275,6 +308,20 @@ pub fn same_floats(s: &[u8], at: usize, list: &[f32]) -> bool {
     let mut i: usize = 0;
     while i < list.len() {
         if bits(list[i]) != entry(s, at, i) {
+            return false;
+        }
+        i += 1;
+    }
+    true
+}
+
+pub fn same_words(s: &[u8], at: usize, list: &[u32]) -> bool {
+    if small(s, at) != list.len() {
+        return false;
+    }
+    let mut i: usize = 0;
+    while i < list.len() {
+        if list[i] != entry(s, at, i) {
             return false;
         }
         i += 1;
@@ -396,20 +443,25 @@ pub fn room_for_points() -> [f32; 36900] {
     [0.0f32; 36900]
 }
 
-pub fn room_for_uses() -> [u32; 4100] {
+pub fn room_for_boxes() -> [f32; 24600] {
+    [0.0f32; 24600]
+}
+
+pub fn room_for_nodes() -> [u32; 12300] {
+    [0u32; 12300]
+}
+
+pub fn room_for_order() -> [u32; 4100] {
     [0u32; 4100]
+}
+
+// Uses, nodes and order in one.
+pub fn room_for_words() -> [u32; 20500] {
+    [0u32; 20500]
 }
 
 pub fn room_for_kinds() -> [u8; 260] {
     [0u8; 260]
-}
-
-pub fn room_for_numbers() -> [f32; 1820] {
-    [0.0f32; 1820]
-}
-
-pub fn room_for_sky() -> [f32; 1740] {
-    [0.0f32; 1740]
 }
 
 pub fn room_for_distances() -> [f32; 4100] {

@@ -1,22 +1,38 @@
-// Replays the oracle's recorded answers for the bake, by both engines. A record of calls, whole and interrupted: at each call the refusal, the next voxel, the rays so far,
+// Replays the oracle's recorded answers for the bake, by both engines and through a tree. A record of calls, whole and interrupted: at each call the refusal, the next voxel, the rays so far,
 // the call's rays, the volume and its scratch bit by bit, and the hit scratch where no ray is traced. A record of rays: each ray that the bake of a small scene fires, and their
 // number, which is also the one that the bake reports.
 use bake::BakeAnswer;
 use replay::Tally;
 use spread::Progress;
 
-// Where the lists begin: points, uses, kinds, numbers, sky, lamps, active, light, volume, scratch, distances, places.
+// Where the lists begin: points, uses, kinds, numbers, sky, lamps, active, light, volume, scratch, distances, places, and of a tree boxes,
+// nodes, order.
 const FROM: usize = 31;
 
 // Where a call's lists begin: volume, scratch.
 const LISTS: usize = 14;
 
-// The three kinds of record: calls with hit scratch, calls for solid walls, and rays.
+// The four kinds of record: calls with hit scratch, calls for solid walls, calls through a tree, and rays.
 const CALLS: u32 = 7;
 
 const SOLID: u32 = 13;
 
+const TREE: u32 = 16;
+
 const RAYS: u32 = 11;
+
+// Whether the record is one through a tree.
+fn through_tree(s: &[u8]) -> bool {
+    replay::word(s, 0) == TREE
+}
+
+// Where the calls or the rays stand, behind the last list.
+fn after(s: &[u8]) -> usize {
+    if through_tree(s) {
+        return replay::nth(s, FROM, 15);
+    }
+    replay::nth(s, FROM, 12)
+}
 
 // The next voxel and the rays so far.
 fn progress(s: &[u8], at: usize) -> Progress {
@@ -57,57 +73,56 @@ fn lists_held(
     )
 }
 
-// Where each list of numbers that no call writes ends in the one that holds them: points, numbers, sky, lamps, lights.
+// Where each list that no call writes ends in the one that holds it: points, numbers, sky, lamps, lights, boxes; uses, nodes, order.
 struct Cuts {
     points: usize,
     numbers: usize,
     sky: usize,
     lamps: usize,
     lights: usize,
+    boxes: usize,
+    uses: usize,
+    nodes: usize,
+    order: usize,
 }
 
 fn cut(s: &[u8]) -> Cuts {
     let points = replay::small(s, FROM);
-    let numbers = replay::further(points, replay::small(s, replay::nth(s, FROM, 3)));
-    let sky = replay::further(numbers, replay::small(s, replay::nth(s, FROM, 4)));
-    let lamps = replay::further(sky, replay::small(s, replay::nth(s, FROM, 5)));
-    let lights = replay::further(lamps, replay::small(s, replay::nth(s, FROM, 7)));
+    let numbers = replay::end(s, points, replay::nth(s, FROM, 3));
+    let sky = replay::end(s, numbers, replay::nth(s, FROM, 4));
+    let lamps = replay::end(s, sky, replay::nth(s, FROM, 5));
+    let lights = replay::end(s, lamps, replay::nth(s, FROM, 7));
+    let uses = replay::small(s, replay::nth(s, FROM, 1));
+    let nodes = tree_end(s, uses, 13);
     Cuts {
         points,
         numbers,
         sky,
         lamps,
         lights,
+        boxes: tree_end(s, lights, 12),
+        uses,
+        nodes,
+        order: tree_end(s, nodes, 14),
     }
 }
 
-// A part of a list, empty where there is none.
-fn part(l: &[f32], from: usize, to: usize) -> &[f32] {
-    if to <= l.len() {
-        if from <= to {
-            return &l[from..to];
-        }
+// Where list `k`, one of a tree, ends that begins at `from`; without a tree it is empty.
+fn tree_end(s: &[u8], from: usize, k: usize) -> usize {
+    if through_tree(s) {
+        return replay::end(s, from, replay::nth(s, FROM, k));
     }
-    &l[..0]
+    from
 }
 
-// Reads a record's list into a part.
-fn read(s: &[u8], at: usize, l: &mut [f32], from: usize, to: usize) {
-    if to <= l.len() {
-        if from <= to {
-            replay::floats(s, at, &mut l[from..to]);
-        }
-    }
-}
-
-// A call with the record's lists, by the one engine or the other.
+// A call with the record's lists, by the one engine or the other, through its tree if it has one.
 fn answered(
     s: &[u8],
     solid: bool,
     begun: Progress,
     allowance: u64,
     floats: &[f32],
-    uses: &[u32],
+    words: &[u32],
     kinds: &[u8],
     active: &[u64],
     volume: &mut [f32],
@@ -120,11 +135,12 @@ fn answered(
     let sunlight = replay_values::light(s, 13);
     let sh = replay_values::ambient(s, 19);
     let at = cut(s);
-    let points = part(floats, 0, at.points);
-    let numbers = part(floats, at.points, at.numbers);
-    let sky = part(floats, at.numbers, at.sky);
-    let lamps = part(floats, at.sky, at.lamps);
-    let lights = part(floats, at.lamps, at.lights);
+    let points = replay::float_part(floats, 0, at.points);
+    let numbers = replay::float_part(floats, at.points, at.numbers);
+    let sky = replay::float_part(floats, at.numbers, at.sky);
+    let lamps = replay::float_part(floats, at.sky, at.lamps);
+    let lights = replay::float_part(floats, at.lamps, at.lights);
+    let uses = replay::word_part(words, 0, at.uses);
     if solid {
         return bake::solid_bake(
             axes,
@@ -141,6 +157,34 @@ fn answered(
             lights,
             volume,
             scratch,
+            begun,
+            allowance,
+        );
+    }
+    if through_tree(s) {
+        let boxes = replay::float_part(floats, at.lights, at.boxes);
+        let nodes = replay::word_part(words, at.uses, at.nodes);
+        let order = replay::word_part(words, at.nodes, at.order);
+        return bake::tree_bake(
+            axes,
+            corners,
+            points,
+            uses,
+            kinds,
+            numbers,
+            boxes,
+            nodes,
+            order,
+            sunlight,
+            sh,
+            sky,
+            lamps,
+            active,
+            lights,
+            volume,
+            scratch,
+            distances,
+            places,
             begun,
             allowance,
         );
@@ -173,7 +217,7 @@ fn one(
     solid: bool,
     at: usize,
     floats: &[f32],
-    uses: &[u32],
+    words: &[u32],
     kinds: &[u8],
     active: &[u64],
     volume: &mut [f32],
@@ -188,7 +232,7 @@ fn one(
         progress(s, at),
         allowance,
         floats,
-        uses,
+        words,
         kinds,
         active,
         volume,
@@ -207,7 +251,7 @@ fn fresh(
     solid: bool,
     at: usize,
     floats: &[f32],
-    uses: &[u32],
+    words: &[u32],
     kinds: &[u8],
     active: &[u64],
     volume: &mut [f32],
@@ -223,7 +267,7 @@ fn fresh(
         solid,
         at,
         floats,
-        uses,
+        words,
         kinds,
         active,
         volume,
@@ -239,7 +283,7 @@ fn calls(
     t: Tally,
     solid: bool,
     floats: &[f32],
-    uses: &[u32],
+    words: &[u32],
     kinds: &[u8],
     active: &[u64],
     volume: &mut [f32],
@@ -247,7 +291,7 @@ fn calls(
     distances: &mut [f32],
     places: &mut [usize],
 ) -> Tally {
-    let from = replay::nth(s, FROM, 12);
+    let from = after(s);
     let n = replay::small(s, from);
     let mut tally = t;
     let mut at = replay::further(from, 1);
@@ -259,7 +303,7 @@ fn calls(
             solid,
             at,
             floats,
-            uses,
+            words,
             kinds,
             active,
             volume,
@@ -279,7 +323,7 @@ fn listed(
     t: Tally,
     solid: bool,
     floats: &[f32],
-    uses: &[u32],
+    words: &[u32],
     kinds: &[u8],
     active: &[u64],
 ) -> Tally {
@@ -287,9 +331,10 @@ fn listed(
         return t;
     }
     let at = cut(s);
-    let points = part(floats, 0, at.points);
-    let numbers = part(floats, at.points, at.numbers);
-    let lamps = part(floats, at.sky, at.lamps);
+    let points = replay::float_part(floats, 0, at.points);
+    let numbers = replay::float_part(floats, at.points, at.numbers);
+    let lamps = replay::float_part(floats, at.sky, at.lamps);
+    let uses = replay::word_part(words, 0, at.uses);
     replay_fired::listed(s, t, points, uses, kinds, numbers, lamps, active)
 }
 
@@ -299,7 +344,7 @@ fn rays(
     t: Tally,
     solid: bool,
     floats: &[f32],
-    uses: &[u32],
+    words: &[u32],
     kinds: &[u8],
     active: &[u64],
     volume: &mut [f32],
@@ -307,14 +352,14 @@ fn rays(
     distances: &mut [f32],
     places: &mut [usize],
 ) -> Tally {
-    let u = listed(s, t, solid, floats, uses, kinds, active);
+    let u = listed(s, t, solid, floats, words, kinds, active);
     let r = answered(
         s,
         solid,
         Progress { next: 0, rays: 0 },
         u64::MAX,
         floats,
-        uses,
+        words,
         kinds,
         active,
         volume,
@@ -322,7 +367,7 @@ fn rays(
         distances,
         places,
     );
-    let n = replay::half(s, replay::nth(s, FROM, 12));
+    let n = replay::half(s, after(s));
     replay::held(u, (r.refusal == 0) & (r.rays == n) & (r.progress.rays == n))
 }
 
@@ -337,7 +382,7 @@ fn stocked(
     t: Tally,
     solid: bool,
     floats: &[f32],
-    uses: &[u32],
+    words: &[u32],
     kinds: &[u8],
     active: &[u64],
     volume: &mut [f32],
@@ -352,7 +397,7 @@ fn stocked(
             t,
             solid,
             floats,
-            uses,
+            words,
             kinds,
             active,
             volume,
@@ -366,7 +411,7 @@ fn stocked(
         t,
         solid,
         floats,
-        uses,
+        words,
         kinds,
         active,
         volume,
@@ -381,7 +426,7 @@ fn asked(
     s: &[u8],
     t: Tally,
     floats: &[f32],
-    uses: &[u32],
+    words: &[u32],
     kinds: &[u8],
     active: &[u64],
     volume: &mut [f32],
@@ -395,7 +440,7 @@ fn asked(
         t,
         kind == SOLID,
         floats,
-        uses,
+        words,
         kinds,
         active,
         volume,
@@ -403,13 +448,13 @@ fn asked(
         distances,
         places,
     );
-    if (kind != SOLID) & replay::through_both(kinds, uses.len(), distances.len(), places.len()) {
+    if both(s, kinds, distances.len(), places.len()) {
         return stocked(
             s,
             u,
             true,
             floats,
-            uses,
+            words,
             kinds,
             active,
             volume,
@@ -421,29 +466,52 @@ fn asked(
     u
 }
 
-// Reads the lists of numbers that no call writes.
-fn gather(s: &[u8], floats: &mut [f32]) {
+fn both(s: &[u8], kinds: &[u8], distances: usize, places: usize) -> bool {
+    let kind = replay::word(s, 0);
+    let t = replay::small(s, replay::nth(s, FROM, 1));
+    (kind != SOLID) & (kind != TREE) & replay::through_both(kinds, t, distances, places)
+}
+
+// Reads the lists that no call writes, but kinds and mask.
+fn gather(s: &[u8], floats: &mut [f32], words: &mut [u32]) {
+    gather_scene(s, floats);
+    gather_lighting(s, floats);
+    gather_words(s, words);
+}
+
+fn gather_scene(s: &[u8], floats: &mut [f32]) {
     let at = cut(s);
-    read(s, FROM, floats, 0, at.points);
-    read(s, replay::nth(s, FROM, 3), floats, at.points, at.numbers);
-    read(s, replay::nth(s, FROM, 4), floats, at.numbers, at.sky);
-    read(s, replay::nth(s, FROM, 5), floats, at.sky, at.lamps);
-    read(s, replay::nth(s, FROM, 7), floats, at.lamps, at.lights);
+    replay::floats_into(s, FROM, floats, 0, at.points);
+    replay::floats_into(s, replay::nth(s, FROM, 3), floats, at.points, at.numbers);
+    replay::floats_into(s, replay::nth(s, FROM, 12), floats, at.lights, at.boxes);
+}
+
+fn gather_lighting(s: &[u8], floats: &mut [f32]) {
+    let at = cut(s);
+    replay::floats_into(s, replay::nth(s, FROM, 4), floats, at.numbers, at.sky);
+    replay::floats_into(s, replay::nth(s, FROM, 5), floats, at.sky, at.lamps);
+    replay::floats_into(s, replay::nth(s, FROM, 7), floats, at.lamps, at.lights);
+}
+
+fn gather_words(s: &[u8], words: &mut [u32]) {
+    let at = cut(s);
+    replay::words_into(s, replay::nth(s, FROM, 1), words, 0, at.uses);
+    replay::words_into(s, replay::nth(s, FROM, 13), words, at.uses, at.nodes);
+    replay::words_into(s, replay::nth(s, FROM, 14), words, at.nodes, at.order);
 }
 
 fn filled(
     s: &[u8],
     t: Tally,
     floats: &mut [f32],
-    uses: &mut [u32],
+    words: &mut [u32],
     kinds: &mut [u8],
     active: &mut [u64],
 ) -> Tally {
-    gather(s, floats);
-    replay::words(s, replay::nth(s, FROM, 1), uses);
+    gather(s, floats, words);
     replay::bytes(s, replay::nth(s, FROM, 2), kinds);
     replay::mask(s, replay::nth(s, FROM, 6), active);
-    sized(s, t, floats, uses, kinds, active)
+    sized(s, t, floats, words, kinds, active)
 }
 
 fn fits(s: &[u8]) -> bool {
@@ -459,10 +527,18 @@ fn fits(s: &[u8]) -> bool {
         & volumes_fit(s, 526400)
         & replay::fits(s, replay::nth(s, FROM, 10), 4100)
         & replay::fits(s, replay::nth(s, FROM, 11), 8200)
+        & tree_fits(s)
 }
 
 fn known(kind: u32) -> bool {
-    (kind == CALLS) | (kind == SOLID) | (kind == RAYS)
+    (kind == CALLS) | (kind == SOLID) | (kind == TREE) | (kind == RAYS)
+}
+
+fn tree_fits(s: &[u8]) -> bool {
+    if through_tree(s) {
+        return replay::tree_fits(s, replay::nth(s, FROM, 12));
+    }
+    true
 }
 
 fn volumes_fit(s: &[u8], most: usize) -> bool {
@@ -470,14 +546,14 @@ fn volumes_fit(s: &[u8], most: usize) -> bool {
 }
 
 // Most volumes are small, and are given small arrays.
-fn sized(s: &[u8], t: Tally, floats: &[f32], uses: &[u32], kinds: &[u8], active: &[u64]) -> Tally {
+fn sized(s: &[u8], t: Tally, floats: &[f32], words: &[u32], kinds: &[u8], active: &[u64]) -> Tally {
     if volumes_fit(s, 8320) {
-        return narrow(s, t, floats, uses, kinds, active);
+        return narrow(s, t, floats, words, kinds, active);
     }
-    wide(s, t, floats, uses, kinds, active)
+    wide(s, t, floats, words, kinds, active)
 }
 
-fn wide(s: &[u8], t: Tally, floats: &[f32], uses: &[u32], kinds: &[u8], active: &[u64]) -> Tally {
+fn wide(s: &[u8], t: Tally, floats: &[f32], words: &[u32], kinds: &[u8], active: &[u64]) -> Tally {
     let mut volume = replay::room_for_wide_volume();
     let mut scratch = replay::room_for_wide_volume();
     let h = replay::fit(s, replay::nth(s, FROM, 8), 526400);
@@ -486,7 +562,7 @@ fn wide(s: &[u8], t: Tally, floats: &[f32], uses: &[u32], kinds: &[u8], active: 
         s,
         t,
         floats,
-        uses,
+        words,
         kinds,
         active,
         &mut volume[..h],
@@ -494,7 +570,14 @@ fn wide(s: &[u8], t: Tally, floats: &[f32], uses: &[u32], kinds: &[u8], active: 
     )
 }
 
-fn narrow(s: &[u8], t: Tally, floats: &[f32], uses: &[u32], kinds: &[u8], active: &[u64]) -> Tally {
+fn narrow(
+    s: &[u8],
+    t: Tally,
+    floats: &[f32],
+    words: &[u32],
+    kinds: &[u8],
+    active: &[u64],
+) -> Tally {
     let mut volume = replay::room_for_volume();
     let mut scratch = replay::room_for_volume();
     let h = replay::fit(s, replay::nth(s, FROM, 8), 8320);
@@ -503,7 +586,7 @@ fn narrow(s: &[u8], t: Tally, floats: &[f32], uses: &[u32], kinds: &[u8], active
         s,
         t,
         floats,
-        uses,
+        words,
         kinds,
         active,
         &mut volume[..h],
@@ -515,7 +598,7 @@ fn hit(
     s: &[u8],
     t: Tally,
     floats: &[f32],
-    uses: &[u32],
+    words: &[u32],
     kinds: &[u8],
     active: &[u64],
     volume: &mut [f32],
@@ -529,7 +612,7 @@ fn hit(
         s,
         t,
         floats,
-        uses,
+        words,
         kinds,
         active,
         volume,
@@ -539,25 +622,25 @@ fn hit(
     )
 }
 
-// Room for 36,900 numbers of points, 1,820 of materials, 1,740 of the sky, 80 of lamps, which is thirteen and more than any call accepts, and 82,000 lights.
-fn room_for_floats() -> [f32; 122540] {
-    [0.0f32; 122540]
+// Room for 36,900 numbers of points, 1,820 of materials, 1,740 of the sky, 80 of lamps, which is thirteen and more than any call accepts, 82,000 lights and
+// 24,600 of boxes.
+fn room_for_floats() -> [f32; 147140] {
+    [0.0f32; 147140]
 }
 
 fn record(s: &[u8], t: Tally) -> Tally {
     let mut floats = room_for_floats();
-    let mut uses = replay::room_for_uses();
+    let mut words = replay::room_for_words();
     let mut kinds = replay::room_for_kinds();
     let mut active = replay::room_for_mask();
     let u = replay::held(t, fits(s));
-    let b = replay::fit(s, replay::nth(s, FROM, 1), 4100);
     let c = replay::fit(s, replay::nth(s, FROM, 2), 260);
     let f = replay::mask_words(s, replay::nth(s, FROM, 6), 1285);
     filled(
         s,
         u,
         &mut floats,
-        &mut uses[..b],
+        &mut words,
         &mut kinds[..c],
         &mut active[..f],
     )

@@ -143,7 +143,8 @@ impl RayTracer {
         crate::watch::fired(0, origin, direction, t_min, t_max); // oracle+
         crate::panels::scan_begins(); // oracle+
         let ray = make_bvh_ray(origin, direction);
-        let candidates = self.bvh.traverse(&ray, &self.bvh_shapes);
+// oracle was:|        let candidates = self.bvh.traverse(&ray, &self.bvh_shapes);
+        let candidates = crate::trees::candidates(self.bvh.traverse(&ray, &self.bvh_shapes), |shape| &self.triangles[shape.index], origin, direction); // oracle!
 
         let mut best_t = t_max;
         let mut best_hit = None;
@@ -186,7 +187,8 @@ impl RayTracer {
         crate::watch::fired(1, origin, direction, t_min, t_max); // oracle+
         crate::panels::scan_begins(); // oracle+
         let ray = make_bvh_ray(origin, direction);
-        let candidates = self.bvh.traverse(&ray, &self.bvh_shapes);
+// oracle was:|        let candidates = self.bvh.traverse(&ray, &self.bvh_shapes);
+        let candidates = crate::trees::candidates(self.bvh.traverse(&ray, &self.bvh_shapes), |shape| &self.triangles[shape.index], origin, direction); // oracle!
 
         let mut hits = Vec::new();
         for shape in candidates {

@@ -7,15 +7,15 @@ use Rattle.replay_bake.proofs.calls.Statement.{statement}
 use Rattle.replay_bake.proofs.calls.Tie as tie
 
 abbrev Inv-loop : tie.InvT-loop
-Inv-loop s solid floats uses kinds active volume₀ scratch₀ distances₀ places₀ from n tally₀ at₀ i₀ volume scratch distances places tally at i =
+Inv-loop s solid floats words kinds active volume₀ scratch₀ distances₀ places₀ from n tally₀ at₀ i₀ volume scratch distances places tally at i =
     (i ≤ n) × (length volume ≡ length volume₀) × (length scratch ≡ length scratch₀) × (length distances ≡ length distances₀) × (length places ≡ length places₀)
 
 abbrev μ-loop : tie.MeasureT-loop
-μ-loop s solid floats uses kinds active volume₀ scratch₀ distances₀ places₀ from n tally₀ at₀ i₀ volume scratch distances places tally at i =
+μ-loop s solid floats words kinds active volume₀ scratch₀ distances₀ places₀ from n tally₀ at₀ i₀ volume scratch distances places tally at i =
     n - i
 
-nth-requires : tie.Need-nth-requires Inv-loop μ-loop
-nth-requires c κs = search needs
+after-requires : tie.Need-after-requires Inv-loop μ-loop
+after-requires c κs = search needs
 
 small-requires : tie.Need-small-requires Inv-loop μ-loop
 small-requires c κs = search needs
@@ -32,8 +32,8 @@ fresh-requires c κs = search needs
 further-requires-2 : tie.Need-further-requires-2 Inv-loop μ-loop
 further-requires-2 c κs = search needs
 
-nth-requires-2 : tie.Need-nth-requires-2 Inv-loop μ-loop
-nth-requires-2 c κs = search needs
+nth-requires : tie.Need-nth-requires Inv-loop μ-loop
+nth-requires c κs = search needs
 
 add-i : tie.Need-add-i Inv-loop μ-loop
 add-i c = search needs
@@ -65,13 +65,13 @@ calls-spec =
     (tie.spec
     Inv-loop
     μ-loop
-    nth-requires
+    after-requires
     small-requires
     further-requires
     loop-holds
     fresh-requires
     further-requires-2
-    nth-requires-2
+    nth-requires
     add-i
     loop-less
     loop-again

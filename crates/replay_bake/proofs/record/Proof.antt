@@ -9,8 +9,8 @@ use Rattle.replay_bake.proofs.record.Tie as tie
 room-for-floats-requires : tie.Need-room-for-floats-requires
 room-for-floats-requires c κs = search needs
 
-room-for-uses-requires : tie.Need-room-for-uses-requires
-room-for-uses-requires c κs = search needs
+room-for-words-requires : tie.Need-room-for-words-requires
+room-for-words-requires c κs = search needs
 
 room-for-kinds-requires : tie.Need-room-for-kinds-requires
 room-for-kinds-requires c κs = search needs
@@ -33,23 +33,14 @@ fit-requires c κs = search needs
 nth-requires-2 : tie.Need-nth-requires-2
 nth-requires-2 c κs = search needs
 
-fit-requires-2 : tie.Need-fit-requires-2
-fit-requires-2 c κs = search needs
-
-nth-requires-3 : tie.Need-nth-requires-3
-nth-requires-3 c κs = search needs
-
 mask-words-requires : tie.Need-mask-words-requires
 mask-words-requires c κs = search needs
 
 slice-aggregate-filled : tie.Need-slice-aggregate-filled
 slice-aggregate-filled c = search needs
 
-array-borrow-prefix-uses : tie.Need-array-borrow-prefix-uses
-array-borrow-prefix-uses c = search needs
-
 slice-aggregate-filled-2 : tie.Need-slice-aggregate-filled-2
-slice-aggregate-filled-2 c = sym (length-take-le _ _ (omega arith))
+slice-aggregate-filled-2 c = search needs
 
 array-borrow-prefix-kinds : tie.Need-array-borrow-prefix-kinds
 array-borrow-prefix-kinds c = search needs
@@ -74,7 +65,7 @@ record-spec =
     tie.close
     (tie.spec
     room-for-floats-requires
-    room-for-uses-requires
+    room-for-words-requires
     room-for-kinds-requires
     room-for-mask-requires
     fits-requires
@@ -82,11 +73,8 @@ record-spec =
     nth-requires
     fit-requires
     nth-requires-2
-    fit-requires-2
-    nth-requires-3
     mask-words-requires
     slice-aggregate-filled
-    array-borrow-prefix-uses
     slice-aggregate-filled-2
     array-borrow-prefix-kinds
     slice-aggregate-filled-3

@@ -6,11 +6,11 @@ use borrow.Author.Needs.{needs}
 use Rattle.replay_rays.proofs.scene.Statement.{statement}
 use Rattle.replay_rays.proofs.scene.Tie as tie
 
-room-for-points-requires : tie.Need-room-for-points-requires
-room-for-points-requires c κs = search needs
+room-for-floats-requires : tie.Need-room-for-floats-requires
+room-for-floats-requires c κs = search needs
 
-room-for-uses-requires : tie.Need-room-for-uses-requires
-room-for-uses-requires c κs = search needs
+room-for-words-requires : tie.Need-room-for-words-requires
+room-for-words-requires c κs = search needs
 
 room-for-kinds-requires : tie.Need-room-for-kinds-requires
 room-for-kinds-requires c κs = search needs
@@ -21,41 +21,26 @@ fits-requires c κs = search needs
 held-requires : tie.Need-held-requires
 held-requires c κs = search needs
 
-fit-requires : tie.Need-fit-requires
-fit-requires c κs = search needs
-
 nth-requires : tie.Need-nth-requires
 nth-requires c κs = search needs
 
-fit-requires-2 : tie.Need-fit-requires-2
-fit-requires-2 c κs = search needs
+fit-requires : tie.Need-fit-requires
+fit-requires c κs = search needs
 
-nth-requires-2 : tie.Need-nth-requires-2
-nth-requires-2 c κs = search needs
+slice-aggregate-many : tie.Need-slice-aggregate-many
+slice-aggregate-many c = search needs
 
-fit-requires-3 : tie.Need-fit-requires-3
-fit-requires-3 c κs = search needs
-
-array-borrow-prefix-points : tie.Need-array-borrow-prefix-points
-array-borrow-prefix-points c = search needs
-
-slice-aggregate-rest : tie.Need-slice-aggregate-rest
-slice-aggregate-rest c = sym (length-take-le _ _ (omega arith))
-
-array-borrow-prefix-uses : tie.Need-array-borrow-prefix-uses
-array-borrow-prefix-uses c = search needs
-
-slice-aggregate-rest-2 : tie.Need-slice-aggregate-rest-2
-slice-aggregate-rest-2 c = sym (length-take-le _ _ (omega arith))
+slice-aggregate-many-2 : tie.Need-slice-aggregate-many-2
+slice-aggregate-many-2 c = search needs
 
 array-borrow-prefix-kinds : tie.Need-array-borrow-prefix-kinds
 array-borrow-prefix-kinds c = search needs
 
-slice-aggregate-rest-3 : tie.Need-slice-aggregate-rest-3
-slice-aggregate-rest-3 c = sym (length-take-le _ _ (omega arith))
+slice-aggregate-many-3 : tie.Need-slice-aggregate-many-3
+slice-aggregate-many-3 c = sym (length-take-le _ _ (omega arith))
 
-rest-requires : tie.Need-rest-requires
-rest-requires c κs = search needs
+many-requires : tie.Need-many-requires
+many-requires c κs = search needs
 
 returns : tie.Need-returns
 returns c = search needs
@@ -64,21 +49,16 @@ pub scene-spec : {M : Type 1} → statement M
 scene-spec =
     tie.close
     (tie.spec
-    room-for-points-requires
-    room-for-uses-requires
+    room-for-floats-requires
+    room-for-words-requires
     room-for-kinds-requires
     fits-requires
     held-requires
-    fit-requires
     nth-requires
-    fit-requires-2
-    nth-requires-2
-    fit-requires-3
-    array-borrow-prefix-points
-    slice-aggregate-rest
-    array-borrow-prefix-uses
-    slice-aggregate-rest-2
+    fit-requires
+    slice-aggregate-many
+    slice-aggregate-many-2
     array-borrow-prefix-kinds
-    slice-aggregate-rest-3
-    rest-requires
+    slice-aggregate-many-3
+    many-requires
     returns)

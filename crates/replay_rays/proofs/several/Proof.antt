@@ -8,14 +8,14 @@ use Rattle.replay_rays.proofs.several.Statement.{statement}
 use Rattle.replay_rays.proofs.several.Tie as tie
 
 abbrev Inv-loop : tie.InvT-loop
-Inv-loop s points uses kinds numbers distances₀ places₀ from n tally₀ at₀ i₀ distances places tally at i =
+Inv-loop s floats words kinds distances₀ places₀ from n tally₀ at₀ i₀ distances places tally at i =
     (i ≤ n) × (length distances ≡ length distances₀) × (length places ≡ length places₀)
 
 abbrev μ-loop : tie.MeasureT-loop
-μ-loop s points uses kinds numbers distances₀ places₀ from n tally₀ at₀ i₀ distances places tally at i = n - i
+μ-loop s floats words kinds distances₀ places₀ from n tally₀ at₀ i₀ distances places tally at i = n - i
 
-nth-requires : tie.Need-nth-requires Inv-loop μ-loop
-nth-requires c κs = search needs
+asked-requires : tie.Need-asked-requires Inv-loop μ-loop
+asked-requires c κs = search needs
 
 small-requires : tie.Need-small-requires Inv-loop μ-loop
 small-requires c κs = search needs
@@ -56,7 +56,7 @@ several-spec =
     (tie.spec
     Inv-loop
     μ-loop
-    nth-requires
+    asked-requires
     small-requires
     further-requires
     loop-holds

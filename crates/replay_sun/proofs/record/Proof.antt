@@ -1,4 +1,4 @@
--- Each lent part is the front of an array, no longer than the array: `fit` says so.
+-- Each lent part is the front of an array, no longer than the array.
 use native.Mathlib.Omega.{arith}
 use mathlib.Core.Path.{sym}
 use lib.Seq.{length-take-le}
@@ -6,14 +6,17 @@ use borrow.Author.Needs.{needs}
 use Rattle.replay_sun.proofs.record.Statement.{statement}
 use Rattle.replay_sun.proofs.record.Tie as tie
 
-room-for-points-requires : tie.Need-room-for-points-requires
-room-for-points-requires c κs = search needs
+room-for-floats-requires : tie.Need-room-for-floats-requires
+room-for-floats-requires c κs = search needs
 
-room-for-uses-requires : tie.Need-room-for-uses-requires
-room-for-uses-requires c κs = search needs
+room-for-words-requires : tie.Need-room-for-words-requires
+room-for-words-requires c κs = search needs
 
 room-for-kinds-requires : tie.Need-room-for-kinds-requires
 room-for-kinds-requires c κs = search needs
+
+room-for-mask-requires : tie.Need-room-for-mask-requires
+room-for-mask-requires c κs = search needs
 
 fits-requires : tie.Need-fits-requires
 fits-requires c κs = search needs
@@ -21,41 +24,38 @@ fits-requires c κs = search needs
 held-requires : tie.Need-held-requires
 held-requires c κs = search needs
 
-fit-requires : tie.Need-fit-requires
-fit-requires c κs = search needs
-
 nth-requires : tie.Need-nth-requires
 nth-requires c κs = search needs
 
-fit-requires-2 : tie.Need-fit-requires-2
-fit-requires-2 c κs = search needs
+fit-requires : tie.Need-fit-requires
+fit-requires c κs = search needs
 
 nth-requires-2 : tie.Need-nth-requires-2
 nth-requires-2 c κs = search needs
 
-fit-requires-3 : tie.Need-fit-requires-3
-fit-requires-3 c κs = search needs
+mask-words-requires : tie.Need-mask-words-requires
+mask-words-requires c κs = search needs
 
-array-borrow-prefix-points : tie.Need-array-borrow-prefix-points
-array-borrow-prefix-points c = search needs
+slice-aggregate-sun : tie.Need-slice-aggregate-sun
+slice-aggregate-sun c = search needs
 
-slice-aggregate-middle : tie.Need-slice-aggregate-middle
-slice-aggregate-middle c = sym (length-take-le _ _ (omega arith))
-
-array-borrow-prefix-uses : tie.Need-array-borrow-prefix-uses
-array-borrow-prefix-uses c = search needs
-
-slice-aggregate-middle-2 : tie.Need-slice-aggregate-middle-2
-slice-aggregate-middle-2 c = sym (length-take-le _ _ (omega arith))
+slice-aggregate-sun-2 : tie.Need-slice-aggregate-sun-2
+slice-aggregate-sun-2 c = search needs
 
 array-borrow-prefix-kinds : tie.Need-array-borrow-prefix-kinds
 array-borrow-prefix-kinds c = search needs
 
-slice-aggregate-middle-3 : tie.Need-slice-aggregate-middle-3
-slice-aggregate-middle-3 c = sym (length-take-le _ _ (omega arith))
+slice-aggregate-sun-3 : tie.Need-slice-aggregate-sun-3
+slice-aggregate-sun-3 c = sym (length-take-le _ _ (omega arith))
 
-middle-requires : tie.Need-middle-requires
-middle-requires c κs = search needs
+array-borrow-prefix-active : tie.Need-array-borrow-prefix-active
+array-borrow-prefix-active c = search needs
+
+slice-aggregate-sun-4 : tie.Need-slice-aggregate-sun-4
+slice-aggregate-sun-4 c = sym (length-take-le _ _ (omega arith))
+
+sun-requires : tie.Need-sun-requires
+sun-requires c κs = search needs
 
 returns : tie.Need-returns
 returns c = search needs
@@ -64,21 +64,21 @@ pub record-spec : {M : Type 1} → statement M
 record-spec =
     tie.close
     (tie.spec
-    room-for-points-requires
-    room-for-uses-requires
+    room-for-floats-requires
+    room-for-words-requires
     room-for-kinds-requires
+    room-for-mask-requires
     fits-requires
     held-requires
-    fit-requires
     nth-requires
-    fit-requires-2
+    fit-requires
     nth-requires-2
-    fit-requires-3
-    array-borrow-prefix-points
-    slice-aggregate-middle
-    array-borrow-prefix-uses
-    slice-aggregate-middle-2
+    mask-words-requires
+    slice-aggregate-sun
+    slice-aggregate-sun-2
     array-borrow-prefix-kinds
-    slice-aggregate-middle-3
-    middle-requires
+    slice-aggregate-sun-3
+    array-borrow-prefix-active
+    slice-aggregate-sun-4
+    sun-requires
     returns)

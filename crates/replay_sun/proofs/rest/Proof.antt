@@ -9,11 +9,8 @@ use Rattle.replay_sun.proofs.rest.Tie as tie
 room-for-wide-light-requires : tie.Need-room-for-wide-light-requires
 room-for-wide-light-requires c κs = search needs
 
-room-for-distances-requires : tie.Need-room-for-distances-requires
-room-for-distances-requires c κs = search needs
-
-room-for-places-requires : tie.Need-room-for-places-requires
-room-for-places-requires c κs = search needs
+room-for-wide-light-requires-2 : tie.Need-room-for-wide-light-requires-2
+room-for-wide-light-requires-2 c κs = search needs
 
 nth-requires : tie.Need-nth-requires
 nth-requires c κs = search needs
@@ -27,50 +24,20 @@ nth-requires-2 c κs = search needs
 fit-requires-2 : tie.Need-fit-requires-2
 fit-requires-2 c κs = search needs
 
-nth-requires-3 : tie.Need-nth-requires-3
-nth-requires-3 c κs = search needs
+array-borrow-prefix-light : tie.Need-array-borrow-prefix-light
+array-borrow-prefix-light c = search needs
 
-pairs-requires : tie.Need-pairs-requires
-pairs-requires c κs = search needs
+slice-aggregate-hit : tie.Need-slice-aggregate-hit
+slice-aggregate-hit c = sym (length-take-le _ _ (omega arith))
 
 array-borrow-prefix-scratch : tie.Need-array-borrow-prefix-scratch
 array-borrow-prefix-scratch c = search needs
 
-slice-aggregate-sun : tie.Need-slice-aggregate-sun
-slice-aggregate-sun c = sym (length-take-le _ _ (omega arith))
+slice-aggregate-hit-2 : tie.Need-slice-aggregate-hit-2
+slice-aggregate-hit-2 c = sym (length-take-le _ _ (omega arith))
 
-array-borrow-prefix-distances : tie.Need-array-borrow-prefix-distances
-array-borrow-prefix-distances c = search needs
-
-slice-aggregate-sun-2 : tie.Need-slice-aggregate-sun-2
-slice-aggregate-sun-2 c = sym (length-take-le _ _ (omega arith))
-
-array-borrow-prefix-places : tie.Need-array-borrow-prefix-places
-array-borrow-prefix-places c = search needs
-
-slice-aggregate-sun-3 : tie.Need-slice-aggregate-sun-3
-slice-aggregate-sun-3 c = sym (length-take-le _ _ (omega arith))
-
-sun-requires : tie.Need-sun-requires
-sun-requires c κs = search needs
-
-same-length : tie.Need-same-length
-same-length c = search needs
-
-same-length-2 : tie.Need-same-length-2
-same-length-2 c = search needs
-
-same-length-3 : tie.Need-same-length-3
-same-length-3 c = search needs
-
-same-length-4 : tie.Need-same-length-4
-same-length-4 c = search needs
-
-same-length-5 : tie.Need-same-length-5
-same-length-5 c = search needs
-
-same-length-6 : tie.Need-same-length-6
-same-length-6 c = search needs
+hit-requires : tie.Need-hit-requires
+hit-requires c κs = search needs
 
 returns : tie.Need-returns
 returns c = search needs
@@ -80,25 +47,14 @@ rest-spec =
     tie.close
     (tie.spec
     room-for-wide-light-requires
-    room-for-distances-requires
-    room-for-places-requires
+    room-for-wide-light-requires-2
     nth-requires
     fit-requires
     nth-requires-2
     fit-requires-2
-    nth-requires-3
-    pairs-requires
+    array-borrow-prefix-light
+    slice-aggregate-hit
     array-borrow-prefix-scratch
-    slice-aggregate-sun
-    array-borrow-prefix-distances
-    slice-aggregate-sun-2
-    array-borrow-prefix-places
-    slice-aggregate-sun-3
-    sun-requires
-    same-length
-    same-length-2
-    same-length-3
-    same-length-4
-    same-length-5
-    same-length-6
+    slice-aggregate-hit-2
+    hit-requires
     returns)
