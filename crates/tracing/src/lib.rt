@@ -1,2 +1,2 @@
-// Both scans of a ray, with a box tree or without. Sun, surfaces and gather send their rays here, and nowhere else is asked whether a scene comes with a tree.
+// Both scans of a ray, with a box tree or without. Sun, surfaces and gather send their rays here: which scan a ray takes is asked nowhere else.
 pub mod inner; // inner.rt: the two scans
