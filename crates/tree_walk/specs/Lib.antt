@@ -6,10 +6,12 @@ pub mod SwapLaws
 pub mod BoxedLaws
 pub mod BoxedHitLaws
 pub mod FoldLaws
+pub mod Spans
 pub mod CountLaws
 pub mod UnderLaws
 pub mod WalkLaws
 pub mod Collect
 pub mod Kept
 pub mod CollectLaws
+pub mod ListedLaws
 pub mod BoxedFigures

@@ -63,7 +63,7 @@ module _ (nodes order : List ℕ) where
       enough m n a ∙ ap (λ (k : ℕ). placesUnder nodes order k i) (let e : m + n ≡ n + m = omega arith in e) ∙ sym (enough n m b)
 
 -- a list of places below n is as long as they stand in it together
-length-stands : (n : ℕ) (l : List ℕ) → ((p : ℕ) → n ≤ p → standsIn p l ≡ 0) → length l ≡ sumTo (λ p. standsIn p l) n
+pub length-stands : (n : ℕ) (l : List ℕ) → ((p : ℕ) → n ≤ p → standsIn p l ≡ 0) → length l ≡ sumTo (λ p. standsIn p l) n
 length-stands n [] h = sym (sum-none n)
 length-stands n (x ∷ l) h =
     let a = length-stands n l (λ p k. omega (arith, h p k)) in

@@ -121,22 +121,22 @@ module _ (points boxes : List Float) (nodes order : List ℕ) (t : AcceptedTree 
 
 -- ---- of a scene
 
-nearest-scan : (scene : Scene) (ray : Ray) (n : ℕ) → scanFrom (nearestStep (scene .points) (scene .uses) (scene .kinds) ray) Nothing n ≡ nearestBoxedTo scene ray n
+pub nearest-scan : (scene : Scene) (ray : Ray) (n : ℕ) → scanFrom (nearestStep (scene .points) (scene .uses) (scene .kinds) ray) Nothing n ≡ nearestBoxedTo scene ray n
 unfolding nearestTo
 nearest-scan scene ray zero = refl
 nearest-scan scene ray (suc n) = ap (λ (b : Nearest). nearerOf b n (boxedMeetAt scene ray n)) (nearest-scan scene ray n)
 
-hits-scan : (scene : Scene) (ray : Ray) (n : ℕ) → scanFrom (hitsStep (scene .points) (scene .uses) (scene .kinds) ray) [] n ≡ hitsBoxed scene ray n
+pub hits-scan : (scene : Scene) (ray : Ray) (n : ℕ) → scanFrom (hitsStep (scene .points) (scene .uses) (scene .kinds) ray) [] n ≡ hitsBoxed scene ray n
 unfolding hitsOf
 hits-scan scene ray zero = refl
 hits-scan scene ray (suc n) = ap (λ (hs : List Struck). withMeet hs n (boxedMeetAt scene ray n)) (hits-scan scene ray n)
 
 -- a miss adds nothing
-nearer-missed : (b : Nearest) (i : ℕ) (m : Meet) → m ≡ Miss → nearerOf b i m ≡ b
+pub nearer-missed : (b : Nearest) (i : ℕ) (m : Meet) → m ≡ Miss → nearerOf b i m ≡ b
 unfolding nearerOf
 nearer-missed b i m e = rw e refl
 
-hits-missed : (hs : List Struck) (i : ℕ) (m : Meet) → m ≡ Miss → withMeet hs i m ≡ hs
+pub hits-missed : (hs : List Struck) (i : ℕ) (m : Meet) → m ≡ Miss → withMeet hs i m ≡ hs
 unfolding withMeet
 hits-missed hs i m e = rw e refl
 

@@ -18,6 +18,8 @@ ghost use Rattle.scan.specs.Transmittance.{transmittanceOf};
 ghost use Rattle.tree_walk.specs.Turned.{Turned};
 ghost use Rattle.tree_walk.specs.Walk.{runVisit, nodeVisit, pairVisit, TreeFits};
 ghost use Rattle.tree_walk.specs.UnderLaws.{placesUnder};
+ghost use Rattle.tree_walk.specs.FoldLaws.{foldOf};
+ghost use Rattle.tree_walk.specs.Spans.{spanPlaces, SpanFits};
 ghost use Rattle.tree_walk.specs.Collect.{collectStep};
 ghost use Rattle.tree_walk.specs.Kept.{collectedBy, MetWithin, RoomFor};
 ghost use Rattle.tree_walk.specs.declared.Gained.the-variants.{Hits};
@@ -194,8 +196,7 @@ fn pair_visit(
     )
 }
 
-// The triangles of leaf i, in its run's order. Those that are surely missed are passed over, by the search of the list's scan over the points in the tree's order; of one that may be met the scene's own
-// lists decide.
+// The triangles of leaf i, in its run's order.
 fn run_visit(
     points: &[f32],
     uses: &[u32],
@@ -214,6 +215,25 @@ fn run_visit(
 {
     let count = tree::inner::word_at(nodes, i * 3);
     let first = tree::inner::word_at(nodes, i * 3 + 1);
+    span_nearest(points, uses, kinds, order, turned, ray, first, count, best)
+}
+
+// The triangles of a span of the order. Those that are surely missed are passed over, by the search of the list's scan over the points in the tree's order; of one that may be met the scene's own
+// lists decide.
+pub fn span_nearest(
+    points: &[f32],
+    uses: &[u32],
+    kinds: &[u8],
+    order: &[u32],
+    turned: &[f32],
+    ray: Ray,
+    first: usize,
+    count: usize,
+    best: Nearest,
+) -> Nearest
+    requires { ⌜ SpanFits (now points) (now uses) (now kinds) (now order) (now turned) first count ⌝ }
+    ensures { λ r. ⌜ r ≡ foldOf (nearestStep (now (points .entry)) (now (uses .entry)) (now (kinds .entry)) ray) best (spanPlaces (now (order .entry)) first count) ⌝ }
+{
     let end = first + count;
     let mut held = best;
     let mut k = first;
@@ -283,7 +303,7 @@ pub fn transmittance(
 }
 
 // What is left of the light after these hits, none of which stops it.
-fn passing(uses: &[u32], numbers: &[f32], distances: &mut [f32], places: &mut [usize]) -> f32
+pub fn passing(uses: &[u32], numbers: &[f32], distances: &mut [f32], places: &mut [usize]) -> f32
     requires { ⌜ (length (now distances) ≡ length (now places)) × Numbers (paired (now distances) (now places)) ⌝ }
     requires { ⌜ ((i : ℕ) → i < length (now uses) → getD (now uses) i 0 * 7 + 6 < length (now numbers)) ⌝ }
     requires { ⌜ ((j : ℕ) → j < length (placesOf (sortOf (paired (now distances) (now places)))) → getD (placesOf (sortOf (paired (now distances) (now places)))) j 0 < length (now uses)) ⌝ }
@@ -418,7 +438,7 @@ fn pair_collect(
     }
 }
 
-// The hits of leaf i, in its run's order, by the same search.
+// The hits of leaf i, in its run's order.
 fn run_collect(
     points: &[f32],
     uses: &[u32],
@@ -442,6 +462,41 @@ fn run_collect(
 {
     let count = tree::inner::word_at(nodes, i * 3);
     let first = tree::inner::word_at(nodes, i * 3 + 1);
+    span_collect(
+        points,
+        uses,
+        kinds,
+        order,
+        turned,
+        ray,
+        first,
+        count,
+        held,
+        distances,
+        places,
+    )
+}
+
+// The hits of a span of the order, by the same search.
+pub fn span_collect(
+    points: &[f32],
+    uses: &[u32],
+    kinds: &[u8],
+    order: &[u32],
+    turned: &[f32],
+    ray: Ray,
+    first: usize,
+    count: usize,
+    held: usize,
+    distances: &mut [f32],
+    places: &mut [usize],
+) -> Gained
+    requires { ⌜ SpanFits (now points) (now uses) (now kinds) (now order) (now turned) first count ⌝ }
+    requires { ⌜ (held ≤ length (now distances)) × (held ≤ length (now places)) ⌝ }
+    requires { ⌜ RoomFor (now kinds) (held + count) (length (now distances)) (length (now places)) ⌝ }
+    ensures { λ r. ⌜ (collectedBy r (now (distances .exit)) (now (places .exit)) ≡ foldOf (collectStep (now (points .entry)) (now (uses .entry)) (now (kinds .entry)) ray) (collectedBy (Hits held) (now (distances .entry)) (now (places .entry))) (spanPlaces (now (order .entry)) first count))
+        × MetWithin r (held + count) (length (now (distances .entry))) (length (now (places .entry))) ⌝ }
+{
     let end = first + count;
     let mut m = held;
     let mut k = first;
