@@ -3,7 +3,7 @@
 -- leaf's run begins in the order, and how many triangles stand in it, none in an inner box. A loop over the rows passes a box over by going on at that row.
 use mathlib.Core.Path.{_≡_}
 use mathlib.Core.Bool.{true, false}
-use mathlib.Core.List.{List, [], _∷_, _++_}
+use mathlib.Core.List.{List, [], _++_}
 use Prim.Native.Nat.{ℕ, zero, suc, _+_, _*_, _≤_, _<_}
 use lib.ListN.{length, getD}
 use lib.Ieee.{Float, nan, isNan, binary32, toBits}
@@ -16,6 +16,7 @@ use Rattle.boxes.specs.declared.Bounds.{Bounds}
 use Rattle.tree.specs.Tree.{presentAt, one}
 use Rattle.tree_walk.specs.Turned.{Turned}
 use Rattle.tree_walk.specs.FoldLaws.{standsIn}
+use Rattle.tree_walk.specs.Spans.{spanPlaces}
 
 -- ---- what a row holds
 
@@ -42,11 +43,6 @@ abbrev pub rowCount : List Float → ℕ → ℕ
 rowCount rows k = patternAt rows (rowStart k + 8)
 
 -- ---- the triangles of the rows
-
--- so many places of the order from one on
-abbrev pub spanPlaces : List ℕ → ℕ → ℕ → List ℕ
-spanPlaces order first zero = []
-spanPlaces order first (suc k) = spanPlaces order first k ++ (getD order (first + k) 0 ∷ [])
 
 abbrev pub rowPlaces : List ℕ → List Float → ℕ → List ℕ
 rowPlaces order rows k = spanPlaces order (rowFirst rows k) (rowCount rows k)
