@@ -22,7 +22,7 @@ use grid::Corners;
 use limits::Ambient;
 use limits::Light;
 use spread::Progress;
-use tree_walk::TURNED_NUMBERS;
+use tree_rows::ROW_NUMBERS;
 use walk::Reached;
 
 // The number of a refusal, 0 where there is none; the progress to go on with; the rays that the call fired.
@@ -265,8 +265,8 @@ pub fn tree_bake(
     if refusal != 0 {
         return refused(refusal, progress);
     }
-    let mut turned = [0.0f32; TURNED_NUMBERS];
-    tree_walk::inner::turn(points, order, &mut turned);
+    let mut rows = [0.0f32; ROW_NUMBERS];
+    tree_rows::inner::lay(points, boxes, nodes, order, &mut rows);
     let r = go_on(
         axes,
         corners,
@@ -278,7 +278,7 @@ pub fn tree_bake(
         boxes,
         nodes,
         order,
-        &turned,
+        &rows,
         light,
         ambient,
         sky,
@@ -334,7 +334,7 @@ fn go_on(
     boxes: &[f32],
     nodes: &[u32],
     order: &[u32],
-    turned: &[f32],
+    rows: &[f32],
     light: Light,
     ambient: Ambient,
     sky: &[f32],
@@ -352,7 +352,7 @@ fn go_on(
         (inputOf axes corners (sceneFor boxed (now points) (now uses) (now kinds) (now numbers) (now boxes) (now nodes) (now order)) light ambient (now sky) (now lamps) (now active) (now lights)
         (length (now distances)) (length (now places)))
         (stage progress (now volume) (now scratch)) allowance ⌝ }
-    requires { ⌜ Through (sceneFor boxed (now points) (now uses) (now kinds) (now numbers) (now boxes) (now nodes) (now order)) (now turned) ⌝ }
+    requires { ⌜ Through (sceneFor boxed (now points) (now uses) (now kinds) (now numbers) (now boxes) (now nodes) (now order)) (now rows) ⌝ }
     ensures { λ r. ⌜ Accepts
         (accepted
         (bakeOf (inputOf axes corners (sceneFor boxed (now (points .entry)) (now (uses .entry)) (now (kinds .entry)) (now (numbers .entry)) (now (boxes .entry)) (now (nodes .entry)) (now (order .entry)))
@@ -379,7 +379,7 @@ fn go_on(
         boxes,
         nodes,
         order,
-        turned,
+        rows,
         light,
         ambient,
         sky,

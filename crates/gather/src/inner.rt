@@ -36,7 +36,7 @@ pub fn gather_voxel(
     boxes: &[f32],
     nodes: &[u32],
     order: &[u32],
-    turned: &[f32],
+    rows: &[f32],
     light: Light,
     ambient: Ambient,
     sky: &[f32],
@@ -50,7 +50,7 @@ pub fn gather_voxel(
 ) -> u64
     requires { ⌜ Gatherable (gatherOf axes corners (sceneFor boxed (now points) (now uses) (now kinds) (now numbers) (now boxes) (now nodes) (now order)) light ambient (now sky) (now lamps) (now lights)) i (length (now distances)) (length (now places)) (length (now out)) ⌝ }
     requires { ⌜ now table ≡ directions ⌝ }
-    requires { ⌜ Through (sceneFor boxed (now points) (now uses) (now kinds) (now numbers) (now boxes) (now nodes) (now order)) (now turned) ⌝ }
+    requires { ⌜ Through (sceneFor boxed (now points) (now uses) (now kinds) (now numbers) (now boxes) (now nodes) (now order)) (now rows) ⌝ }
     ensures { λ r. ⌜ Gathered (gatherOf axes corners (sceneFor boxed (now (points .entry)) (now (uses .entry)) (now (kinds .entry)) (now (numbers .entry)) (now (boxes .entry)) (now (nodes .entry)) (now (order .entry))) light ambient (now (sky .entry)) (now (lamps .entry)) (now (lights .entry))) i r (now (out .exit)) ⌝ }
 {
     let edges = grid::inner::edges(corners, axes);
@@ -66,7 +66,7 @@ pub fn gather_voxel(
         boxes,
         nodes,
         order,
-        turned,
+        rows,
         lamps,
         setting,
         centre,
@@ -124,7 +124,7 @@ fn gather_all(
     boxes: &[f32],
     nodes: &[u32],
     order: &[u32],
-    turned: &[f32],
+    rows: &[f32],
     lamps: &[f32],
     setting: Setting,
     centre: Vec3,
@@ -138,7 +138,7 @@ fn gather_all(
     requires { ⌜ lampCount (now lamps) ≤ lampLimit ⌝ }
     requires { ⌜ HitsFit (sceneFor boxed (now points) (now uses) (now kinds) (now numbers) (now boxes) (now nodes) (now order)) (length (now distances)) (length (now places)) ⌝ }
     requires { ⌜ (length (now sky) ≡ skyNumbers) × (now table ≡ directions) × (first + 64 ≤ 576) ⌝ }
-    requires { ⌜ Through (sceneFor boxed (now points) (now uses) (now kinds) (now numbers) (now boxes) (now nodes) (now order)) (now turned) ⌝ }
+    requires { ⌜ Through (sceneFor boxed (now points) (now uses) (now kinds) (now numbers) (now boxes) (now nodes) (now order)) (now rows) ⌝ }
     ensures { λ r. ⌜ r ≡ gatheringOf (sceneFor boxed (now (points .entry)) (now (uses .entry)) (now (kinds .entry)) (now (numbers .entry)) (now (boxes .entry)) (now (nodes .entry)) (now (order .entry))) (now (lamps .entry)) setting centre (now (sky .entry)) first ⌝ }
 {
     let mut gathering = nothing();
@@ -153,7 +153,7 @@ fn gather_all(
             boxes,
             nodes,
             order,
-            turned,
+            rows,
             lamps,
             setting,
             centre,
@@ -199,7 +199,7 @@ fn gather_along(
     boxes: &[f32],
     nodes: &[u32],
     order: &[u32],
-    turned: &[f32],
+    rows: &[f32],
     lamps: &[f32],
     setting: Setting,
     centre: Vec3,
@@ -215,7 +215,7 @@ fn gather_along(
     requires { ⌜ HitsFit (sceneFor boxed (now points) (now uses) (now kinds) (now numbers) (now boxes) (now nodes) (now order)) (length (now distances)) (length (now places)) ⌝ }
     requires { ⌜ (length (now sky) ≡ skyNumbers) × (now table ≡ directions) × (k < 576) ⌝ }
     requires { ⌜ (gathering .rays < 65536) × (gathering .misses < 65536) ⌝ }
-    requires { ⌜ Through (sceneFor boxed (now points) (now uses) (now kinds) (now numbers) (now boxes) (now nodes) (now order)) (now turned) ⌝ }
+    requires { ⌜ Through (sceneFor boxed (now points) (now uses) (now kinds) (now numbers) (now boxes) (now nodes) (now order)) (now rows) ⌝ }
     ensures { λ r. ⌜ r ≡ gatheredAlong (sceneFor boxed (now (points .entry)) (now (uses .entry)) (now (kinds .entry)) (now (numbers .entry)) (now (boxes .entry)) (now (nodes .entry)) (now (order .entry))) (now (lamps .entry)) setting centre (now (sky .entry)) k gathering ⌝ }
 {
     let direction = direction_at(table, k);
@@ -230,7 +230,7 @@ fn gather_along(
         boxes,
         nodes,
         order,
-        turned,
+        rows,
         lamps,
         setting,
         ray,
@@ -284,7 +284,7 @@ fn look(
     boxes: &[f32],
     nodes: &[u32],
     order: &[u32],
-    turned: &[f32],
+    rows: &[f32],
     lamps: &[f32],
     setting: Setting,
     ray: Ray,
@@ -295,7 +295,7 @@ fn look(
     requires { ⌜ Sound (sceneFor boxed (now points) (now uses) (now kinds) (now numbers) (now boxes) (now nodes) (now order)) ⌝ }
     requires { ⌜ lampCount (now lamps) ≤ lampLimit ⌝ }
     requires { ⌜ HitsFit (sceneFor boxed (now points) (now uses) (now kinds) (now numbers) (now boxes) (now nodes) (now order)) (length (now distances)) (length (now places)) ⌝ }
-    requires { ⌜ Through (sceneFor boxed (now points) (now uses) (now kinds) (now numbers) (now boxes) (now nodes) (now order)) (now turned) ⌝ }
+    requires { ⌜ Through (sceneFor boxed (now points) (now uses) (now kinds) (now numbers) (now boxes) (now nodes) (now order)) (now rows) ⌝ }
     ensures { λ r. ⌜ r ≡ incomingOf (sceneFor boxed (now (points .entry)) (now (uses .entry)) (now (kinds .entry)) (now (numbers .entry)) (now (boxes .entry)) (now (nodes .entry)) (now (order .entry))) (now (lamps .entry)) setting ray sky ⌝ }
 {
     let found = tracing::inner::nearest(
@@ -307,7 +307,7 @@ fn look(
         boxes,
         nodes,
         order,
-        turned,
+        rows,
         ray,
     );
     match found {
@@ -326,7 +326,7 @@ fn look(
                 boxes,
                 nodes,
                 order,
-                turned,
+                rows,
                 lamps,
                 setting,
                 ray,
@@ -355,7 +355,7 @@ fn from_surface(
     boxes: &[f32],
     nodes: &[u32],
     order: &[u32],
-    turned: &[f32],
+    rows: &[f32],
     lamps: &[f32],
     setting: Setting,
     ray: Ray,
@@ -368,7 +368,7 @@ fn from_surface(
     requires { ⌜ lampCount (now lamps) ≤ lampLimit ⌝ }
     requires { ⌜ HitsFit (sceneFor boxed (now points) (now uses) (now kinds) (now numbers) (now boxes) (now nodes) (now order)) (length (now distances)) (length (now places)) ⌝ }
     requires { ⌜ place < length (now uses) ⌝ }
-    requires { ⌜ Through (sceneFor boxed (now points) (now uses) (now kinds) (now numbers) (now boxes) (now nodes) (now order)) (now turned) ⌝ }
+    requires { ⌜ Through (sceneFor boxed (now points) (now uses) (now kinds) (now numbers) (now boxes) (now nodes) (now order)) (now rows) ⌝ }
     ensures { λ r. ⌜ r ≡ sentBack (sceneFor boxed (now (points .entry)) (now (uses .entry)) (now (kinds .entry)) (now (numbers .entry)) (now (boxes .entry)) (now (nodes .entry)) (now (order .entry))) (now (lamps .entry)) setting ray place distance ⌝ }
 {
     let surface = surface::inner::surface_at(
@@ -390,7 +390,7 @@ fn from_surface(
         boxes,
         nodes,
         order,
-        turned,
+        rows,
         lamps,
         setting,
         surface,

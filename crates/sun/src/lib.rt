@@ -16,7 +16,7 @@ use grid::Axes;
 use grid::Corners;
 use names::SUN_DIAGONALS;
 use names::SUN_SHORTEST;
-use tree_walk::TURNED_NUMBERS;
+use tree_rows::ROW_NUMBERS;
 use vectors::Vec3;
 
 // What a sun pass answers: a refusal's number, and the rays, one for each active voxel.
@@ -196,8 +196,8 @@ pub fn tree_sun(
         places.len(),
     );
     if refusal == 0 {
-        let mut turned = [0.0f32; TURNED_NUMBERS];
-        tree_walk::inner::turn(points, order, &mut turned);
+        let mut rows = [0.0f32; ROW_NUMBERS];
+        tree_rows::inner::lay(points, boxes, nodes, order, &mut rows);
         let rays = pass(
             axes,
             corners,
@@ -209,7 +209,7 @@ pub fn tree_sun(
             boxes,
             nodes,
             order,
-            &turned,
+            &rows,
             direction,
             active,
             light,
@@ -234,7 +234,7 @@ fn pass(
     boxes: &[f32],
     nodes: &[u32],
     order: &[u32],
-    turned: &[f32],
+    rows: &[f32],
     direction: Vec3,
     active: &[u64],
     light: &mut [f32],
@@ -243,7 +243,7 @@ fn pass(
     places: &mut [usize],
 ) -> u64
     requires { ⌜ SunReady axes (sceneFor boxed (now points) (now uses) (now kinds) (now numbers) (now boxes) (now nodes) (now order)) (now active) (length (now light)) (length (now scratch)) (length (now distances)) (length (now places)) ⌝ }
-    requires { ⌜ Through (sceneFor boxed (now points) (now uses) (now kinds) (now numbers) (now boxes) (now nodes) (now order)) (now turned) ⌝ }
+    requires { ⌜ Through (sceneFor boxed (now points) (now uses) (now kinds) (now numbers) (now boxes) (now nodes) (now order)) (now rows) ⌝ }
     ensures { λ r. ⌜ SunPassed axes corners (sceneFor boxed (now (points .entry)) (now (uses .entry)) (now (kinds .entry)) (now (numbers .entry)) (now (boxes .entry)) (now (nodes .entry)) (now (order .entry))) direction (entriesOf (now (active .entry)) (voxels axes)) (now (scratch .entry)) (now (distances .entry)) (now (places .entry)) r (now (light .exit)) (now (scratch .exit)) (now (distances .exit)) (now (places .exit)) ⌝ }
 {
     let rays = words::inner::count(active, light.len());
@@ -262,7 +262,7 @@ fn pass(
         boxes,
         nodes,
         order,
-        turned,
+        rows,
         direction,
         active,
         scratch,
@@ -359,7 +359,7 @@ fn trace(
     boxes: &[f32],
     nodes: &[u32],
     order: &[u32],
-    turned: &[f32],
+    rows: &[f32],
     direction: Vec3,
     active: &[u64],
     before: &mut [f32],
@@ -368,7 +368,7 @@ fn trace(
 )
     requires { ⌜ Traceable axes (sceneFor boxed (now points) (now uses) (now kinds) (now numbers) (now boxes) (now nodes) (now order)) (length (now distances)) (length (now places)) ⌝ }
     requires { ⌜ Tidy (now active) (voxels axes) × (length (now before) ≡ voxels axes) ⌝ }
-    requires { ⌜ Through (sceneFor boxed (now points) (now uses) (now kinds) (now numbers) (now boxes) (now nodes) (now order)) (now turned) ⌝ }
+    requires { ⌜ Through (sceneFor boxed (now points) (now uses) (now kinds) (now numbers) (now boxes) (now nodes) (now order)) (now rows) ⌝ }
     ensures { λ r. ⌜ now (before .exit) ≡ sunBefore axes corners (sceneFor boxed (now (points .entry)) (now (uses .entry)) (now (kinds .entry)) (now (numbers .entry)) (now (boxes .entry)) (now (nodes .entry)) (now (order .entry))) direction (entriesOf (now (active .entry)) (voxels axes)) ⌝ }
 {
     let edges = grid::inner::edges(corners, axes);
@@ -393,7 +393,7 @@ fn trace(
             boxes,
             nodes,
             order,
-            turned,
+            rows,
             i,
             distances,
             places,
@@ -418,14 +418,14 @@ fn seen(
     boxes: &[f32],
     nodes: &[u32],
     order: &[u32],
-    turned: &[f32],
+    rows: &[f32],
     i: usize,
     distances: &mut [f32],
     places: &mut [usize],
 ) -> f32
     requires { ⌜ Traceable axes (sceneFor boxed (now points) (now uses) (now kinds) (now numbers) (now boxes) (now nodes) (now order)) (length (now distances)) (length (now places)) ⌝ }
     requires { ⌜ i < voxels axes ⌝ }
-    requires { ⌜ Through (sceneFor boxed (now points) (now uses) (now kinds) (now numbers) (now boxes) (now nodes) (now order)) (now turned) ⌝ }
+    requires { ⌜ Through (sceneFor boxed (now points) (now uses) (now kinds) (now numbers) (now boxes) (now nodes) (now order)) (now rows) ⌝ }
     ensures { λ r. ⌜ r ≡ transmittanceOf (sceneFor boxed (now (points .entry)) (now (uses .entry)) (now (kinds .entry)) (now (numbers .entry)) (now (boxes .entry)) (now (nodes .entry)) (now (order .entry))) (sunRay l ahead (centreFrom low edges (xOf axes i) (yOf axes i) (zOf axes i))) ⌝ }
 {
     let centre = grid::inner::centre_of(low, axes, edges, i);
@@ -439,7 +439,7 @@ fn seen(
         boxes,
         nodes,
         order,
-        turned,
+        rows,
         ray,
         distances,
         places,

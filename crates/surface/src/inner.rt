@@ -63,7 +63,7 @@ pub fn bounce_light(
     boxes: &[f32],
     nodes: &[u32],
     order: &[u32],
-    turned: &[f32],
+    rows: &[f32],
     lamps: &[f32],
     setting: Setting,
     surface: Surface,
@@ -73,7 +73,7 @@ pub fn bounce_light(
     requires { ⌜ Sound (sceneFor boxed (now points) (now uses) (now kinds) (now numbers) (now boxes) (now nodes) (now order)) ⌝ }
     requires { ⌜ lampCount (now lamps) ≤ lampLimit ⌝ }
     requires { ⌜ HitsFit (sceneFor boxed (now points) (now uses) (now kinds) (now numbers) (now boxes) (now nodes) (now order)) (length (now distances)) (length (now places)) ⌝ }
-    requires { ⌜ Through (sceneFor boxed (now points) (now uses) (now kinds) (now numbers) (now boxes) (now nodes) (now order)) (now turned) ⌝ }
+    requires { ⌜ Through (sceneFor boxed (now points) (now uses) (now kinds) (now numbers) (now boxes) (now nodes) (now order)) (now rows) ⌝ }
     ensures { λ r. ⌜ r ≡ bouncedBy (sceneFor boxed (now (points .entry)) (now (uses .entry)) (now (kinds .entry)) (now (numbers .entry)) (now (boxes .entry)) (now (nodes .entry)) (now (order .entry))) (now (lamps .entry)) setting surface ⌝ }
 {
     if bounce::inner::black(surface.albedo, surface.emissive) {
@@ -96,7 +96,7 @@ pub fn bounce_light(
         boxes,
         nodes,
         order,
-        turned,
+        rows,
         lamps,
         setting,
         surface,
@@ -120,7 +120,7 @@ fn light_fallen(
     boxes: &[f32],
     nodes: &[u32],
     order: &[u32],
-    turned: &[f32],
+    rows: &[f32],
     lamps: &[f32],
     setting: Setting,
     surface: Surface,
@@ -130,7 +130,7 @@ fn light_fallen(
     requires { ⌜ Sound (sceneFor boxed (now points) (now uses) (now kinds) (now numbers) (now boxes) (now nodes) (now order)) ⌝ }
     requires { ⌜ lampCount (now lamps) ≤ lampLimit ⌝ }
     requires { ⌜ HitsFit (sceneFor boxed (now points) (now uses) (now kinds) (now numbers) (now boxes) (now nodes) (now order)) (length (now distances)) (length (now places)) ⌝ }
-    requires { ⌜ Through (sceneFor boxed (now points) (now uses) (now kinds) (now numbers) (now boxes) (now nodes) (now order)) (now turned) ⌝ }
+    requires { ⌜ Through (sceneFor boxed (now points) (now uses) (now kinds) (now numbers) (now boxes) (now nodes) (now order)) (now rows) ⌝ }
     ensures { λ r. ⌜ r ≡ fallenOn (sceneFor boxed (now (points .entry)) (now (uses .entry)) (now (kinds .entry)) (now (numbers .entry)) (now (boxes .entry)) (now (nodes .entry)) (now (order .entry))) (now (lamps .entry)) setting surface ⌝ }
 {
     let mut fallen = light_day(
@@ -142,7 +142,7 @@ fn light_fallen(
         boxes,
         nodes,
         order,
-        turned,
+        rows,
         setting,
         surface,
         distances,
@@ -161,7 +161,7 @@ fn light_fallen(
             boxes,
             nodes,
             order,
-            turned,
+            rows,
             setting,
             surface,
             lamp,
@@ -184,7 +184,7 @@ fn light_lamp(
     boxes: &[f32],
     nodes: &[u32],
     order: &[u32],
-    turned: &[f32],
+    rows: &[f32],
     setting: Setting,
     surface: Surface,
     lamp: Lamp,
@@ -195,7 +195,7 @@ fn light_lamp(
     requires { ⌜ Sound (sceneFor boxed (now points) (now uses) (now kinds) (now numbers) (now boxes) (now nodes) (now order)) ⌝ }
     requires { ⌜ HitsFit (sceneFor boxed (now points) (now uses) (now kinds) (now numbers) (now boxes) (now nodes) (now order)) (length (now distances)) (length (now places)) ⌝ }
     requires { ⌜ fallen .rays < 65536 ⌝ }
-    requires { ⌜ Through (sceneFor boxed (now points) (now uses) (now kinds) (now numbers) (now boxes) (now nodes) (now order)) (now turned) ⌝ }
+    requires { ⌜ Through (sceneFor boxed (now points) (now uses) (now kinds) (now numbers) (now boxes) (now nodes) (now order)) (now rows) ⌝ }
     ensures { λ r. ⌜ r ≡ litBy (sceneFor boxed (now (points .entry)) (now (uses .entry)) (now (kinds .entry)) (now (numbers .entry)) (now (boxes .entry)) (now (nodes .entry)) (now (order .entry))) setting surface lamp fallen ⌝ }
 {
     let way = bounce::inner::way_to(surface.point, lamp.position);
@@ -212,7 +212,7 @@ fn light_lamp(
         boxes,
         nodes,
         order,
-        turned,
+        rows,
         ray,
         distances,
         places,
@@ -235,7 +235,7 @@ fn light_day(
     boxes: &[f32],
     nodes: &[u32],
     order: &[u32],
-    turned: &[f32],
+    rows: &[f32],
     setting: Setting,
     surface: Surface,
     distances: &mut [f32],
@@ -243,7 +243,7 @@ fn light_day(
 ) -> Traced
     requires { ⌜ Sound (sceneFor boxed (now points) (now uses) (now kinds) (now numbers) (now boxes) (now nodes) (now order)) ⌝ }
     requires { ⌜ HitsFit (sceneFor boxed (now points) (now uses) (now kinds) (now numbers) (now boxes) (now nodes) (now order)) (length (now distances)) (length (now places)) ⌝ }
-    requires { ⌜ Through (sceneFor boxed (now points) (now uses) (now kinds) (now numbers) (now boxes) (now nodes) (now order)) (now turned) ⌝ }
+    requires { ⌜ Through (sceneFor boxed (now points) (now uses) (now kinds) (now numbers) (now boxes) (now nodes) (now order)) (now rows) ⌝ }
     ensures { λ r. ⌜ r ≡ daylightOf (sceneFor boxed (now (points .entry)) (now (uses .entry)) (now (kinds .entry)) (now (numbers .entry)) (now (boxes .entry)) (now (nodes .entry)) (now (order .entry))) setting surface ⌝ }
 {
     let sun = light_sun(
@@ -255,7 +255,7 @@ fn light_day(
         boxes,
         nodes,
         order,
-        turned,
+        rows,
         setting,
         surface,
         distances,
@@ -270,7 +270,7 @@ fn light_day(
         boxes,
         nodes,
         order,
-        turned,
+        rows,
         setting,
         surface,
         distances,
@@ -293,7 +293,7 @@ fn light_sun(
     boxes: &[f32],
     nodes: &[u32],
     order: &[u32],
-    turned: &[f32],
+    rows: &[f32],
     setting: Setting,
     surface: Surface,
     distances: &mut [f32],
@@ -301,7 +301,7 @@ fn light_sun(
 ) -> Traced
     requires { ⌜ Sound (sceneFor boxed (now points) (now uses) (now kinds) (now numbers) (now boxes) (now nodes) (now order)) ⌝ }
     requires { ⌜ HitsFit (sceneFor boxed (now points) (now uses) (now kinds) (now numbers) (now boxes) (now nodes) (now order)) (length (now distances)) (length (now places)) ⌝ }
-    requires { ⌜ Through (sceneFor boxed (now points) (now uses) (now kinds) (now numbers) (now boxes) (now nodes) (now order)) (now turned) ⌝ }
+    requires { ⌜ Through (sceneFor boxed (now points) (now uses) (now kinds) (now numbers) (now boxes) (now nodes) (now order)) (now rows) ⌝ }
     ensures { λ r. ⌜ r ≡ sunOf (sceneFor boxed (now (points .entry)) (now (uses .entry)) (now (kinds .entry)) (now (numbers .entry)) (now (boxes .entry)) (now (nodes .entry)) (now (order .entry))) setting surface ⌝ }
 {
     let slant = bounce::inner::slant(surface.normal, setting.toward);
@@ -316,7 +316,7 @@ fn light_sun(
             boxes,
             nodes,
             order,
-            turned,
+            rows,
             ray,
             distances,
             places,
@@ -342,7 +342,7 @@ fn light_sky(
     boxes: &[f32],
     nodes: &[u32],
     order: &[u32],
-    turned: &[f32],
+    rows: &[f32],
     setting: Setting,
     surface: Surface,
     distances: &mut [f32],
@@ -350,7 +350,7 @@ fn light_sky(
 ) -> Traced
     requires { ⌜ Sound (sceneFor boxed (now points) (now uses) (now kinds) (now numbers) (now boxes) (now nodes) (now order)) ⌝ }
     requires { ⌜ HitsFit (sceneFor boxed (now points) (now uses) (now kinds) (now numbers) (now boxes) (now nodes) (now order)) (length (now distances)) (length (now places)) ⌝ }
-    requires { ⌜ Through (sceneFor boxed (now points) (now uses) (now kinds) (now numbers) (now boxes) (now nodes) (now order)) (now turned) ⌝ }
+    requires { ⌜ Through (sceneFor boxed (now points) (now uses) (now kinds) (now numbers) (now boxes) (now nodes) (now order)) (now rows) ⌝ }
     ensures { λ r. ⌜ r ≡ skyOf (sceneFor boxed (now (points .entry)) (now (uses .entry)) (now (kinds .entry)) (now (numbers .entry)) (now (boxes .entry)) (now (nodes .entry)) (now (order .entry))) setting surface ⌝ }
 {
     let seen = see_sky(
@@ -362,7 +362,7 @@ fn light_sky(
         boxes,
         nodes,
         order,
-        turned,
+        rows,
         setting,
         surface,
         distances,
@@ -385,7 +385,7 @@ fn see_sky(
     boxes: &[f32],
     nodes: &[u32],
     order: &[u32],
-    turned: &[f32],
+    rows: &[f32],
     setting: Setting,
     surface: Surface,
     distances: &mut [f32],
@@ -393,7 +393,7 @@ fn see_sky(
 ) -> Seen
     requires { ⌜ Sound (sceneFor boxed (now points) (now uses) (now kinds) (now numbers) (now boxes) (now nodes) (now order)) ⌝ }
     requires { ⌜ HitsFit (sceneFor boxed (now points) (now uses) (now kinds) (now numbers) (now boxes) (now nodes) (now order)) (length (now distances)) (length (now places)) ⌝ }
-    requires { ⌜ Through (sceneFor boxed (now points) (now uses) (now kinds) (now numbers) (now boxes) (now nodes) (now order)) (now turned) ⌝ }
+    requires { ⌜ Through (sceneFor boxed (now points) (now uses) (now kinds) (now numbers) (now boxes) (now nodes) (now order)) (now rows) ⌝ }
     ensures { λ r. ⌜ r ≡ seenOf (sceneFor boxed (now (points .entry)) (now (uses .entry)) (now (kinds .entry)) (now (numbers .entry)) (now (boxes .entry)) (now (nodes .entry)) (now (order .entry))) setting surface ⌝ }
 {
     let table = bounce::inner::hemisphere_table();
@@ -411,7 +411,7 @@ fn see_sky(
             boxes,
             nodes,
             order,
-            turned,
+            rows,
             ray,
             seen,
             distances,
@@ -432,7 +432,7 @@ fn see(
     boxes: &[f32],
     nodes: &[u32],
     order: &[u32],
-    turned: &[f32],
+    rows: &[f32],
     ray: Ray,
     seen: Seen,
     distances: &mut [f32],
@@ -441,7 +441,7 @@ fn see(
     requires { ⌜ Sound (sceneFor boxed (now points) (now uses) (now kinds) (now numbers) (now boxes) (now nodes) (now order)) ⌝ }
     requires { ⌜ HitsFit (sceneFor boxed (now points) (now uses) (now kinds) (now numbers) (now boxes) (now nodes) (now order)) (length (now distances)) (length (now places)) ⌝ }
     requires { ⌜ seen .rays < 4 ⌝ }
-    requires { ⌜ Through (sceneFor boxed (now points) (now uses) (now kinds) (now numbers) (now boxes) (now nodes) (now order)) (now turned) ⌝ }
+    requires { ⌜ Through (sceneFor boxed (now points) (now uses) (now kinds) (now numbers) (now boxes) (now nodes) (now order)) (now rows) ⌝ }
     ensures { λ r. ⌜ r ≡ seenBy (sceneFor boxed (now (points .entry)) (now (uses .entry)) (now (kinds .entry)) (now (numbers .entry)) (now (boxes .entry)) (now (nodes .entry)) (now (order .entry))) ray seen ⌝ }
 {
     let passed = tracing::inner::transmittance(
@@ -453,7 +453,7 @@ fn see(
         boxes,
         nodes,
         order,
-        turned,
+        rows,
         ray,
         distances,
         places,

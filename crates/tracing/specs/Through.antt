@@ -4,9 +4,9 @@ use mathlib.Core.Bool.{true}
 use mathlib.Core.List.{List}
 use lib.Ieee.{Float}
 use Rattle.names.specs.Scene.{Scene}
-use Rattle.tree.specs.Tree.{AcceptedTree}
-use Rattle.tree_walk.specs.Turned.{Turned}
+use Rattle.tree.specs.Tree.{boxCount}
+use Rattle.tree_rows.specs.Rows.{Rowed}
 
--- where it comes with a box tree, that is accepted, and its points stand once more in the tree's order
+-- where it comes with a box tree, that stands in rows
 abbrev pub Through : Scene → List Float → Type 0
-Through scene turned = scene .boxed ≡ true → AcceptedTree (scene .points) (scene .boxes) (scene .nodes) (scene .order) × Turned (scene .points) (scene .order) turned
+Through scene rows = scene .boxed ≡ true → Rowed (scene .points) (scene .order) (boxCount (scene .nodes)) rows

@@ -18,15 +18,15 @@ pub fn nearest(
     boxes: &[f32],
     nodes: &[u32],
     order: &[u32],
-    turned: &[f32],
+    rows: &[f32],
     ray: Ray,
 ) -> Nearest
     requires { ⌜ Sound (sceneFor boxed (now points) (now uses) (now kinds) (now numbers) (now boxes) (now nodes) (now order)) ⌝ }
-    requires { ⌜ Through (sceneFor boxed (now points) (now uses) (now kinds) (now numbers) (now boxes) (now nodes) (now order)) (now turned) ⌝ }
+    requires { ⌜ Through (sceneFor boxed (now points) (now uses) (now kinds) (now numbers) (now boxes) (now nodes) (now order)) (now rows) ⌝ }
     ensures { λ r. ⌜ r ≡ nearestOf (sceneFor boxed (now (points .entry)) (now (uses .entry)) (now (kinds .entry)) (now (numbers .entry)) (now (boxes .entry)) (now (nodes .entry)) (now (order .entry))) ray ⌝ }
 {
     if boxed {
-        return tree_walk::inner::nearest(
+        return row_walk::inner::nearest(
             points,
             uses,
             kinds,
@@ -34,7 +34,7 @@ pub fn nearest(
             boxes,
             nodes,
             order,
-            turned,
+            rows,
             ray,
         );
     }
@@ -51,18 +51,18 @@ pub fn transmittance(
     boxes: &[f32],
     nodes: &[u32],
     order: &[u32],
-    turned: &[f32],
+    rows: &[f32],
     ray: Ray,
     distances: &mut [f32],
     places: &mut [usize],
 ) -> f32
     requires { ⌜ Sound (sceneFor boxed (now points) (now uses) (now kinds) (now numbers) (now boxes) (now nodes) (now order)) ⌝ }
     requires { ⌜ HitsFit (sceneFor boxed (now points) (now uses) (now kinds) (now numbers) (now boxes) (now nodes) (now order)) (length (now distances)) (length (now places)) ⌝ }
-    requires { ⌜ Through (sceneFor boxed (now points) (now uses) (now kinds) (now numbers) (now boxes) (now nodes) (now order)) (now turned) ⌝ }
+    requires { ⌜ Through (sceneFor boxed (now points) (now uses) (now kinds) (now numbers) (now boxes) (now nodes) (now order)) (now rows) ⌝ }
     ensures { λ r. ⌜ r ≡ transmittanceOf (sceneFor boxed (now (points .entry)) (now (uses .entry)) (now (kinds .entry)) (now (numbers .entry)) (now (boxes .entry)) (now (nodes .entry)) (now (order .entry))) ray ⌝ }
 {
     if boxed {
-        return tree_walk::inner::transmittance(
+        return row_walk::inner::transmittance(
             points,
             uses,
             kinds,
@@ -70,7 +70,7 @@ pub fn transmittance(
             boxes,
             nodes,
             order,
-            turned,
+            rows,
             ray,
             distances,
             places,

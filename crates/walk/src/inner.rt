@@ -29,7 +29,7 @@ pub fn walk(
     boxes: &[f32],
     nodes: &[u32],
     order: &[u32],
-    turned: &[f32],
+    rows: &[f32],
     light: Light,
     ambient: Ambient,
     sky: &[f32],
@@ -48,7 +48,7 @@ pub fn walk(
         (length (now distances)) (length (now places)))
         (length (now volume)) next ⌝ }
     requires { ⌜ now table ≡ directions ⌝ }
-    requires { ⌜ Through (sceneFor boxed (now points) (now uses) (now kinds) (now numbers) (now boxes) (now nodes) (now order)) (now turned) ⌝ }
+    requires { ⌜ Through (sceneFor boxed (now points) (now uses) (now kinds) (now numbers) (now boxes) (now nodes) (now order)) (now rows) ⌝ }
     ensures { λ r. ⌜ Reports
         (spread.walk
         (bakeOf (inputOf axes corners (sceneFor boxed (now (points .entry)) (now (uses .entry)) (now (kinds .entry)) (now (numbers .entry)) (now (boxes .entry)) (now (nodes .entry)) (now (order .entry)))
@@ -79,7 +79,7 @@ pub fn walk(
                 boxes,
                 nodes,
                 order,
-                turned,
+                rows,
                 light,
                 ambient,
                 sky,
@@ -110,7 +110,7 @@ fn take(
     boxes: &[f32],
     nodes: &[u32],
     order: &[u32],
-    turned: &[f32],
+    rows: &[f32],
     light: Light,
     ambient: Ambient,
     sky: &[f32],
@@ -126,7 +126,7 @@ fn take(
         (gatherOf axes corners (sceneFor boxed (now points) (now uses) (now kinds) (now numbers) (now boxes) (now nodes) (now order)) light ambient (now sky) (now lamps) (now lights))
         i (length (now distances)) (length (now places)) (length (now volume)) ⌝ }
     requires { ⌜ now table ≡ directions ⌝ }
-    requires { ⌜ Through (sceneFor boxed (now points) (now uses) (now kinds) (now numbers) (now boxes) (now nodes) (now order)) (now turned) ⌝ }
+    requires { ⌜ Through (sceneFor boxed (now points) (now uses) (now kinds) (now numbers) (now boxes) (now nodes) (now order)) (now rows) ⌝ }
     ensures { λ r. ⌜ Taken
         (gatherOf axes corners (sceneFor boxed (now (points .entry)) (now (uses .entry)) (now (kinds .entry)) (now (numbers .entry)) (now (boxes .entry)) (now (nodes .entry)) (now (order .entry)))
         light ambient (now (sky .entry)) (now (lamps .entry)) (now (lights .entry)))
@@ -145,7 +145,7 @@ fn take(
         boxes,
         nodes,
         order,
-        turned,
+        rows,
         light,
         ambient,
         sky,

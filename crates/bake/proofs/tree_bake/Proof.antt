@@ -1,4 +1,4 @@
--- A refusal returns at once; an accepted call is what follows, its points turned into the tree's order.
+-- A refusal returns at once; an accepted call is what follows, its tree laid out in rows.
 use Rattle.bake.proofs.Parts.{total-fits, refused, accepts, answers}
 use mathlib.Core.Path.{refl}
 use native.Mathlib.Omega.{arith}
@@ -22,14 +22,14 @@ same-length-2 c = search needs
 returns : tie.Need-returns
 returns c = rw (c .refused .ensures) (refused (c .before .before .judge .ensures) (c .before .if1 .taken))
 
-slice-aggregate-turn : tie.Need-slice-aggregate-turn
-slice-aggregate-turn c = search needs
+slice-aggregate-lay : tie.Need-slice-aggregate-lay
+slice-aggregate-lay c = search needs
 
--- the order is no longer than the triangles are many, and they are no more than the limit
-turn-requires : tie.Need-turn-requires
-turn-requires c κs =
+-- the tree is accepted, and the triangles are no more than the limit
+lay-requires : tie.Need-lay-requires
+lay-requires c κs =
     let f = accepts (c .before .before .judge .ensures) (c .before .if1 .left) in
-    omega (arith, f .tree refl .orderFits, few-triangles _ (f .scene))
+    (f .tree refl, (omega (arith, few-triangles _ (f .scene)), omega arith))
 
 slice-aggregate-go-on : tie.Need-slice-aggregate-go-on
 slice-aggregate-go-on c = search needs
@@ -37,7 +37,7 @@ slice-aggregate-go-on c = search needs
 go-on-requires : tie.Need-go-on-requires
 go-on-requires c κs =
     let f = accepts (c .before .before .before .before .before .before .before .before .before .judge .ensures) (c .before .before .before .before .before .before .before .before .if1 .left) in
-    (f, λ e. (f .tree e, c .before .before .before .before .before .before .turn .ensures))
+    (f, λ e. c .before .before .before .before .before .before .lay .ensures)
 
 answered-requires : tie.Need-answered-requires
 answered-requires c κs =
@@ -75,8 +75,8 @@ tree-bake-spec =
     same-length
     same-length-2
     returns
-    slice-aggregate-turn
-    turn-requires
+    slice-aggregate-lay
+    lay-requires
     slice-aggregate-go-on
     go-on-requires
     answered-requires

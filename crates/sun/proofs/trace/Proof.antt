@@ -23,12 +23,12 @@ use Rattle.sun.proofs.trace.Statement.{statement}
 use Rattle.sun.proofs.trace.Tie as tie
 
 abbrev Inv-loop : tie.InvT-loop
-Inv-loop axes points uses kinds numbers boxed boxes nodes order turned active before₀ distances₀ places₀ edges l ahead low n i₀ before distances places i =
+Inv-loop axes points uses kinds numbers boxed boxes nodes order rows active before₀ distances₀ places₀ edges l ahead low n i₀ before distances places i =
     (n ≡ voxels axes) × (length before ≡ n) × (length distances ≡ length distances₀) × (length places ≡ length places₀)
     × (i < n → isMarked (entriesOf active n) i ≡ true) × Right axes low edges l ahead (sceneFor boxed points uses kinds numbers boxes nodes order) (entriesOf active n) n before i
 
 abbrev μ-loop : tie.MeasureT-loop
-μ-loop axes points uses kinds numbers boxed boxes nodes order turned active before₀ distances₀ places₀ edges l ahead low n i₀ before distances places i = n - i
+μ-loop axes points uses kinds numbers boxed boxes nodes order rows active before₀ distances₀ places₀ edges l ahead low n i₀ before distances places i = n - i
 
 edges-requires : tie.Need-edges-requires Inv-loop μ-loop
 edges-requires c κs = c .before .before .before .before .before .before .before .before .before .before .before .before .pre .0 .axes-fit

@@ -11,14 +11,14 @@ use Rattle.sun.proofs.tree_sun.Tie as tie
 judge-requires : tie.Need-judge-requires
 judge-requires c κs = search needs
 
-slice-aggregate-turn : tie.Need-slice-aggregate-turn
-slice-aggregate-turn c = search needs
+slice-aggregate-lay : tie.Need-slice-aggregate-lay
+slice-aggregate-lay c = search needs
 
--- the order is no longer than the triangles are many, and they are no more than the limit
-turn-requires : tie.Need-turn-requires
-turn-requires c κs =
+-- the tree is accepted, and the triangles are no more than the limit
+lay-requires : tie.Need-lay-requires
+lay-requires c κs =
     let r = sun-ready _ _ _ _ _ _ _ _ _ _ (sym (c .before .before .judge .ensures) ∙ c .before .if1 .taken) in
-    omega (arith, r .tree-stands refl .orderFits, few-triangles _ (r .traceable .scene-fits))
+    (r .tree-stands refl, (omega (arith, few-triangles _ (r .traceable .scene-fits)), omega arith))
 
 slice-aggregate-pass : tie.Need-slice-aggregate-pass
 slice-aggregate-pass c = search needs
@@ -27,7 +27,7 @@ pass-requires : tie.Need-pass-requires
 pass-requires c κs =
     let t = c .before .before .before .before .before .before .before .before in
     let r = sun-ready _ _ _ _ _ _ _ _ _ _ (sym (t .before .judge .ensures) ∙ t .if1 .taken) in
-    (r, λ e. (r .tree-stands e, c .before .before .before .before .before .before .turn .ensures))
+    (r, λ e. c .before .before .before .before .before .before .lay .ensures)
 
 same-length : tie.Need-same-length
 same-length c = search needs
@@ -77,8 +77,8 @@ tree-sun-spec =
     tie.close
     (tie.spec
     judge-requires
-    slice-aggregate-turn
-    turn-requires
+    slice-aggregate-lay
+    lay-requires
     slice-aggregate-pass
     pass-requires
     same-length

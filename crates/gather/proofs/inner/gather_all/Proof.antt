@@ -26,11 +26,11 @@ record Turn (scene : Scene) (lamps : List Float) (setting : Setting) (centre : V
   left : fold (alongFrom scene lamps setting centre sky first) (64 - i) i s ≡ gatheringOf scene lamps setting centre sky first
 
 abbrev Inv-loop : tie.InvT-loop
-Inv-loop points uses kinds numbers boxed boxes nodes order turned lamps setting centre sky table first distances₀ places₀ gathering₀ i₀ distances places gathering i =
+Inv-loop points uses kinds numbers boxed boxes nodes order rows lamps setting centre sky table first distances₀ places₀ gathering₀ i₀ distances places gathering i =
     Turn (sceneFor boxed points uses kinds numbers boxes nodes order) lamps setting centre sky first distances₀ places₀ distances places gathering i
 
 abbrev μ-loop : tie.MeasureT-loop
-μ-loop points uses kinds numbers boxed boxes nodes order turned lamps setting centre sky table first distances₀ places₀ gathering₀ i₀ distances places gathering i =
+μ-loop points uses kinds numbers boxed boxes nodes order rows lamps setting centre sky table first distances₀ places₀ gathering₀ i₀ distances places gathering i =
     64 - i
 
 nothing-requires : tie.Need-nothing-requires Inv-loop μ-loop

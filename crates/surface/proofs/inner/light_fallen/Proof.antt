@@ -26,11 +26,11 @@ record Turn (scene : Scene) (lamps : List Float) (setting : Setting) (surface : 
   left : fold (litAfter scene lamps setting surface) (n - j) j t ≡ fallenOn scene lamps setting surface
 
 abbrev Inv-loop : tie.InvT-loop
-Inv-loop points uses kinds numbers boxed boxes nodes order turned lamps setting surface distances₀ places₀ fallen₀ n j₀ distances places fallen j =
+Inv-loop points uses kinds numbers boxed boxes nodes order rows lamps setting surface distances₀ places₀ fallen₀ n j₀ distances places fallen j =
     Turn (sceneFor boxed points uses kinds numbers boxes nodes order) lamps setting surface distances₀ places₀ n distances places fallen j
 
 abbrev μ-loop : tie.MeasureT-loop
-μ-loop points uses kinds numbers boxed boxes nodes order turned lamps setting surface distances₀ places₀ fallen₀ n j₀ distances places fallen j =
+μ-loop points uses kinds numbers boxed boxes nodes order rows lamps setting surface distances₀ places₀ fallen₀ n j₀ distances places fallen j =
     n - j
 
 light-day-requires : tie.Need-light-day-requires Inv-loop μ-loop

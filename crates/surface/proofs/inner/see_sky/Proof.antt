@@ -24,11 +24,11 @@ record Turn (scene : Scene) (setting : Setting) (surface : Surface) (d₀ : List
   left : fold (seenAfter scene setting surface) (4 - j) j s ≡ seenOf scene setting surface
 
 abbrev Inv-loop : tie.InvT-loop
-Inv-loop points uses kinds numbers boxed boxes nodes order turned setting surface distances₀ places₀ table basis seen₀ j₀ distances places seen j =
+Inv-loop points uses kinds numbers boxed boxes nodes order rows setting surface distances₀ places₀ table basis seen₀ j₀ distances places seen j =
     Turn (sceneFor boxed points uses kinds numbers boxes nodes order) setting surface distances₀ places₀ distances places seen j
 
 abbrev μ-loop : tie.MeasureT-loop
-μ-loop points uses kinds numbers boxed boxes nodes order turned setting surface distances₀ places₀ table basis seen₀ j₀ distances places seen j =
+μ-loop points uses kinds numbers boxed boxes nodes order rows setting surface distances₀ places₀ table basis seen₀ j₀ distances places seen j =
     4 - j
 
 hemisphere-table-requires : tie.Need-hemisphere-table-requires Inv-loop μ-loop

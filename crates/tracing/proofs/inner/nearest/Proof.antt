@@ -10,8 +10,7 @@ use Rattle.tracing.proofs.inner.nearest.Tie as tie
 nearest-requires : tie.Need-nearest-requires
 nearest-requires c κs =
     let s = c .before .before .before .before .before .before .before .before .before in
-    let t = s .pre .1 (c .if1 .taken) in
-    (sound-unread _ _ (s .pre .0), (t .0, t .1))
+    (sound-unread _ _ (s .pre .0), s .pre .1 (c .if1 .taken))
 
 returns : tie.Need-returns
 returns c = rw (c .before .if1 .taken) (c .nearest .ensures)

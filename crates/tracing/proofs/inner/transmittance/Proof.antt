@@ -12,8 +12,7 @@ transmittance-requires : tie.Need-transmittance-requires
 unfolding hitRoom
 transmittance-requires c κs =
     let s = c .before .before .before .before .before .before .before .before .before .before .before .before .before in
-    let t = s .pre .1 .1 (c .before .before .if1 .taken) in
-    (sound-unread _ _ (s .pre .0), (t .0, (t .1, s .pre .1 .0)))
+    (sound-unread _ _ (s .pre .0), (s .pre .1 .1 (c .before .before .if1 .taken), s .pre .1 .0))
 
 same-length : tie.Need-same-length
 same-length c = search needs

@@ -10,12 +10,12 @@ use Rattle.walk.proofs.inner.walk.Statement.{statement}
 use Rattle.walk.proofs.inner.walk.Tie as tie
 
 abbrev Inv-loop : tie.InvT-loop
-Inv-loop axes corners points uses kinds numbers boxed boxes nodes order turned light ambient sky lamps table active lights volume₀ distances₀ places₀ start allowance n cost i₀ rays₀ volume distances places i rays =
+Inv-loop axes corners points uses kinds numbers boxed boxes nodes order rows light ambient sky lamps table active lights volume₀ distances₀ places₀ start allowance n cost i₀ rays₀ volume distances places i rays =
     SoFar (inputOf axes corners (sceneFor boxed points uses kinds numbers boxes nodes order) light ambient sky lamps active lights (length distances₀) (length places₀)) volume₀ distances₀ places₀
     start allowance volume distances places i rays
 
 abbrev μ-loop : tie.MeasureT-loop
-μ-loop axes corners points uses kinds numbers boxed boxes nodes order turned light ambient sky lamps table active lights volume₀ distances₀ places₀ start allowance n cost i₀ rays₀ volume distances places i rays =
+μ-loop axes corners points uses kinds numbers boxed boxes nodes order rows light ambient sky lamps table active lights volume₀ distances₀ places₀ start allowance n cost i₀ rays₀ volume distances places i rays =
     length lights - i
 
 voxel-cost-requires : tie.Need-voxel-cost-requires Inv-loop μ-loop
