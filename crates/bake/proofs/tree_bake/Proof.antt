@@ -2,7 +2,6 @@
 use Rattle.bake.proofs.Parts.{total-fits, refused, accepts, answers}
 use mathlib.Core.Path.{refl}
 use native.Mathlib.Omega.{arith}
-use Rattle.tree.specs.TreesLaws.{few-triangles}
 use borrow.Author.Needs.{needs}
 use Rattle.bake.proofs.tree_bake.Statement.{statement}
 use Rattle.bake.proofs.tree_bake.Tie as tie
@@ -29,7 +28,7 @@ slice-aggregate-lay c = search needs
 lay-requires : tie.Need-lay-requires
 lay-requires c κs =
     let f = accepts (c .before .before .judge .ensures) (c .before .if1 .left) in
-    (f .tree refl, (omega (arith, few-triangles _ (f .scene)), omega arith))
+    (f .tree refl, (omega (arith, f .scene .points, f .scene .triangles), omega arith))
 
 slice-aggregate-go-on : tie.Need-slice-aggregate-go-on
 slice-aggregate-go-on c = search needs

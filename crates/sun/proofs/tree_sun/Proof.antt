@@ -1,7 +1,6 @@
 -- `sun::tree_sun` meets its contract: what is not refused fits the grid and its tree is accepted, and the pass over it leaves what it should; a refused call leaves all lists alone.
 use mathlib.Core.Path.{_≡_, refl, sym, _∙_}
 use native.Mathlib.Omega.{arith}
-use Rattle.tree.specs.TreesLaws.{few-triangles}
 use Rattle.names.specs.Refusals.{unlessRefused, kept}
 use Rattle.sun.specs.SunLaws.{sun-ready}
 use borrow.Author.Needs.{needs}
@@ -18,7 +17,7 @@ slice-aggregate-lay c = search needs
 lay-requires : tie.Need-lay-requires
 lay-requires c κs =
     let r = sun-ready _ _ _ _ _ _ _ _ _ _ (sym (c .before .before .judge .ensures) ∙ c .before .if1 .taken) in
-    (r .tree-stands refl, (omega (arith, few-triangles _ (r .traceable .scene-fits)), omega arith))
+    (r .tree-stands refl, (omega (arith, r .traceable .scene-fits .points, r .traceable .scene-fits .triangles), omega arith))
 
 slice-aggregate-pass : tie.Need-slice-aggregate-pass
 slice-aggregate-pass c = search needs
