@@ -27,7 +27,7 @@ placesUnder nodes order (suc levels) i =
     cond (innerAt nodes i) (placesUnder nodes order levels (leftAt nodes i) ++ placesUnder nodes order levels (rightAt nodes i)) (runPlaces nodes order i (countAt nodes i))
 
 -- box i has at most so many levels
-data Levels (nodes : List ℕ) : ℕ → ℕ → Type 0 where
+pub data Levels (nodes : List ℕ) : ℕ → ℕ → Type 0 where
   leaf : {n i : ℕ} → innerAt nodes i ≡ false → Levels nodes (suc n) i
   halves : {n i : ℕ} → innerAt nodes i ≡ true → Levels nodes n (leftAt nodes i) → Levels nodes n (rightAt nodes i) → Levels nodes (suc n) i
 
@@ -77,7 +77,7 @@ length-stands n (x ∷ l) h =
 
 module _ (points boxes : List Float) (nodes order : List ℕ) (t : AcceptedTree points boxes nodes order) where
   -- as many levels as there are boxes are enough, since children follow their parents
-  follow-levels : (n i : ℕ) → i < boxCount nodes → boxCount nodes ≤ i + n → Levels nodes n i
+  pub follow-levels : (n i : ℕ) → i < boxCount nodes → boxCount nodes ≤ i + n → Levels nodes n i
   follow-levels zero i h k = absurd (omega arith)
   follow-levels (suc n) i h k = by (innerAt nodes i) refl (follow-levels n)
     where
@@ -89,7 +89,7 @@ module _ (points boxes : List Float) (nodes order : List ℕ) (t : AcceptedTree 
       by false q rec = leaf q
 
   -- and so are those of the depth
-  depth-levels : (n i d : ℕ) → i < boxCount nodes → Deep nodes i d → d + n ≡ suc depthLimit → Levels nodes n i
+  pub depth-levels : (n i d : ℕ) → i < boxCount nodes → Deep nodes i d → d + n ≡ suc depthLimit → Levels nodes n i
   depth-levels zero i d h k e = absurd (omega (arith, t .shallow i d k))
   depth-levels (suc n) i d h k e = by (innerAt nodes i) refl (λ j b c. depth-levels n j (suc d) b c (omega arith))
     where
