@@ -1,7 +1,7 @@
 -- `tree_rows::inner::pattern_at` meets its contract: a number that is no NaN has one pattern, below 2^32.
 use native.Mathlib.Omega.{arith}
-use mathlib.Core.Path.{_≡_, refl, sym, ap, subst}
-use mathlib.Core.Bool.{Bool, false, not}
+use mathlib.Core.Path.{refl, sym, subst}
+use mathlib.Core.Bool.{Bool, not}
 use borrow.Author.Needs.{needs}
 use lib.Dec.{T}
 use lib.Ieee.{binary32}
