@@ -91,7 +91,7 @@ module _ (uses kinds : List ℕ) where
   CollectedOf dark hs = (h : Struck) × List·Memᴰ h hs × (stopsLight (kindAt uses kinds (h .place)) ≡ true)
   CollectedOf (came gs) hs = (hs ≡ sortOf gs) × NoneOpaque uses kinds hs × Numbers gs
 
-  meet-kept : (c : Collected) (hs : List Struck) (i : ℕ) (m : Meet) → NumberMeet m → CollectedOf c hs → CollectedOf (collectMeet uses kinds c i m) (withMeet hs i m)
+  pub meet-kept : (c : Collected) (hs : List Struck) (i : ℕ) (m : Meet) → NumberMeet m → CollectedOf c hs → CollectedOf (collectMeet uses kinds c i m) (withMeet hs i m)
   unfolding collectMeet withMeet
   meet-kept dark hs i Miss n r = r
   meet-kept dark hs i (Hit t u v front) n r = (r .0, put-kept (struck t i) hs (r .1), r .2)
@@ -107,7 +107,7 @@ module _ (uses kinds : List ℕ) where
       )
 
 module _ (scene : Scene) where
-  pass-collected : (c : Collected) (hs : List Struck) → CollectedOf (scene .uses) (scene .kinds) c hs → passCollected scene c ≡ passHits scene hs
+  pub pass-collected : (c : Collected) (hs : List Struck) → CollectedOf (scene .uses) (scene .kinds) c hs → passCollected scene c ≡ passHits scene hs
   unfolding passCollected
   pass-collected dark hs r = sym (opaque-leaves (scene .uses) (scene .kinds) (scene .numbers) one32 (r .0) hs (r .1) (r .2))
   pass-collected (came gs) hs r =
