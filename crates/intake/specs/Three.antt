@@ -1,15 +1,16 @@
 -- A good input: a grid of 3×1×1 voxels, all active, no triangles, a black sky. It is accepted at an allowance of 384 rays, and refused 10 at 383;
 -- with one lamp accepted at 448, and refused 10 at 447. Its mask is the word 7: with a bit of another voxel set, 15, it is refused 13, and with a word
--- more or none 3. A progress whose rays do not fit what the mask says is refused 9.
-use mathlib.Core.Path.{_≡_, refl}
-use mathlib.Core.List.{List, [], _∷_, map}
+-- more or none 3. A progress whose rays do not fit what the mask says is refused 9, a box tree that is not accepted 16.
+use mathlib.Core.Path.{_≡_, refl, ap}
+use mathlib.Core.Bool.{Bool, false}
+use mathlib.Core.List.{List, [], _∷_, _++_, map}
 use Prim.Native.Nat.{ℕ}
-use lib.ListN.{replicate}
+use lib.ListN.{getD, replicate}
 use lib.Ieee as Ieee
 use lib.Ieee.{Float, ofBits, ofInt}
-use Rattle.names.specs.Bits.{lit, zero32, one32, inf32}
+use Rattle.names.specs.Bits.{lit, zero32, one32, two32, inf32}
 use Rattle.names.specs.Refusals.{firstOf}
-use Rattle.names.specs.Scene.{Scene, sceneOf, otherKind}
+use Rattle.names.specs.Scene.{Scene, sceneOf, treeScene, otherKind}
 use Rattle.lists.specs.Any.{any}
 use Rattle.lists.specs.Fold.{fold, tab}
 use Rattle.spread.specs.Spread.{progressOf, atZero, Stage, stage}
@@ -19,6 +20,7 @@ use Rattle.grid.specs.Grid.{edgesOf}
 use Rattle.lists.specs.Some.{some}
 use Rattle.limits.specs.Limits.{within, upTo, outsideV, badAxes, badCorners, badEdges, wrongShare, wrongScene, tooMany, badPoints, badKinds, badFrom, badUses, badMaterials, badDirection, badLight, badAmbient, badSky, lampAt, badLamp, badLamps, badLights, badCoefficients}
 use Rattle.tree.specs.Trees.{notAccepted}
+use Rattle.tree.specs.TreeFigures.{raisedTo, boxFrom, accepted-trees, refused-trees}
 use Rattle.words.specs.Words.{entriesOf, unusedSet}
 use Rattle.intake.specs.Intake.{BakeInput, inputOf, solidInput, wrongLengths, wrongBakeLists, badLighting, badProgress, badVolume, badContents, bakeRows, bakeRefusal}
 
@@ -114,3 +116,43 @@ pub solid-judged : (map (λ (kind : ℕ). bakeRefusal (solidAbout kind zero32 (v
     × (bakeRefusal (solidAbout 1 zero32 (vec zero32 zero32 one32)) (stage atZero [] []) 384 ≡ 3)
 unfolding bakeRefusal bakeRows firstOf some within upTo outsideV badAxes badCorners badEdges wrongShare wrongScene tooMany badPoints badKinds badFrom badUses badMaterials otherKind badDirection badLight badAmbient badSky unusedSet badLights badCoefficients wrongLengths wrongBakeLists badLighting badLamp badLamps lampAt any badProgress entriesOf tab fold badVolume badContents edgesOf dotV ofBits ofInt Ieee.add Ieee.sub Ieee.mul Ieee.div Ieee.neg Ieee.le Ieee.lt Ieee.eq notAccepted
 solid-judged = (refl, refl, refl, refl, refl, refl, refl)
+
+-- ---- with a box tree: the same grid about the two sheets of tree's figures, of one material, in one leaf
+
+-- both stand in its run; and a run that leaves the upper one out
+abbrev good : List ℕ
+good = 2 ∷ 0 ∷ 7 ∷ []
+
+abbrev bad : List ℕ
+bad = 1 ∷ 0 ∷ 0 ∷ []
+
+abbrev pub sheetsAbout : List ℕ → ℕ → Vec3 → List Float → List ℕ → ℕ → BakeInput
+sheetsAbout nodes kind direction lamps active hits =
+    inputOf (three .axes) (three .corners)
+    (treeScene (raisedTo zero32 ++ raisedTo one32) (0 ∷ 0 ∷ []) (kind ∷ []) (one32 ∷ one32 ∷ one32 ∷ zero32 ∷ zero32 ∷ zero32 ∷ one32 ∷ [])
+    (boxFrom (lit 0xbf800000) two32) nodes (0 ∷ 1 ∷ []))
+    (record { direction = direction; colour = vec one32 one32 one32 }) (three .ambient) (three .sky) lamps active (three .lights) hits hits
+
+abbrev upward : Vec3
+upward = vec zero32 zero32 one32
+
+-- the good tree is taken with each kind and with a lamp, and what comes after it asked. The bad one is refused 16: before a bad record's 9, an allowance's 10 and an unused bit's 13,
+-- after nine lamps' 19, a bad direction's 7, a bad material's 6 and short hit scratch's 3
+pub tree-judged : (
+    bakeRefusal (sheetsAbout good 0 upward [] (7 ∷ []) 2) begun 384
+    ∷ bakeRefusal (sheetsAbout good 1 upward [] (7 ∷ []) 2) begun 384
+    ∷ bakeRefusal (sheetsAbout good 2 upward oneLamp (7 ∷ []) 2) (under 1 448) 448
+    ∷ bakeRefusal (sheetsAbout good 0 upward [] (15 ∷ []) 2) (under 4 192) 383
+    ∷ []
+    ≡ 0 ∷ 0 ∷ 0 ∷ 9 ∷ [])
+    × (
+    bakeRefusal (sheetsAbout bad 0 upward [] (7 ∷ []) 2) begun 384
+    ∷ bakeRefusal (sheetsAbout bad 0 upward [] (15 ∷ []) 2) (under 4 192) 383
+    ∷ bakeRefusal (sheetsAbout bad 0 upward (replicate 54 one32) (15 ∷ []) 2) (under 4 192) 383
+    ∷ bakeRefusal (sheetsAbout bad 0 (vec zero32 zero32 zero32) [] (15 ∷ []) 2) (under 4 192) 383
+    ∷ bakeRefusal (sheetsAbout bad 3 upward [] (15 ∷ []) 2) (under 4 192) 383
+    ∷ bakeRefusal (sheetsAbout bad 0 upward [] (15 ∷ []) 1) (under 4 192) 383
+    ∷ []
+    ≡ 16 ∷ 16 ∷ 19 ∷ 7 ∷ 6 ∷ 3 ∷ [])
+unfolding bakeRefusal bakeRows raisedTo firstOf some within upTo outsideV badAxes badCorners badEdges wrongShare wrongScene tooMany badPoints badKinds badFrom badUses badMaterials otherKind badDirection badLight badAmbient badSky unusedSet badLights badCoefficients wrongLengths wrongBakeLists badLighting badLamp badLamps lampAt any badProgress entriesOf tab fold badVolume badContents edgesOf dotV ofBits ofInt Ieee.add Ieee.sub Ieee.mul Ieee.div Ieee.neg Ieee.le Ieee.lt Ieee.eq notAccepted
+tree-judged = (rw (ap (λ (l : List Bool). getD l 0 false) accepted-trees), rw (ap (λ (l : List Bool). getD l 0 false) refused-trees))

@@ -1,10 +1,8 @@
 -- What a walk through an accepted tree collected, as the code takes it: there is room for it, its distances are numbers, its places are the scene's, and what passes is the transmittance. Assumes nothing.
 use mathlib.Core.Path.{_≡_, refl, sym, ap, subst, _∙_}
 use mathlib.Core.Bool.{true}
-use mathlib.Core.List.{List, [], _∷_, List·Memᴰ, List·Memᴰ·head, List·Memᴰ·tail, List·Memᴰ·not-nil}
-use mathlib.Core.Logic.{⊎-elim}
-use Prim.Native.Nat.{ℕ, zero, suc, _+_, _<_}
-use native.Mathlib.Nat.{not-suc-le-zero, le-of-suc-le-suc}
+use mathlib.Core.List.{List, []}
+use Prim.Native.Nat.{ℕ, suc, _+_, _<_}
 use native.Mathlib.Omega.{arith}
 use borrow.Author.Tests.{eq-eqb, ne-eqb}
 use lib.ListN.{length, getD}
@@ -13,41 +11,19 @@ use Rattle.names.specs.Bits.{zero32, one32}
 use Rattle.names.specs.Numbers.{depthLimit}
 use Rattle.names.specs.Scene.{Scene, Sound, otherKind, hitRoom, HitsFit}
 use Rattle.vectors.specs.declared.Ray.{Ray}
-use Rattle.triangle.specs.declared.Meet.{Meet}
-use Rattle.triangle.specs.declared.Meet.the-variants.{Miss, Hit}
-use Rattle.hits.specs.Hits.{Struck, struck, withMeet, placesOf, paired, hitsOf}
-use Rattle.hits.specs.HitLaws.{put-only}
+use Rattle.hits.specs.Hits.{Struck, placesOf, paired}
+use Rattle.hits.specs.HitLaws.{places-below}
 use Rattle.hits.specs.Merge.{insertAll, sortOf, Numbers}
 use Rattle.scan.specs.OpaqueLaws.{clearPassOf}
 use Rattle.tree.specs.Tree.{boxCount, AcceptedTree}
 use Rattle.tree_walk.specs.declared.Gained.the-variants.{Hits}
-use Rattle.tree_walk.specs.Boxed.{boxedMeetAt, hitsBoxed, transmittanceBoxed}
+use Rattle.tree_walk.specs.Boxed.{boxedOf, transmittanceBoxed}
 use Rattle.tree_walk.specs.Walk.{nodeVisit, treeVisit, hitsThrough}
 use Rattle.tree_walk.specs.WalkLaws.{walk-hits}
 use Rattle.tree_walk.specs.UnderLaws.{placesUnder, root-room}
 use Rattle.tree_walk.specs.Collect.{Collected, dark, came, collectStep, passCollected}
 use Rattle.tree_walk.specs.CollectLaws.{CollectedOf, walk-collects, walk-collected}
 use Rattle.tree_walk.specs.Kept.{collectedBy, RoomFor}
-
--- ---- places
-
-boxed-below : (scene : Scene) (ray : Ray) (n : ℕ) (h : Struck) → List·Memᴰ h (hitsBoxed scene ray n) → h .place < n
-unfolding hitsOf withMeet
-boxed-below scene ray zero h m = absurd (List·Memᴰ·not-nil m)
-boxed-below scene ray (suc n) h m = by (boxedMeetAt scene ray n) (boxed-below scene ray n h) m
-  where
-    by : (x : Meet) → (List·Memᴰ h (hitsBoxed scene ray n) → h .place < n) → List·Memᴰ h (withMeet (hitsBoxed scene ray n) n x) → h .place < suc n
-    by Miss rec k = omega (arith, rec k)
-    by (Hit t u v front) rec k =
-        ⊎-elim
-        (λ e. let p : h .place ≡ n = ap (λ (x : Struck). x .place) e in omega (arith, p))
-        (λ l. omega (arith, rec l))
-        (put-only (struck t n) (hitsBoxed scene ray n) k)
-
-places-below : (n : ℕ) (hs : List Struck) → ((h : Struck) → List·Memᴰ h hs → h .place < n) → (j : ℕ) → j < length (placesOf hs) → getD (placesOf hs) j 0 < n
-places-below n [] f j p = absurd (not-suc-le-zero p)
-places-below n (h ∷ hs) f zero p = f h (List·Memᴰ·head refl)
-places-below n (h ∷ hs) f (suc j) p = places-below n hs (λ g m. f g (List·Memᴰ·tail m)) j (le-of-suc-le-suc p)
 
 module _ (scene : Scene) (sound : Sound scene) (boxes : List Float) (nodes order : List ℕ) (t : AcceptedTree (scene .points) boxes nodes order) where
   -- ---- room
@@ -92,5 +68,4 @@ module _ (scene : Scene) (sound : Sound scene) (boxes : List Float) (nodes order
       came-numbers = came-is .2
 
       pub came-below : (j : ℕ) → j < length (placesOf (sortOf gs)) → getD (placesOf (sortOf gs)) j 0 < length (scene .uses)
-      came-below =
-          rw (sym (came-is .0) ∙ walk-hits scene sound boxes nodes order t ray) (places-below (length (scene .uses)) (hitsBoxed scene ray (length (scene .uses))) (boxed-below scene ray (length (scene .uses))))
+      came-below = rw (sym (came-is .0) ∙ walk-hits scene sound boxes nodes order t ray) (places-below (boxedOf scene) ray (length (scene .uses)))

@@ -8,7 +8,7 @@ use native.Mathlib.Nat.{eq-or-lt-of-le}
 use native.Mathlib.Omega.{arith}
 use lib.ListN.{length, getD}
 use lib.Ieee.{Float}
-use Rattle.names.specs.Scene.{sceneOf, otherKind}
+use Rattle.names.specs.Scene.{otherKind}
 use Rattle.names.specs.SolidLaws.{none-other}
 use Rattle.vectors.specs.declared.Ray.{Ray}
 use Rattle.triangle.specs.Meet.{meetOf}
@@ -21,7 +21,6 @@ use Rattle.scan.specs.Nearest.{nearerOf}
 use Rattle.scan.specs.declared.Nearest.{Nearest}
 use Rattle.tree.specs.Tree.{boxCount, countAt, innerAt, firstAt, leftAt, placeAt}
 use Rattle.tree_walk.specs.Boxed.{boxedAt, nearestStep}
-use Rattle.tree_walk.specs.BoxedLaws.{boxed-missed}
 use Rattle.tree_walk.specs.FoldLaws.{foldOf, fold-append}
 use Rattle.tree_walk.specs.Spans.{spanPlaces, SpanFits, run-span}
 use Rattle.tree_walk.specs.Walk.{runVisit, TreeFits}
@@ -83,7 +82,7 @@ module _ (points : List Float) (uses kinds order : List ℕ) (turned : List Floa
   span-missed ray k j a b m l c d =
       let w = fits .placeFits l (omega arith) (omega arith) in
       let s = fits .turnedFits .same l (omega (arith, fits .spanFits)) (omega (arith, fits .pointsFit)) in
-      boxed-missed (sceneOf points uses kinds []) ray (getD order l 0) (by-missed false points uses kinds ray (getD order l 0) (missed-at points uses kinds ray (getD order l 0) (ap (meetOf ray) (sym s) ∙ m l c d)))
+      by-missed true points uses kinds ray (getD order l 0) (missed-at points uses kinds ray (getD order l 0) (ap (meetOf ray) (sym s) ∙ m l c d))
 
 -- ---- going through it, from place to place
 

@@ -1,13 +1,12 @@
 -- What a scan through boxes meets: a hit's distance is a number; nothing of an absent triangle; and where no hit's own padded box is passed over, what the scan
--- without boxes meets, so that every old answer stands. What its nearest hit is. Assumes nothing.
+-- without boxes meets, so that every old answer stands. What its nearest hit is the laws of any scene say. Assumes nothing.
 use mathlib.Core.Path.{_≡_, refl, sym, ap, _∙_}
 use mathlib.Core.Bool.{Bool, true, false, not, false≢true}
-use mathlib.Core.Logic.{_↔_}
 use Prim.Native.Nat.{ℕ, zero, suc, _/_, _<_}
 use native.Mathlib.Omega.{arith}
 use borrow.Author.Tests.{lt-ltb}
 use lib.ListN.{length}
-use lib.Ieee.{Float, isNan}
+use lib.Ieee.{Float}
 use Rattle.names.specs.Scene.{Scene}
 use Rattle.vectors.specs.declared.Ray.{Ray}
 use Rattle.triangle.specs.Meet.{absentOf}
@@ -16,16 +15,13 @@ use Rattle.triangle.specs.Places.{triangleAt}
 use Rattle.triangle.specs.declared.Meet.{Meet}
 use Rattle.triangle.specs.declared.Meet.the-variants.{Miss, Hit}
 use Rattle.panels.specs.Panels.{ownPassed, metBy, meetAt}
-use Rattle.panels.specs.PanelLaws.{missed-at, by-missed}
+use Rattle.panels.specs.PanelLaws.{missed-at, by-missed, by-list}
 use Rattle.hits.specs.Hits.{hitsOf}
 use Rattle.hits.specs.BeforeLaws.{hit-number}
-use Rattle.scan.specs.Nearest.{nearerOf, nearestTo, nearestOf}
+use Rattle.scan.specs.Nearest.{nearestTo, nearestOf}
 use Rattle.scan.specs.Transmittance.{transmittanceOf}
-use Rattle.scan.specs.declared.Nearest.{Nearest}
-use Rattle.scan.specs.declared.Nearest.the-variants.{Nothing, At}
-use Rattle.scan_laws.specs.BestLaws.{bestTo, IsBest, AllMisses, best-is-best, nothing-is-misses, misses-is-nothing, best-is-answered}
 use Rattle.tree.specs.Tree.{presentAt}
-use Rattle.tree_walk.specs.Boxed.{boxedOf, plainOf, boxedAt, boxedMeetAt, nearestBoxedTo, nearestBoxed, hitsBoxed, passHits, transmittanceBoxed}
+use Rattle.tree_walk.specs.Boxed.{plainOf, boxedMeetAt, nearestBoxedTo, nearestBoxed, hitsBoxed, passHits, transmittanceBoxed}
 use Rattle.tree_walk.specs.SwapLaws.{NumberMeet}
 
 module _ (scene : Scene) (ray : Ray) where
@@ -39,35 +35,22 @@ module _ (scene : Scene) (ray : Ray) where
   unfolding metBy
   boxed-met i h = rw h refl
 
-  -- a boxed hit is one of the scan without boxes, and its own box is not passed over
-  pub boxed-hit : (i : ℕ) (t u v : Float) (front : Bool) → boxedMeetAt scene ray i ≡ Hit t u v front
-      → (meetAt (plainOf scene) ray i ≡ Hit t u v front) × (ownPassed (scene .points) ray i ≡ false)
-  boxed-hit i t u v front e = by (ownPassed (scene .points) ray i) refl
-    where
-      by : (b : Bool) → ownPassed (scene .points) ray i ≡ b → (meetAt (plainOf scene) ray i ≡ Hit t u v front) × (ownPassed (scene .points) ray i ≡ false)
-      by true h = let m = boxed-over i h in absurd (false≢true cc)
-      by false h = (sym (boxed-met i h) ∙ e, h)
-
   pub boxed-number : (i : ℕ) → NumberMeet (boxedMeetAt scene ray i)
   boxed-number i = by (boxedMeetAt scene ray i) refl
     where
       by : (m : Meet) → boxedMeetAt scene ray i ≡ m → NumberMeet m
       by Miss e = tt
-      by (Hit t u v front) e = hit-number false (scene .points) (scene .uses) (scene .kinds) ray i t u v front (boxed-hit i t u v front e .0)
+      by (Hit t u v front) e = hit-number true (scene .points) (scene .uses) (scene .kinds) ray i t u v front e
 
   pub boxed-missed : (i : ℕ) → meetAt (plainOf scene) ray i ≡ Miss → boxedMeetAt scene ray i ≡ Miss
-  boxed-missed i e = by (ownPassed (scene .points) ray i) refl
-    where
-      by : (b : Bool) → ownPassed (scene .points) ray i ≡ b → boxedMeetAt scene ray i ≡ Miss
-      by true h = boxed-over i h
-      by false h = boxed-met i h ∙ e
+  boxed-missed i e = by-missed true (scene .points) (scene .uses) (scene .kinds) ray i (sym (by-list (scene .points) (scene .uses) (scene .kinds) ray i) ∙ e)
 
   -- an absent triangle is met nowhere
   pub boxed-absent : (i : ℕ) → i < length (scene .points) / 9 → presentAt (scene .points) i ≡ false → boxedMeetAt scene ray i ≡ Miss
   unfolding presentAt
   boxed-absent i h e =
-      boxed-missed i (by-missed false (scene .points) (scene .uses) (scene .kinds) ray i (missed-at (scene .points) (scene .uses) (scene .kinds) ray i
-      (absent-missed ray (triangleAt (scene .points) i) (by (absentOf (triangleAt (scene .points) i)) (rw (lt-ltb i (length (scene .points) / 9) h) at e)))))
+      by-missed true (scene .points) (scene .uses) (scene .kinds) ray i (missed-at (scene .points) (scene .uses) (scene .kinds) ray i
+      (absent-missed ray (triangleAt (scene .points) i) (by (absentOf (triangleAt (scene .points) i)) (rw (lt-ltb i (length (scene .points) / 9) h) at e))))
     where
       by : (b : Bool) → not b ≡ false → b ≡ true
       by true k = refl
@@ -106,35 +89,3 @@ module _ (scene : Scene) (ray : Ray) where
     pub transmittance-same : transmittanceBoxed scene ray ≡ transmittanceOf (plainOf scene) ray
     unfolding transmittanceOf
     transmittance-same = ap (passHits scene) (hits-same (length (scene .uses)) none)
-
-  -- ---- what the nearest is
-
-  -- among the first n triangles
-  abbrev pub IsNearestBoxed : ℕ → ℕ → Float → Float → Float → Bool → Type 0
-  IsNearestBoxed n i t u v front = IsBest (boxedMeetAt scene ray) n i t u v front
-
-  boxed-best : (n : ℕ) → nearestBoxedTo scene ray n ≡ bestTo (boxedMeetAt scene ray) n
-  unfolding nearestTo
-  boxed-best zero = refl
-  boxed-best (suc n) = ap (λ (b : Nearest). nearerOf b n (boxedMeetAt scene ray n)) (boxed-best n)
-
-  -- a hit is answered exactly where it is the nearest
-  pub boxed-exactly : (i : ℕ) (t u v : Float) (front : Bool) → (nearestBoxed scene ray ≡ At i t u v front) ↔ IsNearestBoxed (length (scene .uses)) i t u v front
-  unfolding nearestOf
-  boxed-exactly i t u v front =
-      let n = length (scene .uses) in (
-        λ e. best-is-best (boxedMeetAt scene ray) n i t u v front (sym (boxed-best n) ∙ e),
-        λ h. boxed-best n ∙ best-is-answered (boxedMeetAt scene ray) number n i t u v front h,
-      )
-    where
-      number : (j : ℕ) (s p q : Float) (side : Bool) → boxedMeetAt scene ray j ≡ Hit s p q side → isNan s ≡ false
-      number j s p q side e = hit-number false (scene .points) (scene .uses) (scene .kinds) ray j s p q side (boxed-hit j s p q side e .0)
-
-  -- and nothing exactly where all are missed
-  pub boxed-nothing : (nearestBoxed scene ray ≡ Nothing) ↔ AllMisses (boxedMeetAt scene ray) (length (scene .uses))
-  unfolding nearestOf
-  boxed-nothing =
-      let n = length (scene .uses) in (
-        λ e. nothing-is-misses (boxedMeetAt scene ray) n (sym (boxed-best n) ∙ e),
-        λ h. boxed-best n ∙ misses-is-nothing (boxedMeetAt scene ray) n h,
-      )

@@ -1,11 +1,9 @@
 -- `tree_walk::inner::boxed_meet` meets its contract: what is missed is a miss, whether its own box is passed over or not, so that the box need be asked at a hit alone.
 use mathlib.Core.Path.{sym, _∙_}
-use mathlib.Core.List.{[]}
-use Rattle.names.specs.Scene.{sceneOf}
+use mathlib.Core.Bool.{true}
 use Rattle.panels.specs.Panels.{metBy}
 use Rattle.tree_walk.specs.Boxed.{boxedAt}
-use Rattle.panels.specs.PanelLaws.{by-list}
-use Rattle.tree_walk.specs.BoxedLaws.{boxed-missed}
+use Rattle.panels.specs.PanelLaws.{by-missed}
 use borrow.Author.Needs.{needs}
 use Rattle.tree_walk.proofs.inner.boxed_meet.Statement.{statement}
 use Rattle.tree_walk.proofs.inner.boxed_meet.Tie as tie
@@ -29,7 +27,7 @@ returns c = rw (← c .before .own-passed .ensures, c .if1 .taken)
 returns-2 : tie.Need-returns-2
 returns-2 c =
     let e = c .enum-told .given .1 in
-    e ∙ sym (boxed-missed (sceneOf _ _ _ []) _ _ (by-list _ _ _ _ _ ∙ sym (c .before .before .meet-at .ensures) ∙ e))
+    e ∙ sym (by-missed true _ _ _ _ _ (sym (c .before .before .meet-at .ensures) ∙ e))
 
 returns-3 : tie.Need-returns-3
 unfolding metBy
