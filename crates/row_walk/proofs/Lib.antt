@@ -1,3 +1,2 @@
--- One turn of the loop over the rows; what was collected when it has ended.
+-- One turn of the loop over the rows.
 pub mod Turns
-pub mod Gone

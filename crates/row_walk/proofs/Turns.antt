@@ -8,18 +8,18 @@ use native.Mathlib.Nat.{eq-or-lt-of-le}
 use native.Mathlib.Omega.{arith}
 use lib.ListN.{length, getD}
 use lib.Ieee.{Float}
-use Rattle.names.specs.Scene.{Scene, Sound, otherKind, hitRoom, HitsFit}
+use Rattle.names.specs.Scene.{Scene, Sound, HitsFit}
 use Rattle.vectors.specs.declared.Ray.{Ray}
 use Rattle.triangle.specs.Missed.{Missed}
 use Rattle.triangle.specs.declared.Meet.the-variants.{Miss}
 use Rattle.boxes.specs.Boxes.{passedOver}
-use Rattle.panels.specs.Panels.{ownPassed}
 use Rattle.tree_walk.specs.Boxed.{boxedAt}
 use Rattle.tree_walk.specs.BoxedLaws.{boxed-over}
 use Rattle.tree_walk.specs.FoldLaws.{foldOf, fold-append}
 use Rattle.tree_walk.specs.Spans.{spanPlaces}
 use Rattle.tree_walk.specs.ListedLaws.{listed-room}
 use Rattle.tree_walk.specs.Collect.{Collected, dark, collectMeet, collectStep}
+use Rattle.tree_walk.specs.CollectLaws.{listed-fits}
 use Rattle.tree_walk.specs.Kept.{RoomFor}
 use Rattle.tree_walk.proofs.Going.{span-missed}
 use Rattle.tree_rows.specs.Rows.{rowBounds, rowAfter, rowFirst, rowCount, rowPlaces, placesTo, Rowed}
@@ -105,10 +105,6 @@ module _ (points : List Float) (uses kinds : List ℕ) (ray : Ray) (order : List
       (eq-or-lt-of-le h)
 
 module _ (scene : Scene) (sound : Sound scene) (order : List ℕ) (n : ℕ) (rows : List Float) (r : Rowed (scene .points) order n rows) where
-  all-room : otherKind (scene .kinds) ≡ true → hitRoom scene ≡ length (scene .uses)
-  unfolding hitRoom
-  all-room o = rw o refl
-
   -- no more hits than triangles of the rows, and there is room for them
   pub rows-most : (k m : ℕ) → k ≤ n → m ≤ length (placesTo order rows k) → m ≤ length (scene .uses)
   rows-most k m h a = omega (arith, rows-longer order rows k n h, listed-room scene sound (placesTo order rows n) (r .once))
@@ -118,5 +114,7 @@ module _ (scene : Scene) (sound : Sound scene) (order : List ℕ) (n : ℕ) (row
 
   pub turn-room : (k m left d p : ℕ) → k < n → m ≤ length (placesTo order rows k) → left ≤ rowCount rows k → HitsFit scene d p → RoomFor (scene .kinds) (m + left) d p
   turn-room k m left d p h a b f o =
-      let t = rows-most (k + 1) (m + left) (omega arith) (turn-most k m left (m + left) a b (omega arith)) in
-      (omega (arith, all-room o, f .0), omega (arith, all-room o, f .1))
+      let t = turn-most k m left (m + left) a b (omega arith) in
+      let u = rows-longer order rows (k + 1) n (omega arith) in
+      let w = listed-fits scene sound (placesTo order rows n) (r .once) d p f o in
+      (omega (arith, w .0), omega (arith, w .1))

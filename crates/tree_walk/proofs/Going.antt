@@ -17,11 +17,12 @@ use Rattle.triangle.specs.declared.Meet.the-variants.{Miss, Hit}
 use Rattle.panels.specs.Panels.{kindAt, stopsLight}
 use Rattle.panels.specs.PanelLaws.{missed-at, by-missed}
 use Rattle.hits.specs.Hits.{Struck, struck}
-use Rattle.scan.specs.Nearest.{nearerOf}
 use Rattle.scan.specs.declared.Nearest.{Nearest}
-use Rattle.tree.specs.Tree.{boxCount, countAt, innerAt, firstAt, leftAt, placeAt}
+use Rattle.tree.specs.Tree.{boxCount, countAt, innerAt, leftAt, placeAt}
 use Rattle.tree_walk.specs.Boxed.{boxedAt, nearestStep}
 use Rattle.tree_walk.specs.FoldLaws.{foldOf, fold-append}
+use Rattle.tree_walk.specs.ListedLaws.{nearer-missed}
+use Rattle.tree_walk.specs.CollectLaws.{collect-missed}
 use Rattle.tree_walk.specs.Spans.{spanPlaces, SpanFits, run-span}
 use Rattle.tree_walk.specs.Walk.{runVisit, TreeFits}
 use Rattle.tree_walk.specs.Collect.{Collected, dark, came, collectMeet, collectStep}
@@ -29,14 +30,11 @@ use Rattle.tree_walk.specs.Collect.{Collected, dark, came, collectMeet, 
 -- ---- what is missed adds nothing
 
 module _ (points : List Float) (uses kinds : List ℕ) (ray : Ray) (p : ℕ) (e : boxedAt points uses kinds ray p ≡ Miss) where
-  pub nearest-missed : (held : Nearest) → nearestStep points uses kinds ray held p ≡ held
-  unfolding nearerOf
-  nearest-missed held = rw e refl
+  pub nearest-none : (held : Nearest) → nearestStep points uses kinds ray held p ≡ held
+  nearest-none held = nearer-missed held p (boxedAt points uses kinds ray p) e
 
-  pub collect-missed : (held : Collected) → collectStep points uses kinds ray held p ≡ held
-  unfolding collectMeet
-  collect-missed dark = refl
-  collect-missed (came hs) = rw e refl
+  pub collect-none : (held : Collected) → collectStep points uses kinds ray held p ≡ held
+  collect-none held = collect-missed uses kinds held p (boxedAt points uses kinds ray p) e
 
 -- ---- a hit, where hits are collected
 

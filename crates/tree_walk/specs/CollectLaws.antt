@@ -1,57 +1,42 @@
--- What passes after the hits that a walk through an accepted tree collects is the transmittance over the boxed triangles. Assumes nothing.
-use mathlib.Core.Path.{_≡_, refl, sym, ap, _∙_}
+-- What passes after the hits that were collected of a list of places, each present triangle once among them, is the transmittance over the boxed triangles; a walk through an accepted tree goes
+-- through such a list. Assumes nothing.
+use mathlib.Core.Path.{_≡_, refl, sym, ap, subst, _∙_}
 use mathlib.Core.Bool.{Bool, true, false, cond}
 use mathlib.Core.List.{List, [], _∷_, _++_, List·Memᴰ, List·Memᴰ·not-nil}
-use Prim.Native.Nat.{ℕ, zero, suc}
-use lib.Dec.{eqb}
+use Prim.Native.Nat.{ℕ, zero, suc, _<_}
+use native.Mathlib.Omega.{arith}
+use lib.ListN.{length, getD}
 use lib.Ieee.{Float}
-use Rattle.names.specs.Bits.{one32}
-use Rattle.names.specs.Numbers.{depthLimit}
-use Rattle.names.specs.Scene.{Scene, Sound}
+use Rattle.names.specs.Bits.{zero32, one32}
+use Rattle.names.specs.Scene.{Scene, Sound, hitRoom, HitsFit}
 use Rattle.vectors.specs.declared.Ray.{Ray}
 use Rattle.triangle.specs.declared.Meet.{Meet}
 use Rattle.triangle.specs.declared.Meet.the-variants.{Miss, Hit}
 use Rattle.panels.specs.Panels.{kindAt, stopsLight}
 use Rattle.hits.specs.Hits.{Struck, struck, insertOf, withMeet, placesOf}
-use Rattle.hits.specs.HitLaws.{put-here, put-kept}
+use Rattle.hits.specs.HitLaws.{put-here, put-kept, places-below}
 use Rattle.hits.specs.Merge.{insertAll, sortOf, Numbers}
 use Rattle.hits.specs.MergeLaws.{insert-all-append, numbers-append}
 use Rattle.scan.specs.OpaqueLaws.{clearPassOf, NoneOpaque, opaque-leaves, clear-pass, none-opaque-put}
+use Rattle.scan.specs.Transmittance.{transmittanceOf}
 use Rattle.boxes.specs.Boxes.{boundsAt, passedOver}
-use Rattle.tree.specs.Tree.{boxCount, countAt, innerAt, leftAt, rightAt, placeAt, AcceptedTree}
-use Rattle.tree_walk.specs.Boxed.{boxedMeetAt, hitsStep, passHits, transmittanceBoxed}
-use Rattle.tree_walk.specs.Walk.{runVisit, nodeVisit, treeVisit, hitsThrough, transmittanceThrough}
+use Rattle.tree.specs.Tree.{countAt, innerAt, leftAt, rightAt, placeAt, presentAt, one, AcceptedTree}
+use Rattle.tree_walk.specs.Boxed.{boxedOf, boxedMeetAt, hitsStep, hitsBoxed, passHits, transmittanceBoxed}
+use Rattle.tree_walk.specs.Walk.{runVisit, nodeVisit, treeVisit}
 use Rattle.tree_walk.specs.SwapLaws.{NumberMeet}
-use Rattle.tree_walk.specs.BoxedLaws.{boxed-number}
-use Rattle.tree_walk.specs.WalkLaws.{walk-transmittance}
+use Rattle.tree_walk.specs.BoxedLaws.{boxed-over, boxed-number}
+use Rattle.tree_walk.specs.FoldLaws.{standsIn, foldOf}
+use Rattle.tree_walk.specs.UnderLaws.{treePlaces}
+use Rattle.tree_walk.specs.ListedLaws.{listed-room, listed-hits}
+use Rattle.tree_walk.specs.WalkLaws.{walk-listed}
 use Rattle.tree_walk.specs.Collect.{Collected, dark, came, collectMeet, collectStep, passCollected}
+use Rattle.tree_walk.specs.Kept.{RoomFor}
 
--- ---- two walks side by side: what the steps keep, the walks keep
-
-module _ {A B : Type 0} (f : A → ℕ → A) (g : B → ℕ → B) (R : A → B → Type 0) (kept : (a : A) (b : B) (p : ℕ) → R a b → R (f a p) (g b p)) (ray : Ray)
-    (boxes : List Float) (nodes order : List ℕ) where
-  run-kept : (i k : ℕ) (a : A) (b : B) → R a b → R (runVisit f nodes order i k a) (runVisit g nodes order i k b)
-  unfolding runVisit
-  run-kept i zero a b r = r
-  run-kept i (suc k) a b r = kept _ _ (placeAt nodes order i k) (run-kept i k a b r)
-
-  abbrev NodeKept : ℕ → Type 0
-  NodeKept levels = (i : ℕ) (a : A) (b : B) → R a b → R (nodeVisit f ray boxes nodes order levels i a) (nodeVisit g ray boxes nodes order levels i b)
-
-  pick : (c : Bool) (a a′ : A) (b b′ : B) → R a b → R a′ b′ → R (cond c a a′) (cond c b b′)
-  pick true a a′ b b′ r s = r
-  pick false a a′ b b′ r s = s
-
-  node-kept : (levels : ℕ) → NodeKept levels
-  unfolding nodeVisit
-  node-kept zero i a b r = r
-  node-kept (suc levels) i a b r =
-      pick (passedOver (ray .origin) (ray .direction) (boundsAt boxes i)) _ _ _ _ r
-      (pick (innerAt nodes i) _ _ _ _ (node-kept levels (rightAt nodes i) _ _ (node-kept levels (leftAt nodes i) a b r)) (run-kept i (countAt nodes i) a b r))
-
-  pub tree-kept : (a : A) (b : B) → R a b → R (treeVisit f ray boxes nodes order a) (treeVisit g ray boxes nodes order b)
-  unfolding treeVisit
-  tree-kept a b r = pick (eqb (boxCount nodes) 0) _ _ _ _ r (node-kept (suc depthLimit) 0 a b r)
+-- what the steps keep, two goings keep
+fold-both : {A B : Type 0} (f : A → ℕ → A) (g : B → ℕ → B) (R : A → B → Type 0) → ((a : A) (b : B) (p : ℕ) → R a b → R (f a p) (g b p))
+    → (a : A) (b : B) (l : List ℕ) → R a b → R (foldOf f a l) (foldOf g b l)
+fold-both f g R kept a b [] r = r
+fold-both f g R kept a b (p ∷ l) r = fold-both f g R kept (f a p) (g b p) l (kept a b p r)
 
 -- ---- after a hit that stops light nothing is added, so that a walk may end there
 
@@ -80,6 +65,12 @@ unfolding collectMeet
 node-dark points uses kinds ray boxes nodes order levels i = node-still (collectStep points uses kinds ray) dark (λ p. refl) ray boxes nodes order levels i
 
 -- ---- what is collected, beside the hits in order
+
+-- a miss adds nothing
+pub collect-missed : (uses kinds : List ℕ) (c : Collected) (i : ℕ) (m : Meet) → m ≡ Miss → collectMeet uses kinds c i m ≡ c
+unfolding collectMeet
+collect-missed uses kinds dark i m e = refl
+collect-missed uses kinds (came hs) i m e = rw e refl
 
 insert-last : (h : Struck) (gs : List Struck) → sortOf (gs ++ (h ∷ [])) ≡ insertOf h (sortOf gs)
 unfolding insertAll
@@ -114,17 +105,58 @@ module _ (scene : Scene) where
       ap (λ (ks : List Struck). clearPassOf (scene .uses) (scene .numbers) one32 (placesOf ks)) (sym (r .0))
       ∙ sym (clear-pass (scene .uses) (scene .kinds) (scene .numbers) one32 hs (r .1))
 
-  -- what a walk through any tree collects stands beside its hits
-  pub walk-collects : (boxes : List Float) (nodes order : List ℕ) (ray : Ray)
-      → CollectedOf (scene .uses) (scene .kinds) (treeVisit (collectStep (scene .points) (scene .uses) (scene .kinds) ray) ray boxes nodes order (came [])) (hitsThrough scene boxes nodes order ray)
-  unfolding hitsThrough insertAll
-  walk-collects boxes nodes order ray =
-      tree-kept (collectStep (scene .points) (scene .uses) (scene .kinds) ray) (hitsStep (scene .points) (scene .uses) (scene .kinds) ray) (CollectedOf (scene .uses) (scene .kinds))
-      (λ c hs p r. meet-kept (scene .uses) (scene .kinds) c hs p (boxedMeetAt scene ray p) (boxed-number scene ray p) r)
-      ray boxes nodes order (came []) [] (refl, (λ h m. absurd (List·Memᴰ·not-nil m)), tt)
+-- ---- of a list in which each present triangle stands once
 
-  -- through an accepted tree it leaves the transmittance
-  pub walk-collected : Sound scene → (boxes : List Float) (nodes order : List ℕ) → AcceptedTree (scene .points) boxes nodes order → (ray : Ray)
-      → passCollected scene (treeVisit (collectStep (scene .points) (scene .uses) (scene .kinds) ray) ray boxes nodes order (came [])) ≡ transmittanceBoxed scene ray
-  unfolding transmittanceThrough
-  walk-collected sound boxes nodes order t ray = pass-collected _ (hitsThrough scene boxes nodes order ray) (walk-collects boxes nodes order ray) ∙ walk-transmittance scene sound boxes nodes order t ray
+abbrev pub collectedOver : Scene → Ray → List ℕ → Collected
+collectedOver scene ray = foldOf (collectStep (scene .points) (scene .uses) (scene .kinds) ray) (came [])
+
+module _ (scene : Scene) (sound : Sound scene) (l : List ℕ) (once : (p : ℕ) → standsIn p l ≡ one (presentAt (scene .points) p)) where
+  -- there is room for as many hits as stand in it
+  pub listed-fits : (d p : ℕ) → HitsFit scene d p → RoomFor (scene .kinds) (length l) d p
+  unfolding hitRoom
+  listed-fits d p f o =
+      let r : hitRoom scene ≡ length (scene .uses) = rw o refl in
+      let m = listed-room scene sound l once in
+      (omega (arith, f .0), omega (arith, f .1))
+
+  module _ (ray : Ray) where
+    -- what is collected stands beside the hits, and leaves the transmittance
+    listed-collects : CollectedOf (scene .uses) (scene .kinds) (collectedOver scene ray l) (hitsBoxed scene ray (length (scene .uses)))
+    unfolding insertAll
+    listed-collects =
+        subst (CollectedOf (scene .uses) (scene .kinds) (collectedOver scene ray l)) (listed-hits scene sound l once ray)
+        (fold-both (collectStep (scene .points) (scene .uses) (scene .kinds) ray) (hitsStep (scene .points) (scene .uses) (scene .kinds) ray) (CollectedOf (scene .uses) (scene .kinds))
+        (λ c hs p r. meet-kept (scene .uses) (scene .kinds) c hs p (boxedMeetAt scene ray p) (boxed-number scene ray p) r)
+        (came []) [] l (refl, (λ h m. absurd (List·Memᴰ·not-nil m)), tt))
+
+    pub listed-collected : passCollected scene (collectedOver scene ray l) ≡ transmittanceBoxed scene ray
+    unfolding transmittanceOf
+    listed-collected = pass-collected scene _ (hitsBoxed scene ray (length (scene .uses))) listed-collects
+
+    -- as the code takes it: a hit that stops light
+    pub dark-passes : dark ≡ collectedOver scene ray l → zero32 ≡ transmittanceBoxed scene ray
+    unfolding passCollected
+    dark-passes e = ap (passCollected scene) e ∙ listed-collected
+
+    -- or hits: their distances are numbers, their places are the scene's, and what passes is the transmittance
+    module _ (gs : List Struck) (e : came gs ≡ collectedOver scene ray l) where
+      pub came-passes : clearPassOf (scene .uses) (scene .numbers) one32 (placesOf (sortOf gs)) ≡ transmittanceBoxed scene ray
+      unfolding passCollected
+      came-passes = ap (passCollected scene) e ∙ listed-collected
+
+      came-is : CollectedOf (scene .uses) (scene .kinds) (came gs) (hitsBoxed scene ray (length (scene .uses)))
+      came-is = subst (λ (c : Collected). CollectedOf (scene .uses) (scene .kinds) c (hitsBoxed scene ray (length (scene .uses)))) (sym e) listed-collects
+
+      pub came-numbers : Numbers gs
+      came-numbers = came-is .2
+
+      pub came-below : (j : ℕ) → j < length (placesOf (sortOf gs)) → getD (placesOf (sortOf gs)) j 0 < length (scene .uses)
+      came-below = rw (sym (came-is .0)) (places-below (boxedOf scene) ray (length (scene .uses)))
+
+-- ---- through an accepted tree
+
+pub walk-collects : (scene : Scene) (boxes : List Float) (nodes order : List ℕ) → AcceptedTree (scene .points) boxes nodes order → (ray : Ray)
+    → treeVisit (collectStep (scene .points) (scene .uses) (scene .kinds) ray) ray boxes nodes order (came []) ≡ collectedOver scene ray (treePlaces nodes order)
+walk-collects scene boxes nodes order t ray =
+    walk-listed (scene .points) boxes nodes order t ray (collectStep (scene .points) (scene .uses) (scene .kinds) ray)
+    (λ c p h. collect-missed (scene .uses) (scene .kinds) c p (boxedMeetAt scene ray p) (boxed-over scene ray p h)) (came [])

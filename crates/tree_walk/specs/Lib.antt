@@ -9,9 +9,9 @@ pub mod FoldLaws
 pub mod Spans
 pub mod CountLaws
 pub mod UnderLaws
+pub mod ListedLaws
 pub mod WalkLaws
 pub mod Collect
 pub mod Kept
 pub mod CollectLaws
-pub mod ListedLaws
 pub mod BoxedFigures

@@ -1,39 +1,50 @@
 -- A list in which each present triangle of a scene stands once, and no other place: going through it, in whatever order it has, comes to the scan over the triangles whose own padded box is not
 -- passed over. Assumes nothing.
-use mathlib.Core.Path.{_≡_, refl, subst, _∙_}
+use mathlib.Core.Path.{_≡_, refl, ap, _∙_}
 use mathlib.Core.Bool.{Bool, true, false}
-use mathlib.Core.List.{List, [], _∷_, List·Memᴰ·not-nil}
-use Prim.Native.Nat.{ℕ, zero, suc, _*_, _/_, _≤_, _<_}
+use mathlib.Core.List.{List, []}
+use Prim.Native.Nat.{ℕ, zero, suc, _≤_}
 use native.Mathlib.Omega.{arith}
-use borrow.Author.Tests.{le-ltb}
 use lib.ListN.{length}
 use Rattle.names.specs.Scene.{Scene, Sound}
 use Rattle.vectors.specs.declared.Ray.{Ray}
 use Rattle.triangle.specs.declared.Meet.{Meet}
 use Rattle.triangle.specs.declared.Meet.the-variants.{Miss}
-use Rattle.hits.specs.Hits.{Struck, withMeet}
-use Rattle.hits.specs.Merge.{insertAll, Numbers}
-use Rattle.scan.specs.Nearest.{nearerOf, nearestOf}
-use Rattle.scan.specs.Transmittance.{transmittanceOf}
+use Rattle.hits.specs.Hits.{Struck, withMeet, hitsOf}
+use Rattle.hits.specs.Merge.{Numbers}
+use Rattle.scan.specs.Nearest.{nearerOf, nearestTo, nearestOf}
 use Rattle.scan.specs.declared.Nearest.{Nearest}
 use Rattle.scan.specs.declared.Nearest.the-variants.{Nothing}
 use Rattle.tree.specs.Tree.{presentAt, one, sumTo}
 use Rattle.tree.specs.SumLaws.{one-most, sum-less, sum-ones}
 use Rattle.tree.specs.TestLaws.{present-within}
-use Rattle.tree_walk.specs.Boxed.{boxedMeetAt, nearestStep, nearestBoxed, hitsStep, hitsBoxed, passHits, transmittanceBoxed}
+use Rattle.tree_walk.specs.Boxed.{boxedMeetAt, nearestStep, nearestBoxedTo, nearestBoxed, hitsStep, hitsBoxed}
 use Rattle.tree_walk.specs.SwapLaws.{NumberHeld, nearer-swap, nearer-number, hits-swap, hits-numbers}
 use Rattle.tree_walk.specs.BoxedLaws.{boxed-number, boxed-absent}
 use Rattle.tree_walk.specs.FoldLaws.{standsIn, foldOf, scanFrom, fold-scan}
 use Rattle.tree_walk.specs.UnderLaws.{length-stands}
-use Rattle.tree_walk.specs.WalkLaws.{nearest-scan, hits-scan, nearer-missed, hits-missed}
-use Rattle.tree_walk.specs.Collect.{Collected, came, collectStep, passCollected}
-use Rattle.tree_walk.specs.CollectLaws.{CollectedOf, meet-kept, pass-collected}
 
--- what the steps keep, two goings keep
-fold-both : {A B : Type 0} (f : A → ℕ → A) (g : B → ℕ → B) (R : A → B → Type 0) → ((a : A) (b : B) (p : ℕ) → R a b → R (f a p) (g b p))
-    → (a : A) (b : B) (l : List ℕ) → R a b → R (foldOf f a l) (foldOf g b l)
-fold-both f g R kept a b [] r = r
-fold-both f g R kept a b (p ∷ l) r = fold-both f g R kept (f a p) (g b p) l (kept a b p r)
+-- ---- what is missed adds nothing, and the scan is going through all places
+
+pub nearer-missed : (b : Nearest) (i : ℕ) (m : Meet) → m ≡ Miss → nearerOf b i m ≡ b
+unfolding nearerOf
+nearer-missed b i m e = rw e refl
+
+pub hits-missed : (hs : List Struck) (i : ℕ) (m : Meet) → m ≡ Miss → withMeet hs i m ≡ hs
+unfolding withMeet
+hits-missed hs i m e = rw e refl
+
+nearest-scan : (scene : Scene) (ray : Ray) (n : ℕ) → scanFrom (nearestStep (scene .points) (scene .uses) (scene .kinds) ray) Nothing n ≡ nearestBoxedTo scene ray n
+unfolding nearestTo
+nearest-scan scene ray zero = refl
+nearest-scan scene ray (suc n) = ap (λ (b : Nearest). nearerOf b n (boxedMeetAt scene ray n)) (nearest-scan scene ray n)
+
+hits-scan : (scene : Scene) (ray : Ray) (n : ℕ) → scanFrom (hitsStep (scene .points) (scene .uses) (scene .kinds) ray) [] n ≡ hitsBoxed scene ray n
+unfolding hitsOf
+hits-scan scene ray zero = refl
+hits-scan scene ray (suc n) = ap (λ (hs : List Struck). withMeet hs n (boxedMeetAt scene ray n)) (hits-scan scene ray n)
+
+-- ---- the list
 
 module _ (scene : Scene) (sound : Sound scene) (l : List ℕ) (once : (p : ℕ) → standsIn p l ≡ one (presentAt (scene .points) p)) where
   none-past : (p : ℕ) → length (scene .uses) ≤ p → standsIn p l ≡ 0
@@ -72,16 +83,3 @@ module _ (scene : Scene) (sound : Sound scene) (l : List ℕ) (once : (p : ℕ) 
         (λ hs p h e. hits-missed hs p (boxedMeetAt scene ray p) (boxed-absent scene ray p (omega (arith, sound .points)) e))
         l (λ p h. once p) none-past
         ∙ hits-scan scene ray (length (scene .uses))
-
-    -- what is collected stands beside the hits, and leaves the transmittance
-    pub listed-collects : CollectedOf (scene .uses) (scene .kinds) (foldOf (collectStep (scene .points) (scene .uses) (scene .kinds) ray) (came []) l) (hitsBoxed scene ray (length (scene .uses)))
-    unfolding insertAll
-    listed-collects =
-        subst (CollectedOf (scene .uses) (scene .kinds) (foldOf (collectStep (scene .points) (scene .uses) (scene .kinds) ray) (came []) l)) listed-hits
-        (fold-both (collectStep (scene .points) (scene .uses) (scene .kinds) ray) (hitsStep (scene .points) (scene .uses) (scene .kinds) ray) (CollectedOf (scene .uses) (scene .kinds))
-        (λ c hs p r. meet-kept (scene .uses) (scene .kinds) c hs p (boxedMeetAt scene ray p) (boxed-number scene ray p) r)
-        (came []) [] l (refl, (λ h m. absurd (List·Memᴰ·not-nil m)), tt))
-
-    pub listed-collected : passCollected scene (foldOf (collectStep (scene .points) (scene .uses) (scene .kinds) ray) (came []) l) ≡ transmittanceBoxed scene ray
-    unfolding transmittanceOf
-    listed-collected = pass-collected scene _ (hitsBoxed scene ray (length (scene .uses))) listed-collects

@@ -4,7 +4,7 @@ use mathlib.Core.List.{List, [], _∷_, _++_}
 use Prim.Native.Nat.{ℕ, zero, suc, _+_, _*_, _≤_, _<_}
 use lib.ListN.{length, getD}
 use lib.Ieee.{Float}
-use Rattle.tree.specs.Tree.{firstAt, leftAt, placeAt}
+use Rattle.tree.specs.Tree.{firstAt, placeAt}
 use Rattle.tree_walk.specs.Turned.{Turned}
 use Rattle.tree_walk.specs.Walk.{runVisit}
 use Rattle.tree_walk.specs.FoldLaws.{foldOf, fold-append}

@@ -2,16 +2,15 @@
 use mathlib.Core.Path.{_≡_, refl, sym, ap, _∙_}
 use mathlib.Core.Bool.{Bool, true, false, cond}
 use mathlib.Core.List.{List, [], _∷_, _++_}
-use Prim.Native.Nat.{ℕ, zero, suc, _+_, _/_, _≤_, _<_}
+use Prim.Native.Nat.{ℕ, zero, suc, _+_, _≤_, _<_}
 use native.Mathlib.Omega.{arith}
-use borrow.Author.Tests.{ltb-true, ltb-false}
+use borrow.Author.Tests.{eqb-true, eqb-false, ltb-true, ltb-false}
 use lib.Dec.{eqb, ltb}
 use lib.ListN.{length, length-append}
 use lib.Ieee.{Float}
 use Rattle.names.specs.Numbers.{depthLimit}
 use Rattle.tree.specs.Tree.{boxCount, countAt, innerAt, leftAt, rightAt, placeAt, presentAt, sumTo, one, runTo, leafOf, standsTo, Deep, root, left, right, AcceptedTree}
-use Rattle.tree.specs.SumLaws.{one-most, one-self, sum-less, sum-plus, sum-none, sum-ones, sum-hit}
-use Rattle.tree.specs.TestLaws.{present-within}
+use Rattle.tree.specs.SumLaws.{one-self, sum-plus, sum-none, sum-hit, positive}
 use Rattle.tree_walk.specs.FoldLaws.{standsIn, stands-append}
 use Rattle.tree_walk.specs.CountLaws.{under-first}
 
@@ -133,18 +132,15 @@ module _ (points boxes : List Float) (nodes order : List ℕ) (t : AcceptedTree 
       by true e = t .standsOnce p e
       by false e = t .othersNowhere p e
 
-  -- so under the root no more stand than the scene has triangles: room for that many hits is enough
-  pub root-room : 0 < boxCount nodes → length (placesUnder nodes order (suc depthLimit) 0) ≤ length points / 9
-  root-room h =
-      let l = placesUnder nodes order (suc depthLimit) 0 in
-      let n = length points / 9 in
-      let a : length l ≡ sumTo (λ p. standsIn p l) n = length-stands n l (λ p k. root-stands h p ∙ past p k) in
-      let b : sumTo (λ p. standsIn p l) n ≤ sumTo (λ p. 1) n = sum-less (λ p. standsIn p l) (λ p. 1) n (λ p _. omega (arith, root-stands h p, one-most (presentAt points p))) in
-      omega (arith, sum-ones n)
-    where
-      past : (p : ℕ) → length points / 9 ≤ p → one (presentAt points p) ≡ 0
-      past p k = by (presentAt points p) refl
-        where
-          by : (b : Bool) → presentAt points p ≡ b → one b ≡ 0
-          by true e = absurd (omega (arith, present-within points p e))
-          by false e = refl
+-- ---- the places of a whole tree, none of the empty one
+unfoldable pub treePlaces : List ℕ → List ℕ → List ℕ
+treePlaces nodes order = cond (eqb (boxCount nodes) 0) [] (placesUnder nodes order (suc depthLimit) 0)
+
+-- in an accepted one each present triangle stands once, and no other
+pub tree-once : (points boxes : List Float) (nodes order : List ℕ) → AcceptedTree points boxes nodes order → (p : ℕ) → standsIn p (treePlaces nodes order) ≡ one (presentAt points p)
+unfolding treePlaces
+tree-once points boxes nodes order t p = by (eqb (boxCount nodes) 0) refl
+  where
+    by : (b : Bool) → eqb (boxCount nodes) 0 ≡ b → standsIn p (cond b [] (placesUnder nodes order (suc depthLimit) 0)) ≡ one (presentAt points p)
+    by true q = rw (t .emptyThereOnly .0 (eqb-true (boxCount nodes) 0 q) p) refl
+    by false q = root-stands points boxes nodes order t (positive (boxCount nodes) (eqb-false (boxCount nodes) 0 q)) p

@@ -4,36 +4,30 @@
 use mathlib.Core.Path.{_≡_, refl, sym, ap, _∙_}
 use mathlib.Core.Bool.{Bool, true, false, cond}
 use mathlib.Core.List.{List, [], _∷_, _++_}
-use Prim.Native.Nat.{ℕ, zero, suc, _*_, _/_, _≤_, _<_}
+use Prim.Native.Nat.{ℕ, zero, suc, _/_, _<_}
 use native.Mathlib.Omega.{arith}
-use borrow.Author.Tests.{le-ltb, eqb-true, eqb-false}
+use borrow.Author.Tests.{eqb-false}
 use lib.Dec.{eqb}
 use lib.ListN.{length}
 use lib.Ieee.{Float}
 use Rattle.names.specs.Numbers.{depthLimit}
 use Rattle.names.specs.Scene.{Scene, Sound}
 use Rattle.vectors.specs.declared.Ray.{Ray}
-use Rattle.triangle.specs.declared.Meet.{Meet}
-use Rattle.triangle.specs.declared.Meet.the-variants.{Miss}
-use Rattle.hits.specs.Hits.{Struck, withMeet, hitsOf}
-use Rattle.hits.specs.Merge.{Numbers}
-use Rattle.scan.specs.Nearest.{nearerOf, nearestTo, nearestOf}
 use Rattle.scan.specs.Transmittance.{transmittanceOf}
 use Rattle.panels.specs.Panels.{ownPassed}
-use Rattle.scan.specs.declared.Nearest.{Nearest}
 use Rattle.scan.specs.declared.Nearest.the-variants.{Nothing}
 use Rattle.boxes.specs.Boxes.{boundsAt, passedOver}
-use Rattle.tree.specs.Tree.{boxCount, countAt, innerAt, leftAt, rightAt, placeAt, presentAt, one, AcceptedTree}
+use Rattle.tree.specs.Tree.{boxCount, countAt, innerAt, leftAt, rightAt, placeAt, AcceptedTree}
 use Rattle.tree.specs.SumLaws.{positive}
 use Rattle.tree.specs.TestLaws.{present-within}
 use Rattle.tree.specs.AcceptedLaws.{leaf-present, halves-passed, triangles-passed}
-use Rattle.tree_walk.specs.Boxed.{boxedMeetAt, nearestStep, nearestBoxedTo, nearestBoxed, hitsStep, hitsBoxed, passHits, transmittanceBoxed}
+use Rattle.tree_walk.specs.Boxed.{boxedMeetAt, nearestStep, nearestBoxed, hitsStep, hitsBoxed, passHits, transmittanceBoxed}
 use Rattle.tree_walk.specs.Turned.{Turned}
 use Rattle.tree_walk.specs.Walk.{runVisit, nodeVisit, treeVisit, nearestThrough, hitsThrough, transmittanceThrough, TreeFits}
-use Rattle.tree_walk.specs.SwapLaws.{NumberHeld, nearer-swap, nearer-number, hits-swap, hits-numbers}
-use Rattle.tree_walk.specs.BoxedLaws.{boxed-over, boxed-number, boxed-absent}
-use Rattle.tree_walk.specs.FoldLaws.{foldOf, scanFrom, fold-append, fold-scan}
-use Rattle.tree_walk.specs.UnderLaws.{runPlaces, placesUnder, root-stands}
+use Rattle.tree_walk.specs.BoxedLaws.{boxed-over}
+use Rattle.tree_walk.specs.FoldLaws.{foldOf, fold-append}
+use Rattle.tree_walk.specs.UnderLaws.{runPlaces, placesUnder, treePlaces, tree-once}
+use Rattle.tree_walk.specs.ListedLaws.{nearer-missed, hits-missed, listed-nearest, listed-hits}
 
 -- ---- a walk for any step
 
@@ -95,50 +89,17 @@ module _ (points boxes : List Float) (nodes order : List ℕ) (t : AcceptedTree 
       by true e rec = sym (under-over (suc levels) i s h e)
       by false e rec = inside (innerAt nodes i) refl rec
 
-  -- the walk from the root is the scan over the first n triangles, if there are no more
-  pub walk-scan : (Good : S → Type 0) → ((s : S) (i : ℕ) → Good s → Good (step s i))
-      → ((s : S) (i j : ℕ) → Good s → (i ≡ j → ⊥) → step (step s i) j ≡ step (step s j) i)
-      → (n : ℕ) → length points ≡ n * 9 → ((s : S) (p : ℕ) → p < n → presentAt points p ≡ false → step s p ≡ s)
-      → (s : S) → Good s → treeVisit step ray boxes nodes order s ≡ scanFrom step s n
-  unfolding treeVisit presentAt
-  walk-scan Good kept swap n e absent s g = by (eqb (boxCount nodes) 0) refl
+  -- the walk from the root goes through all that stands in the tree
+  pub walk-listed : (s : S) → treeVisit step ray boxes nodes order s ≡ foldOf step s (treePlaces nodes order)
+  unfolding treeVisit treePlaces
+  walk-listed s = by (eqb (boxCount nodes) 0) refl
     where
-      beyond-absent : (p : ℕ) → n ≤ p → presentAt points p ≡ false
-      beyond-absent p h = rw (le-ltb p (length points / 9) (omega arith)) refl
-
-      none : ((p : ℕ) → presentAt points p ≡ false) → (m : ℕ) → m ≤ n → s ≡ scanFrom step s m
-      none a zero h = refl
-      none a (suc m) h = none a m (omega arith) ∙ sym (absent (scanFrom step s m) m h (a m))
-
-      by : (b : Bool) → eqb (boxCount nodes) 0 ≡ b → cond b s (nodeVisit step ray boxes nodes order (suc depthLimit) 0 s) ≡ scanFrom step s n
-      by true q = none (t .emptyThereOnly .0 (eqb-true (boxCount nodes) 0 q)) n (omega arith)
-      by false q =
-          let h : 0 < boxCount nodes = positive (boxCount nodes) (eqb-false (boxCount nodes) 0 q) in
-          visit-is (suc depthLimit) 0 s h
-          ∙ fold-scan step Good kept swap (presentAt points) s g n absent (placesUnder nodes order (suc depthLimit) 0)
-          (λ p _. root-stands points boxes nodes order t h p)
-          (λ p k. root-stands points boxes nodes order t h p ∙ ap one (beyond-absent p k))
+      by : (b : Bool) → eqb (boxCount nodes) 0 ≡ b
+          → cond b s (nodeVisit step ray boxes nodes order (suc depthLimit) 0 s) ≡ foldOf step s (cond b [] (placesUnder nodes order (suc depthLimit) 0))
+      by true q = refl
+      by false q = visit-is (suc depthLimit) 0 s (positive (boxCount nodes) (eqb-false (boxCount nodes) 0 q))
 
 -- ---- of a scene
-
-pub nearest-scan : (scene : Scene) (ray : Ray) (n : ℕ) → scanFrom (nearestStep (scene .points) (scene .uses) (scene .kinds) ray) Nothing n ≡ nearestBoxedTo scene ray n
-unfolding nearestTo
-nearest-scan scene ray zero = refl
-nearest-scan scene ray (suc n) = ap (λ (b : Nearest). nearerOf b n (boxedMeetAt scene ray n)) (nearest-scan scene ray n)
-
-pub hits-scan : (scene : Scene) (ray : Ray) (n : ℕ) → scanFrom (hitsStep (scene .points) (scene .uses) (scene .kinds) ray) [] n ≡ hitsBoxed scene ray n
-unfolding hitsOf
-hits-scan scene ray zero = refl
-hits-scan scene ray (suc n) = ap (λ (hs : List Struck). withMeet hs n (boxedMeetAt scene ray n)) (hits-scan scene ray n)
-
--- a miss adds nothing
-pub nearer-missed : (b : Nearest) (i : ℕ) (m : Meet) → m ≡ Miss → nearerOf b i m ≡ b
-unfolding nearerOf
-nearer-missed b i m e = rw e refl
-
-pub hits-missed : (hs : List Struck) (i : ℕ) (m : Meet) → m ≡ Miss → withMeet hs i m ≡ hs
-unfolding withMeet
-hits-missed hs i m e = rw e refl
 
 module _ (scene : Scene) (sound : Sound scene) (boxes : List Float) (nodes order : List ℕ) (t : AcceptedTree (scene .points) boxes nodes order) where
   -- no index of a walk through it lies past its list
@@ -160,31 +121,19 @@ module _ (scene : Scene) (sound : Sound scene) (boxes : List Float) (nodes order
 
   -- the nearest hit through an accepted tree
   pub walk-nearest : (ray : Ray) → nearestThrough scene boxes nodes order ray ≡ nearestBoxed scene ray
-  unfolding nearestThrough nearestOf
+  unfolding nearestThrough
   walk-nearest ray =
-      walk-scan (scene .points) boxes nodes order t ray (nearestStep (scene .points) (scene .uses) (scene .kinds) ray)
-      (λ b p h. nearer-missed b p (boxedMeetAt scene ray p) (boxed-over scene ray p h))
-      NumberHeld
-      (λ b i h. nearer-number b i (boxedMeetAt scene ray i) h (boxed-number scene ray i))
-      (λ b i j h d. nearer-swap b i j (boxedMeetAt scene ray i) (boxedMeetAt scene ray j) h (boxed-number scene ray i) (boxed-number scene ray j) d)
-      (length (scene .uses)) (sound .points)
-      (λ b p l h. nearer-missed b p (boxedMeetAt scene ray p) (boxed-absent scene ray p (omega (arith, sound .points)) h))
-      Nothing tt
-      ∙ nearest-scan scene ray (length (scene .uses))
+      walk-listed (scene .points) boxes nodes order t ray (nearestStep (scene .points) (scene .uses) (scene .kinds) ray)
+      (λ b p h. nearer-missed b p (boxedMeetAt scene ray p) (boxed-over scene ray p h)) Nothing
+      ∙ listed-nearest scene sound (treePlaces nodes order) (tree-once (scene .points) boxes nodes order t) ray
 
   -- the hits
   pub walk-hits : (ray : Ray) → hitsThrough scene boxes nodes order ray ≡ hitsBoxed scene ray (length (scene .uses))
   unfolding hitsThrough
   walk-hits ray =
-      walk-scan (scene .points) boxes nodes order t ray (hitsStep (scene .points) (scene .uses) (scene .kinds) ray)
-      (λ hs p h. hits-missed hs p (boxedMeetAt scene ray p) (boxed-over scene ray p h))
-      Numbers
-      (λ hs i h. hits-numbers hs i (boxedMeetAt scene ray i) h (boxed-number scene ray i))
-      (λ hs i j h d. hits-swap hs i j (boxedMeetAt scene ray i) (boxedMeetAt scene ray j) h (boxed-number scene ray i) (boxed-number scene ray j) d)
-      (length (scene .uses)) (sound .points)
-      (λ hs p l h. hits-missed hs p (boxedMeetAt scene ray p) (boxed-absent scene ray p (omega (arith, sound .points)) h))
-      [] tt
-      ∙ hits-scan scene ray (length (scene .uses))
+      walk-listed (scene .points) boxes nodes order t ray (hitsStep (scene .points) (scene .uses) (scene .kinds) ray)
+      (λ hs p h. hits-missed hs p (boxedMeetAt scene ray p) (boxed-over scene ray p h)) []
+      ∙ listed-hits scene sound (treePlaces nodes order) (tree-once (scene .points) boxes nodes order t) ray
 
   -- and what passes
   pub walk-transmittance : (ray : Ray) → transmittanceThrough scene boxes nodes order ray ≡ transmittanceBoxed scene ray

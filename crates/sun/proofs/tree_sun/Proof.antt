@@ -1,5 +1,5 @@
 -- `sun::tree_sun` meets its contract: what is not refused fits the grid and its tree is accepted, and the pass over it leaves what it should; a refused call leaves all lists alone.
-use mathlib.Core.Path.{_≡_, refl, sym, _∙_}
+use mathlib.Core.Path.{refl, sym, _∙_}
 use native.Mathlib.Omega.{arith}
 use Rattle.names.specs.Refusals.{unlessRefused, kept}
 use Rattle.sun.specs.SunLaws.{sun-ready}

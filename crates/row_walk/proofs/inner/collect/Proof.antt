@@ -1,7 +1,6 @@
 -- `row_walk::inner::collect` meets its contract. The loop's invariant: the first m hits of the two lists are what the triangles of the rows before row k come to; a hit that stops light is the whole
 -- answer.
 use mathlib.Core.Path.{_≡_, refl, sym, ap, _∙_}
-use mathlib.Core.Bool.{true}
 use mathlib.Core.List.{[]}
 use Prim.Native.Nat.{ℕ, _+_, _≤_, _<_, _-_, _/_}
 use native.Mathlib.Omega.{arith}
@@ -11,9 +10,9 @@ use Rattle.boxes.specs.Boxes.{passedOver}
 use Rattle.hits.specs.Hits.{paired}
 use Rattle.tree_walk.specs.FoldLaws.{foldOf}
 use Rattle.tree_walk.specs.Collect.{dark, came, collectStep}
-use Rattle.tree_walk.specs.Kept.{collectedBy, MetWithin}
+use Rattle.tree_walk.specs.Kept.{collectedBy}
 use Rattle.tree_walk.specs.declared.Gained.the-variants.{Hits}
-use Rattle.tree_walk.proofs.Going.{collect-missed}
+use Rattle.tree_walk.proofs.Going.{collect-none}
 use Rattle.tree_rows.specs.Rows.{placesTo}
 use Rattle.row_walk.specs.RowLaws.{rows-longer, row-fits}
 use Rattle.row_walk.proofs.Turns.{turn-over, turn-run, turn-clear, rows-dark, rows-most, turn-most, turn-room}
@@ -71,7 +70,7 @@ loop-again c =
       omega (arith, l .loop .inv .3, rows-longer (s .args .order .now) (s .args .rows .now) (l .loop .k) (c .after .result) (omega (arith, on .0, c .after .ensures))),
       l .loop .inv .4,
       l .loop .inv .5,
-      turn-over (sceneAt s) (s .pre .0) (s .args .order .now) _ (s .args .rows .now) (s .pre .1 .0) (s .args .ray) (collectStep (s .args .points .now) (s .args .uses .now) (s .args .kinds .now) (s .args .ray)) (came []) (λ p e x. collect-missed _ _ _ _ p e x) (collectedBy (Hits (l .loop .m)) (l .loop .distances) (l .loop .places)) (l .loop .k) (omega arith) (l .loop .inv .6) _ (c .after .ensures) (ap (passedOver _ _) (sym (p .before .bounds .ensures)) ∙ sym (p .passed-over .ensures) ∙ c .before .if1 .taken),
+      turn-over (sceneAt s) (s .pre .0) (s .args .order .now) _ (s .args .rows .now) (s .pre .1 .0) (s .args .ray) (collectStep (s .args .points .now) (s .args .uses .now) (s .args .kinds .now) (s .args .ray)) (came []) (λ p e x. collect-none _ _ _ _ p e x) (collectedBy (Hits (l .loop .m)) (l .loop .distances) (l .loop .places)) (l .loop .k) (omega arith) (l .loop .inv .6) _ (c .after .ensures) (ap (passedOver _ _) (sym (p .before .bounds .ensures)) ∙ sym (p .passed-over .ensures) ∙ c .before .if1 .taken),
     )
 
 -- ---- one that is not
@@ -143,7 +142,7 @@ returns c =
     let d = rw (c .enum-told .given .1) at (r .span-collect .ensures .0) in
     rw (c .enum-told .given .1) (
       rows-dark (s .args .points .now) (s .args .uses .now) (s .args .kinds .now) (s .args .ray) (s .args .order .now) (s .args .rows .now) (l .loop .k + 1) _ (came []) (omega (arith, there f))
-          (turn-run (sceneAt s) (s .pre .0) (s .args .order .now) _ (s .args .rows .now) (s .pre .1 .0) (s .args .ray) (collectStep (s .args .points .now) (s .args .uses .now) (s .args .kinds .now) (s .args .ray)) (came []) (λ p e x. collect-missed _ _ _ _ p e x) (collectedBy (Hits (l .loop .m)) (l .loop .distances) (l .loop .places)) (l .loop .k) (there f) (l .loop .inv .6) _ _ _ (f .before .before .first .ensures) (ap (λ (x : ℕ). f .before .before .first .result + x) (f .before .count .ensures)) (f .first-open .ensures .0) (f .first-open .ensures .1) (f .first-open .ensures .2) dark d),
+          (turn-run (sceneAt s) (s .pre .0) (s .args .order .now) _ (s .args .rows .now) (s .pre .1 .0) (s .args .ray) (collectStep (s .args .points .now) (s .args .uses .now) (s .args .kinds .now) (s .args .ray)) (came []) (λ p e x. collect-none _ _ _ _ p e x) (collectedBy (Hits (l .loop .m)) (l .loop .distances) (l .loop .places)) (l .loop .k) (there f) (l .loop .inv .6) _ _ _ (f .before .before .first .ensures) (ap (λ (x : ℕ). f .before .before .first .result + x) (f .before .count .ensures)) (f .first-open .ensures .0) (f .first-open .ensures .1) (f .first-open .ensures .2) dark d),
       tt,
     )
 
@@ -169,7 +168,7 @@ loop-again-2 c =
       turn-most (sceneAt s) (s .pre .0) (s .args .order .now) _ (s .args .rows .now) (s .pre .1 .0) (l .loop .k) (l .loop .m) _ _ (l .loop .inv .3) (omega (arith, f .before .before .first .ensures, f .before .count .ensures, f .first-open .ensures .0)) (w .0),
       omega (arith, a, w .1),
       omega (arith, b, w .2),
-      turn-run (sceneAt s) (s .pre .0) (s .args .order .now) _ (s .args .rows .now) (s .pre .1 .0) (s .args .ray) (collectStep (s .args .points .now) (s .args .uses .now) (s .args .kinds .now) (s .args .ray)) (came []) (λ p e x. collect-missed _ _ _ _ p e x) (collectedBy (Hits (l .loop .m)) (l .loop .distances) (l .loop .places)) (l .loop .k) (there f) (l .loop .inv .6) _ _ _ (f .before .before .first .ensures) (ap (λ (x : ℕ). f .before .before .first .result + x) (f .before .count .ensures)) (f .first-open .ensures .0) (f .first-open .ensures .1) (f .first-open .ensures .2) _ (rw e at (r .span-collect .ensures .0)),
+      turn-run (sceneAt s) (s .pre .0) (s .args .order .now) _ (s .args .rows .now) (s .pre .1 .0) (s .args .ray) (collectStep (s .args .points .now) (s .args .uses .now) (s .args .kinds .now) (s .args .ray)) (came []) (λ p e x. collect-none _ _ _ _ p e x) (collectedBy (Hits (l .loop .m)) (l .loop .distances) (l .loop .places)) (l .loop .k) (there f) (l .loop .inv .6) _ _ _ (f .before .before .first .ensures) (ap (λ (x : ℕ). f .before .before .first .result + x) (f .before .count .ensures)) (f .first-open .ensures .0) (f .first-open .ensures .1) (f .first-open .ensures .2) _ (rw e at (r .span-collect .ensures .0)),
     )
 
 loop-less-3 : tie.Need-loop-less-3 Inv-loop μ-loop
@@ -186,7 +185,7 @@ loop-again-3 c =
       turn-most (sceneAt s) (s .pre .0) (s .args .order .now) _ (s .args .rows .now) (s .pre .1 .0) (l .loop .k) (l .loop .m) 0 (l .loop .m) (l .loop .inv .3) (omega arith) (omega arith),
       l .loop .inv .4,
       l .loop .inv .5,
-      turn-clear (sceneAt s) (s .pre .0) (s .args .order .now) _ (s .args .rows .now) (s .pre .1 .0) (s .args .ray) (collectStep (s .args .points .now) (s .args .uses .now) (s .args .kinds .now) (s .args .ray)) (came []) (λ p e x. collect-missed _ _ _ _ p e x) (collectedBy (Hits (l .loop .m)) (l .loop .distances) (l .loop .places)) (l .loop .k) (there f) (l .loop .inv .6) _ _ _ (f .before .before .first .ensures) (ap (λ (x : ℕ). f .before .before .first .result + x) (f .before .count .ensures)) (f .first-open .ensures .0) (f .first-open .ensures .1) (f .first-open .ensures .2) (c .if2 .left),
+      turn-clear (sceneAt s) (s .pre .0) (s .args .order .now) _ (s .args .rows .now) (s .pre .1 .0) (s .args .ray) (collectStep (s .args .points .now) (s .args .uses .now) (s .args .kinds .now) (s .args .ray)) (came []) (λ p e x. collect-none _ _ _ _ p e x) (collectedBy (Hits (l .loop .m)) (l .loop .distances) (l .loop .places)) (l .loop .k) (there f) (l .loop .inv .6) _ _ _ (f .before .before .first .ensures) (ap (λ (x : ℕ). f .before .before .first .result + x) (f .before .count .ensures)) (f .first-open .ensures .0) (f .first-open .ensures .1) (f .first-open .ensures .2) (c .if2 .left),
     )
 
 same-length-3 : tie.Need-same-length-3 Inv-loop μ-loop

@@ -1,6 +1,5 @@
 -- `row_walk::inner::nearest` meets its contract. The loop's invariant: what is held is what the triangles of the rows before row k come to.
 use mathlib.Core.Path.{_≡_, refl, sym, ap, _∙_}
-use mathlib.Core.Bool.{true}
 use Prim.Native.Nat.{ℕ, _+_, _≤_, _<_, _-_, _/_}
 use native.Mathlib.Omega.{arith}
 use lib.ListN.{length}
@@ -10,7 +9,7 @@ use Rattle.scan.specs.declared.Nearest.the-variants.{Nothing}
 use Rattle.tree_walk.specs.Boxed.{nearestStep}
 use Rattle.tree_walk.specs.FoldLaws.{foldOf}
 use Rattle.tree_walk.specs.ListedLaws.{listed-nearest}
-use Rattle.tree_walk.proofs.Going.{nearest-missed}
+use Rattle.tree_walk.proofs.Going.{nearest-none}
 use Rattle.tree_rows.specs.Rows.{placesTo}
 use Rattle.row_walk.specs.RowLaws.{row-fits}
 use Rattle.row_walk.proofs.Turns.{turn-over, turn-run, turn-clear}
@@ -59,7 +58,7 @@ loop-again c =
     let s = l .before .before .before .before .before .before .before .before .before in
     let p = c .before .before in (
       omega (arith, s .pre .1 .forward (l .loop .k) (omega arith) .1, c .after .ensures),
-      turn-over (sceneAt s) (s .pre .0) (s .args .order .now) _ (s .args .rows .now) (s .pre .1) (s .args .ray) (nearestStep (s .args .points .now) (s .args .uses .now) (s .args .kinds .now) (s .args .ray)) Nothing (λ p e x. nearest-missed _ _ _ _ p e x) (l .loop .held) (l .loop .k) (omega arith) (l .loop .inv .1) _ (c .after .ensures) (ap (passedOver _ _) (sym (p .before .bounds .ensures)) ∙ sym (p .passed-over .ensures) ∙ c .before .if1 .taken),
+      turn-over (sceneAt s) (s .pre .0) (s .args .order .now) _ (s .args .rows .now) (s .pre .1) (s .args .ray) (nearestStep (s .args .points .now) (s .args .uses .now) (s .args .kinds .now) (s .args .ray)) Nothing (λ p e x. nearest-none _ _ _ _ p e x) (l .loop .held) (l .loop .k) (omega arith) (l .loop .inv .1) _ (c .after .ensures) (ap (passedOver _ _) (sym (p .before .bounds .ensures)) ∙ sym (p .passed-over .ensures) ∙ c .before .if1 .taken),
     )
 
 first-requires : tie.Need-first-requires Inv-loop μ-loop
@@ -115,7 +114,7 @@ loop-again-2 c =
     let s = l .before .before .before .before .before .before .before .before .before in
     let f = c .before .before in (
       omega (arith, there f),
-      turn-run (sceneAt s) (s .pre .0) (s .args .order .now) _ (s .args .rows .now) (s .pre .1) (s .args .ray) (nearestStep (s .args .points .now) (s .args .uses .now) (s .args .kinds .now) (s .args .ray)) Nothing (λ p e x. nearest-missed _ _ _ _ p e x) (l .loop .held) (l .loop .k) (there f) (l .loop .inv .1) _ _ _ (f .before .before .first .ensures) (ap (λ (x : ℕ). f .before .before .first .result + x) (f .before .count .ensures)) (f .first-open .ensures .0) (f .first-open .ensures .1) (f .first-open .ensures .2) _ (c .span-nearest .ensures),
+      turn-run (sceneAt s) (s .pre .0) (s .args .order .now) _ (s .args .rows .now) (s .pre .1) (s .args .ray) (nearestStep (s .args .points .now) (s .args .uses .now) (s .args .kinds .now) (s .args .ray)) Nothing (λ p e x. nearest-none _ _ _ _ p e x) (l .loop .held) (l .loop .k) (there f) (l .loop .inv .1) _ _ _ (f .before .before .first .ensures) (ap (λ (x : ℕ). f .before .before .first .result + x) (f .before .count .ensures)) (f .first-open .ensures .0) (f .first-open .ensures .1) (f .first-open .ensures .2) _ (c .span-nearest .ensures),
     )
 
 loop-less-3 : tie.Need-loop-less-3 Inv-loop μ-loop
@@ -127,7 +126,7 @@ loop-again-3 c =
     let s = l .before .before .before .before .before .before .before .before .before in
     let f = c .before in (
       omega arith,
-      turn-clear (sceneAt s) (s .pre .0) (s .args .order .now) _ (s .args .rows .now) (s .pre .1) (s .args .ray) (nearestStep (s .args .points .now) (s .args .uses .now) (s .args .kinds .now) (s .args .ray)) Nothing (λ p e x. nearest-missed _ _ _ _ p e x) (l .loop .held) (l .loop .k) (there f) (l .loop .inv .1) _ _ _ (f .before .before .first .ensures) (ap (λ (x : ℕ). f .before .before .first .result + x) (f .before .count .ensures)) (f .first-open .ensures .0) (f .first-open .ensures .1) (f .first-open .ensures .2) (c .if2 .left),
+      turn-clear (sceneAt s) (s .pre .0) (s .args .order .now) _ (s .args .rows .now) (s .pre .1) (s .args .ray) (nearestStep (s .args .points .now) (s .args .uses .now) (s .args .kinds .now) (s .args .ray)) Nothing (λ p e x. nearest-none _ _ _ _ p e x) (l .loop .held) (l .loop .k) (there f) (l .loop .inv .1) _ _ _ (f .before .before .first .ensures) (ap (λ (x : ℕ). f .before .before .first .result + x) (f .before .count .ensures)) (f .first-open .ensures .0) (f .first-open .ensures .1) (f .first-open .ensures .2) (c .if2 .left),
     )
 
 returns : tie.Need-returns Inv-loop μ-loop

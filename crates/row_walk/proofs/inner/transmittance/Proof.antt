@@ -6,8 +6,10 @@ use lib.ListN.{length, take}
 use lib.Seq.{length-take-le, length-front}
 use Rattle.names.specs.Scene.{Scene, treeScene}
 use Rattle.hits.specs.Hits.{paired}
-use Rattle.tree_walk.specs.Collect.{dark, came}
-use Rattle.row_walk.proofs.Gone.{gone, dark-passes, came-passes, came-numbers, came-below}
+use Rattle.tree.specs.Tree.{boxCount}
+use Rattle.tree_walk.specs.Collect.{came}
+use Rattle.tree_walk.specs.CollectLaws.{collectedOver, dark-passes, came-passes, came-numbers, came-below}
+use Rattle.tree_rows.specs.Rows.{placesTo}
 use borrow.Author.Needs.{needs}
 use Rattle.row_walk.proofs.inner.transmittance.Statement.{statement}
 use Rattle.row_walk.proofs.inner.transmittance.Tie as tie
@@ -38,7 +40,7 @@ returns : tie.Need-returns
 returns c =
     let n = c .before .before .before .before .before .before in
     let s = n .before .before .before .before .before .before .before .before .before .before .before .before .before in
-    dark-passes (sceneAt s) (s .pre .0) (s .args .order .now) _ (s .args .rows .now) (s .pre .1 .0) (s .args .ray) (rw (c .enum-told .given .1) at (n .collect .ensures .0))
+    dark-passes (sceneAt s) (s .pre .0) (placesTo (s .args .order .now) (s .args .rows .now) (boxCount (s .args .nodes .now))) (s .pre .1 .0 .once) (s .args .ray) (rw (c .enum-told .given .1) at (n .collect .ensures .0))
 
 -- ---- hits that came
 
@@ -56,7 +58,7 @@ came-there : (c : tie.After-met)
     let l = n .collect .last in
     let s = n .before .before .before .before .before .before .before .before .before .before .before .before .before in
     let m = c .met .given .0 .0 in
-    came (paired (take m (l .1 .1 .1 .1 .1 .1 .1 .1 .1 .0)) (take m (l .1 .1 .1 .1 .1 .1 .1 .1 .1 .1 .0))) ≡ gone (sceneAt s) (s .pre .0) (s .args .order .now) _ (s .args .rows .now) (s .pre .1 .0) (s .args .ray)
+    came (paired (take m (l .1 .1 .1 .1 .1 .1 .1 .1 .1 .0)) (take m (l .1 .1 .1 .1 .1 .1 .1 .1 .1 .1 .0))) ≡ collectedOver (sceneAt s) (s .args .ray) (placesTo (s .args .order .now) (s .args .rows .now) (boxCount (s .args .nodes .now)))
 came-there c = rw (c .met .given .1) at (c .before .before .before .before .before .before .collect .ensures .0)
 
 slice-relend-prefix-passing : tie.Need-slice-relend-prefix-passing
@@ -76,8 +78,8 @@ passing-requires c κs =
     let m = c .before .before .before in
     let s = m .before .before .before .before .before .before .before .before .before .before .before .before .before .before .before .before .before .before .before in
     let w = within m in (
-      (length-take-le _ _ (w .0) ∙ sym (length-take-le _ _ (w .1)), came-numbers (sceneAt s) (s .pre .0) (s .args .order .now) _ (s .args .rows .now) (s .pre .1 .0) (s .args .ray) _ (came-there m)),
-      ((λ i h. omega (arith, s .pre .0 .within i h, s .pre .0 .numbers)), came-below (sceneAt s) (s .pre .0) (s .args .order .now) _ (s .args .rows .now) (s .pre .1 .0) (s .args .ray) _ (came-there m)),
+      (length-take-le _ _ (w .0) ∙ sym (length-take-le _ _ (w .1)), came-numbers (sceneAt s) (s .pre .0) (placesTo (s .args .order .now) (s .args .rows .now) (boxCount (s .args .nodes .now))) (s .pre .1 .0 .once) (s .args .ray) _ (came-there m)),
+      ((λ i h. omega (arith, s .pre .0 .within i h, s .pre .0 .numbers)), came-below (sceneAt s) (s .pre .0) (placesTo (s .args .order .now) (s .args .rows .now) (boxCount (s .args .nodes .now))) (s .pre .1 .0 .once) (s .args .ray) _ (came-there m)),
     )
 
 same-length-3 : tie.Need-same-length-3
@@ -99,7 +101,7 @@ returns-2 c =
     let p = c .before .before .before .before in
     let m = p .before .before .before .before in
     let s = m .before .before .before .before .before .before .before .before .before .before .before .before .before .before .before .before .before .before .before in
-    p .passing .ensures ∙ came-passes (sceneAt s) (s .pre .0) (s .args .order .now) _ (s .args .rows .now) (s .pre .1 .0) (s .args .ray) _ (came-there m)
+    p .passing .ensures ∙ came-passes (sceneAt s) (s .pre .0) (placesTo (s .args .order .now) (s .args .rows .now) (boxCount (s .args .nodes .now))) (s .pre .1 .0 .once) (s .args .ray) _ (came-there m)
 
 pub transmittance-spec : {M : Type 1} → statement M
 transmittance-spec =

@@ -2,7 +2,6 @@
 use mathlib.Core.Path.{sym, _∙_}
 use mathlib.Core.Bool.{true}
 use Rattle.panels.specs.Panels.{metBy}
-use Rattle.tree_walk.specs.Boxed.{boxedAt}
 use Rattle.panels.specs.PanelLaws.{by-missed}
 use borrow.Author.Needs.{needs}
 use Rattle.tree_walk.proofs.inner.boxed_meet.Statement.{statement}

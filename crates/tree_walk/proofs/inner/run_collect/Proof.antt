@@ -1,5 +1,5 @@
 -- `tree_walk::inner::run_collect` meets its contract: a leaf's run is a span of the order.
-use mathlib.Core.Path.{_≡_, sym, subst, _∙_}
+use mathlib.Core.Path.{sym, subst, _∙_}
 use Prim.Native.Nat.{ℕ, _+_}
 use native.Mathlib.Omega.{arith}
 use lib.ListN.{length}

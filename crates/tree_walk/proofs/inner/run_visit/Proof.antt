@@ -2,7 +2,6 @@
 use mathlib.Core.Path.{_∙_}
 use native.Mathlib.Omega.{arith}
 use Rattle.tree_walk.proofs.Going.{run-fits, run-visited}
-use borrow.Author.Needs.{needs}
 use Rattle.tree_walk.proofs.inner.run_visit.Statement.{statement}
 use Rattle.tree_walk.proofs.inner.run_visit.Tie as tie
 

@@ -15,7 +15,7 @@ use Rattle.tree_walk.specs.FoldLaws.{foldOf}
 use Rattle.tree_walk.specs.Spans.{spanPlaces}
 use Rattle.tree_walk.specs.Collect.{came, collectStep}
 use Rattle.tree_walk.specs.Kept.{collectedBy, MetWithin}
-use Rattle.tree_walk.proofs.Going.{collect-missed, collect-clear, collect-dark, dark-stays, clear-other, turned-long, span-missed, span-starts, span-next, span-over, span-ends}
+use Rattle.tree_walk.proofs.Going.{collect-none, collect-clear, collect-dark, dark-stays, clear-other, turned-long, span-missed, span-starts, span-next, span-over, span-ends}
 use borrow.Author.Needs.{needs}
 use Rattle.tree_walk.proofs.inner.span_collect.Statement.{statement}
 use Rattle.tree_walk.proofs.inner.span_collect.Tie as tie
@@ -51,7 +51,7 @@ held-there c =
     let w = l .before in
     let s = w .before .before .before .before .before .before .before in
     span-over (s .args .order .now) (s .args .first) (collectStep (s .args .points .now) (s .args .uses .now) (s .args .kinds .now) (s .args .ray)) (collectedBy (Hits (s .args .held)) (s .args .distances .now) (s .args .places .now)) _ _ _ (l .loop .inv .0) (c .first-open .ensures .0)
-    (λ p a b x. collect-missed _ _ _ _ _ (passed-by c p a b) x) (l .loop .inv .7)
+    (λ p a b x. collect-none _ _ _ _ _ (passed-by c p a b) x) (l .loop .inv .7)
 
 -- the place that the order names there is one of the scene
 within : (c : tie.After-word-at Inv-loop μ-loop) → c .word-at .result < length (c .before .before .before .before .before .before .before .before .before .before .before .before .args .uses .now)
@@ -152,7 +152,7 @@ loop-again c =
       l .loop .inv .5,
       l .loop .inv .6,
       span-next (s .args .order .now) (s .args .first) (collectStep (s .args .points .now) (s .args .uses .now) (s .args .kinds .now) (s .args .ray)) (collectedBy (Hits (s .args .held)) (s .args .distances .now) (s .args .places .now)) _ _ _ _ (omega arith) (held-there f) (m .before .word-at .ensures .0)
-          (sym (collect-missed _ _ _ _ _ (sym (m .boxed-meet .ensures) ∙ c .enum-told .given .1) _)),
+          (sym (collect-none _ _ _ _ _ (sym (m .boxed-meet .ensures) ∙ c .enum-told .given .1) _)),
     )
 
 enum-known-h : tie.Need-enum-known-h Inv-loop μ-loop

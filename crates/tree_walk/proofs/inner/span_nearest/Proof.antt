@@ -8,7 +8,7 @@ use Rattle.scan.specs.Nearest.{nearerOf}
 use Rattle.tree_walk.specs.Boxed.{boxedAt, nearestStep}
 use Rattle.tree_walk.specs.FoldLaws.{foldOf}
 use Rattle.tree_walk.specs.Spans.{spanPlaces}
-use Rattle.tree_walk.proofs.Going.{nearest-missed, turned-long, span-missed, span-starts, span-next, span-over, span-ends}
+use Rattle.tree_walk.proofs.Going.{nearest-none, turned-long, span-missed, span-starts, span-next, span-over, span-ends}
 use borrow.Author.Needs.{needs}
 use Rattle.tree_walk.proofs.inner.span_nearest.Statement.{statement}
 use Rattle.tree_walk.proofs.inner.span_nearest.Tie as tie
@@ -46,7 +46,7 @@ held-there : (c : tie.After-first-open Inv-loop μ-loop)
 held-there c =
     let l = c .before .before in
     let a = l .before .before .before .before .before .before .args in
-    span-over (a .order .now) (a .first) (nearestStep (a .points .now) (a .uses .now) (a .kinds .now) (a .ray)) (a .best) _ _ _ (l .loop .inv .0) (c .first-open .ensures .0) (λ p a b x. nearest-missed _ _ _ _ _ (passed-by c p a b) x) (l .loop .inv .2)
+    span-over (a .order .now) (a .first) (nearestStep (a .points .now) (a .uses .now) (a .kinds .now) (a .ray)) (a .best) _ _ _ (l .loop .inv .0) (c .first-open .ensures .0) (λ p a b x. nearest-none _ _ _ _ _ (passed-by c p a b) x) (l .loop .inv .2)
 
 first-open-requires : tie.Need-first-open-requires Inv-loop μ-loop
 first-open-requires c κs =
@@ -86,7 +86,7 @@ loop-again c =
       omega arith,
       omega arith,
       span-next (a .order .now) (a .first) (nearestStep (a .points .now) (a .uses .now) (a .kinds .now) (a .ray)) (a .best) _ _ _ _ (omega arith) (held-there f) (m .before .word-at .ensures .0)
-          (sym (nearest-missed _ _ _ _ _ (sym (m .boxed-meet .ensures) ∙ c .enum-told .given .1) _)),
+          (sym (nearest-none _ _ _ _ _ (sym (m .boxed-meet .ensures) ∙ c .enum-told .given .1) _)),
     )
 
 enum-known-m : tie.Need-enum-known-m Inv-loop μ-loop

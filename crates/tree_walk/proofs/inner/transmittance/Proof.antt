@@ -1,5 +1,5 @@
 -- `tree_walk::inner::transmittance` meets its contract: it walks from the root, puts what came in order and takes the product; in an accepted tree that is the transmittance over the boxed triangles
--- (`walk-collected`).
+-- (`listed-collected`).
 use mathlib.Core.Path.{_≡_, sym, _∙_}
 use Prim.Native.Nat.{_≤_}
 use native.Mathlib.Omega.{arith}
@@ -10,7 +10,9 @@ use Rattle.hits.specs.Hits.{paired}
 use Rattle.tree.specs.SumLaws.{positive}
 use Rattle.tree_walk.specs.WalkLaws.{accepted-fits}
 use Rattle.tree_walk.specs.Collect.{dark, came}
-use Rattle.tree_walk.proofs.Came.{root-fits, walked, from-root, empty-passes, dark-passes, came-passes, came-numbers, came-below}
+use Rattle.tree_walk.specs.UnderLaws.{treePlaces, tree-once}
+use Rattle.tree_walk.specs.CollectLaws.{collectedOver, dark-passes, came-passes, came-numbers, came-below}
+use Rattle.tree_walk.proofs.Came.{root-fits, from-root, empty-passes}
 use borrow.Author.Needs.{needs}
 use Rattle.tree_walk.proofs.inner.transmittance.Statement.{statement}
 use Rattle.tree_walk.proofs.inner.transmittance.Tie as tie
@@ -31,7 +33,7 @@ node-collect-requires c κs =
     let s = c .before .before .before .before .before .before .before .before .before .before .before .before .before in
     let h = positive _ (c .before .before .if1 .left) in (
       accepted-fits (sceneAt s) (s .pre .0) _ _ _ (s .pre .1 .0) _ (s .pre .1 .1 .0),
-      (h, ((omega arith, omega arith), root-fits (sceneAt s) (s .pre .0) _ _ _ (s .pre .1 .0) h _ _ (s .pre .1 .1 .1))),
+      (h, ((omega arith, omega arith), root-fits (sceneAt s) (s .pre .0) _ _ _ (s .pre .1 .0) (c .before .before .if1 .left) _ _ (s .pre .1 .1 .1))),
     )
 
 enum-told : tie.Need-enum-told
@@ -52,7 +54,7 @@ returns-2 : tie.Need-returns-2
 returns-2 c =
     let n = c .before .before .before .before .before .before in
     let s = n .before .before .before .before .before .before .before .before .before .before .before .before .before .before in
-    dark-passes (sceneAt s) (s .pre .0) _ _ _ (s .pre .1 .0) _
+    dark-passes (sceneAt s) (s .pre .0) (treePlaces (s .args .nodes .now) (s .args .order .now)) (tree-once _ _ _ _ (s .pre .1 .0)) (s .args .ray)
     (from-root (sceneAt s) (s .pre .0) _ _ _ (s .pre .1 .0) _ (n .before .before .before .if1 .left) dark (s .args .distances .now) (s .args .places .now) (rw (c .enum-told .given .1) at (n .node-collect .ensures .0)))
 
 -- ---- hits that came
@@ -71,7 +73,7 @@ came-there : (c : tie.After-met)
     let l = n .node-collect .last in
     let s = n .before .before .before .before .before .before .before .before .before .before .before .before .before .before in
     let m = c .met .given .0 .0 in
-    came (paired (take m (l .1 .1 .1 .1 .1 .1 .1 .1 .1 .1 .1 .0)) (take m (l .1 .1 .1 .1 .1 .1 .1 .1 .1 .1 .1 .1 .0))) ≡ walked (sceneAt s) (s .pre .0) _ _ _ (s .pre .1 .0) (s .args .ray)
+    came (paired (take m (l .1 .1 .1 .1 .1 .1 .1 .1 .1 .1 .1 .0)) (take m (l .1 .1 .1 .1 .1 .1 .1 .1 .1 .1 .1 .1 .0))) ≡ collectedOver (sceneAt s) (s .args .ray) (treePlaces (s .args .nodes .now) (s .args .order .now))
 came-there c =
     let n = c .before .before .before .before .before .before in
     let s = n .before .before .before .before .before .before .before .before .before .before .before .before .before .before in
@@ -95,8 +97,8 @@ passing-requires c κs =
     let m = c .before .before .before in
     let s = m .before .before .before .before .before .before .before .before .before .before .before .before .before .before .before .before .before .before .before .before in
     let w = within m in (
-      (length-take-le _ _ (w .0) ∙ sym (length-take-le _ _ (w .1)), came-numbers (sceneAt s) (s .pre .0) _ _ _ (s .pre .1 .0) _ _ (came-there m)),
-      ((λ i h. omega (arith, s .pre .0 .within i h, s .pre .0 .numbers)), came-below (sceneAt s) (s .pre .0) _ _ _ (s .pre .1 .0) _ _ (came-there m)),
+      (length-take-le _ _ (w .0) ∙ sym (length-take-le _ _ (w .1)), came-numbers (sceneAt s) (s .pre .0) (treePlaces (s .args .nodes .now) (s .args .order .now)) (tree-once _ _ _ _ (s .pre .1 .0)) (s .args .ray) _ (came-there m)),
+      ((λ i h. omega (arith, s .pre .0 .within i h, s .pre .0 .numbers)), came-below (sceneAt s) (s .pre .0) (treePlaces (s .args .nodes .now) (s .args .order .now)) (tree-once _ _ _ _ (s .pre .1 .0)) (s .args .ray) _ (came-there m)),
     )
 
 same-length-3 : tie.Need-same-length-3
@@ -118,7 +120,7 @@ returns-3 c =
     let p = c .before .before .before .before in
     let m = p .before .before .before .before in
     let s = m .before .before .before .before .before .before .before .before .before .before .before .before .before .before .before .before .before .before .before .before in
-    p .passing .ensures ∙ came-passes (sceneAt s) (s .pre .0) _ _ _ (s .pre .1 .0) _ _ (came-there m)
+    p .passing .ensures ∙ came-passes (sceneAt s) (s .pre .0) (treePlaces (s .args .nodes .now) (s .args .order .now)) (tree-once _ _ _ _ (s .pre .1 .0)) (s .args .ray) _ (came-there m)
 
 pub transmittance-spec : {M : Type 1} → statement M
 transmittance-spec =
