@@ -1,4 +1,4 @@
-/* Geaidnosa 0.6.0: the public calls of the light bake, for C and C++ on x86-64. Link libgeaidnosa.a.
+/* Geaidnosa 0.7.0: the public calls of the light bake, for C and C++ on x86-64. Link libgeaidnosa.a.
  *
  * A bake, call by call. geaidnosa_masks marks the voxels at and near surfaces; geaidnosa_sun finds how much of the sun each of them sees;
  * geaidnosa_directions gives the directions along which the caller fills the sky; geaidnosa_bake, called until its progress is at the voxel count, fills the
@@ -44,6 +44,25 @@
  * do the work of the calls of those names without `solid_`, and take no hit scratch: a ray to the sun, the sky or a lamp ends at the first hit that is found.
  * Answer, rays, progress and every list come out bit for bit as by the other call, so that a bake may be begun by one of the two and gone on with by the other.
  *
+ * Trees. A scene may come with a tree of boxes, whose sides lie along the axes, so that a ray looks only into boxes on its way: geaidnosa_tree_nearest,
+ * geaidnosa_tree_transmittance, geaidnosa_tree_sun and geaidnosa_tree_bake do the work of the calls of those names without `tree_` through it. A tree is three lists:
+ *   boxes   six numbers a box: its low corner x y z, then its high one. Box 0 is the root.
+ *   nodes   three whole numbers a box: 0, and which two boxes are its halves; or, of a leaf, how many triangles stand in it, not 0, and where their run begins in
+ *           the order (the third is not read).
+ *   order   places of triangles in the scene's list, at most T of them; what stands there outside every leaf's run is not read.
+ * geaidnosa_build_tree makes one. Any other is as good that is accepted, which it is exactly when the lists fit each other; each box but the first is a half of exactly
+ * one box, once; halves stand behind their box in the list; every present triangle stands once, in a single leaf, and nothing else stands in one; each triangle's box,
+ * padded by 1e-5, lies inside its leaf's and each box inside the one above it, where sides may touch; and no box has more than 24 above it. A triangle is present
+ * unless the cross product (p1−p0)×(p2−p0) has a squared length of 1e-12 or less. Where none is, the empty tree, of no box, is accepted, and there alone.
+ *   - Any accepted tree of a scene gives the same bits, rays counted too: which one it is says only how quick a call is. A bake that was begun through a tree goes on
+ *     through a tree, the same one or another.
+ *   - A triangle's own padded box is asked too: where the ray's origin lies above it on some axis and the direction is not negative there, or below it and the direction
+ *     is not positive, the triangle is no hit. The call without a tree may find a hit there, by a rounding, off the triangle's own box; docs/DIFFERENCES.md says when.
+ *     Where there is no such hit the two calls answer alike, bit for bit. A bake begun without a tree is not to be gone on with through one: nothing refuses that, and
+ *     its volume may be of neither.
+ *   - Each call tests its tree once, in time that grows with its boxes and triangles, as it tests the points: a host with many rays asks for them in one call, as
+ *     geaidnosa_tree_sun and geaidnosa_tree_bake do, and a bake in calls of a large allowance. A call through a tree takes about half a megabyte of stack.
+ *
  * Ownership. Every list is the caller's, lent for the one call as a pointer and a count of its elements (of a mask: words); no call keeps a pointer, allocates or frees.
  * A pointer is never null and is aligned for its type, also where the count is 0. No list that a call writes may overlap another list of that call.
  *
@@ -68,6 +87,7 @@
  *   12  any fault in a volume file
  *   13  an unused bit of a mask set; a light not finite or beyond 2^64 in magnitude; a coefficient not finite or beyond 2^96
  *   14  more than 65,536 bytes
+ *   16  a box tree that is not accepted
  *   19  more than eight lamps, a lamp's position not finite or beyond 4,096 in magnitude, or its colour not finite or beyond 65,536
  *
  * Lengths. N is the voxel count, width·height·depth; voxel (x,y,z) has the index x + width·(y + height·z). T is the triangle count.
@@ -80,6 +100,7 @@
  *   sky, and the list of directions   1,728: three numbers of direction i of set s from 3·(64·s + i) on
  *   lamps       6 a lamp, none to eight: position x y z, colour RGB; any multiple of 6 is a length
  *   positions   three a position: x y z                                    answers  one a position for light, sixteen for coefficients
+ *   boxes 6, nodes 3 a box, order   a tree, whose lengths are part of what is accepted: 16, and not 3. Of geaidnosa_build_tree room for one: at least 6·T, 3·T and T
  *   distances, places   hit scratch, each at least T; the solid calls take none
  * Hit scratch is open after a call that traced rays: the contents are no one's promise. Where a call refuses, or fires no ray, it is as it was.
  */
@@ -96,10 +117,10 @@ extern "C" {
 /* ---- the version: below 1.0 a new second number may change a call */
 
 #define GEAIDNOSA_VERSION_MAJOR 0
-#define GEAIDNOSA_VERSION_MINOR 6
+#define GEAIDNOSA_VERSION_MINOR 7
 #define GEAIDNOSA_VERSION_PATCH 0
-#define GEAIDNOSA_VERSION "0.6.0"
-#define GEAIDNOSA_VERSION_NUMBER 6000 /* major·1,000,000 + minor·1,000 + patch */
+#define GEAIDNOSA_VERSION "0.7.0"
+#define GEAIDNOSA_VERSION_NUMBER 7000 /* major·1,000,000 + minor·1,000 + patch */
 
 /* ---- the limit */
 
@@ -188,6 +209,13 @@ typedef struct GeaidnosaMarked {
     uint64_t occupied;
     uint64_t active;
 } GeaidnosaMarked;
+
+/* How many boxes a tree has, and how many places its order. */
+typedef struct GeaidnosaTreeBuilt {
+    uint32_t refusal;
+    size_t boxes;
+    size_t places;
+} GeaidnosaTreeBuilt;
 
 typedef struct GeaidnosaSunned {
     uint32_t refusal;
@@ -286,6 +314,42 @@ GeaidnosaTransmitted geaidnosa_solid_transmittance(
     const float *numbers, size_t numbers_length,
     GeaidnosaRay ray);
 
+/* ---- a scene's box tree */
+
+/* Builds a scene's tree at the front of three lists that have room for it: boxes of at least 6·T numbers, nodes of 3·T, order of T. Of an answer of b boxes and p places
+ * the tree is the first 6·b, 3·b and p of them, and those counts are the lengths to lend it with; what stands behind stays. It is accepted for every scene of these
+ * points that is not refused before. A run of triangles is halved at the median along its widest axis until four or fewer remain. Here the points give T: a count that
+ * is no multiple of nine is refused 3. Refuses 3, 4, 5. */
+GeaidnosaTreeBuilt geaidnosa_build_tree(
+    const float *points, size_t points_length,
+    float *boxes, size_t boxes_length,
+    uint32_t *nodes, size_t nodes_length,
+    uint32_t *order, size_t order_length);
+
+/* The nearest hit through a tree: among the triangles whose own padded box is not passed over. Refuses 3, 4, 5, 6, 16, 8. */
+GeaidnosaRayHit geaidnosa_tree_nearest(
+    const float *points, size_t points_length,
+    const uint32_t *uses, size_t uses_length,
+    const uint8_t *kinds, size_t kinds_length,
+    const float *numbers, size_t numbers_length,
+    const float *boxes, size_t boxes_length,
+    const uint32_t *nodes, size_t nodes_length,
+    const uint32_t *order, size_t order_length,
+    GeaidnosaRay ray);
+
+/* How much light passes along a ray, through a tree. Writes hit scratch alone. Refuses 3, 4, 5, 6, 16, 8. */
+GeaidnosaTransmitted geaidnosa_tree_transmittance(
+    const float *points, size_t points_length,
+    const uint32_t *uses, size_t uses_length,
+    const uint8_t *kinds, size_t kinds_length,
+    const float *numbers, size_t numbers_length,
+    const float *boxes, size_t boxes_length,
+    const uint32_t *nodes, size_t nodes_length,
+    const uint32_t *order, size_t order_length,
+    GeaidnosaRay ray,
+    float *distances, size_t distances_length,
+    size_t *places, size_t places_length);
+
 /* ---- masks, blurs and the sun */
 
 /* Fills both masks whatever stood there: occupied where a triangle's sample lies in the voxel, whatever its material and side, active within two voxels of
@@ -340,6 +404,24 @@ GeaidnosaSunned geaidnosa_solid_sun(
     float *light, size_t light_length,
     float *scratch, size_t scratch_length);
 
+/* What geaidnosa_sun does, through a tree, with hit scratch. Refuses 1, 2, 3, 4, 5, 6, 7, 16, 13. */
+GeaidnosaSunned geaidnosa_tree_sun(
+    GeaidnosaAxes axes,
+    GeaidnosaCorners corners,
+    const float *points, size_t points_length,
+    const uint32_t *uses, size_t uses_length,
+    const uint8_t *kinds, size_t kinds_length,
+    const float *numbers, size_t numbers_length,
+    const float *boxes, size_t boxes_length,
+    const uint32_t *nodes, size_t nodes_length,
+    const uint32_t *order, size_t order_length,
+    GeaidnosaVec3 direction,
+    const uint64_t *active, size_t active_length,
+    float *light, size_t light_length,
+    float *scratch, size_t scratch_length,
+    float *distances, size_t distances_length,
+    size_t *places, size_t places_length);
+
 /* ---- the bake */
 
 /* Bakes the volume from progress on: an active voxel is taken while at least 384 + 64·lamps rays of the allowance remain. Begin at {0, 0}, and call again
@@ -386,6 +468,31 @@ GeaidnosaBakeAnswer geaidnosa_solid_bake(
     const float *lights, size_t lights_length,
     float *volume, size_t volume_length,
     float *scratch, size_t scratch_length,
+    GeaidnosaProgress progress,
+    uint64_t allowance);
+
+/* What geaidnosa_bake does, through a tree, with hit scratch: the lights are those of geaidnosa_tree_sun. Each call is handed a tree of the same scene.
+ * Refuses 1, 2, 3, 4, 5, 6, 7, 19, 16, 9, 10, 13. */
+GeaidnosaBakeAnswer geaidnosa_tree_bake(
+    GeaidnosaAxes axes,
+    GeaidnosaCorners corners,
+    const float *points, size_t points_length,
+    const uint32_t *uses, size_t uses_length,
+    const uint8_t *kinds, size_t kinds_length,
+    const float *numbers, size_t numbers_length,
+    const float *boxes, size_t boxes_length,
+    const uint32_t *nodes, size_t nodes_length,
+    const uint32_t *order, size_t order_length,
+    GeaidnosaLight light,
+    GeaidnosaAmbient ambient,
+    const float *sky, size_t sky_length,
+    const float *lamps, size_t lamps_length,
+    const uint64_t *active, size_t active_length,
+    const float *lights, size_t lights_length,
+    float *volume, size_t volume_length,
+    float *scratch, size_t scratch_length,
+    float *distances, size_t distances_length,
+    size_t *places, size_t places_length,
     GeaidnosaProgress progress,
     uint64_t allowance);
 

@@ -26,6 +26,13 @@ pub struct Marked {
 }
 
 #[repr(C)]
+pub struct TreeBuilt {
+    pub refusal: u32,
+    pub boxes: usize,
+    pub places: usize,
+}
+
+#[repr(C)]
 pub struct Sunned {
     pub refusal: u32,
     pub rays: u64,
@@ -114,6 +121,34 @@ extern "C" {
         numbers: *const f32, numbers_length: usize,
         ray: Ray,
     ) -> Transmitted;
+    pub fn geaidnosa_build_tree(
+        points: *const f32, points_length: usize,
+        boxes: *mut f32, boxes_length: usize,
+        nodes: *mut u32, nodes_length: usize,
+        order: *mut u32, order_length: usize,
+    ) -> TreeBuilt;
+    pub fn geaidnosa_tree_nearest(
+        points: *const f32, points_length: usize,
+        uses: *const u32, uses_length: usize,
+        kinds: *const u8, kinds_length: usize,
+        numbers: *const f32, numbers_length: usize,
+        boxes: *const f32, boxes_length: usize,
+        nodes: *const u32, nodes_length: usize,
+        order: *const u32, order_length: usize,
+        ray: Ray,
+    ) -> RayHit;
+    pub fn geaidnosa_tree_transmittance(
+        points: *const f32, points_length: usize,
+        uses: *const u32, uses_length: usize,
+        kinds: *const u8, kinds_length: usize,
+        numbers: *const f32, numbers_length: usize,
+        boxes: *const f32, boxes_length: usize,
+        nodes: *const u32, nodes_length: usize,
+        order: *const u32, order_length: usize,
+        ray: Ray,
+        distances: *mut f32, distances_length: usize,
+        places: *mut usize, places_length: usize,
+    ) -> Transmitted;
     pub fn geaidnosa_masks(
         axes: Axes,
         corners: Corners,
@@ -157,6 +192,23 @@ extern "C" {
         light: *mut f32, light_length: usize,
         scratch: *mut f32, scratch_length: usize,
     ) -> Sunned;
+    pub fn geaidnosa_tree_sun(
+        axes: Axes,
+        corners: Corners,
+        points: *const f32, points_length: usize,
+        uses: *const u32, uses_length: usize,
+        kinds: *const u8, kinds_length: usize,
+        numbers: *const f32, numbers_length: usize,
+        boxes: *const f32, boxes_length: usize,
+        nodes: *const u32, nodes_length: usize,
+        order: *const u32, order_length: usize,
+        direction: Vec3,
+        active: *const u64, active_length: usize,
+        light: *mut f32, light_length: usize,
+        scratch: *mut f32, scratch_length: usize,
+        distances: *mut f32, distances_length: usize,
+        places: *mut usize, places_length: usize,
+    ) -> Sunned;
     pub fn geaidnosa_bake(
         axes: Axes,
         corners: Corners,
@@ -192,6 +244,29 @@ extern "C" {
         lights: *const f32, lights_length: usize,
         volume: *mut f32, volume_length: usize,
         scratch: *mut f32, scratch_length: usize,
+        progress: Progress,
+        allowance: u64,
+    ) -> BakeAnswer;
+    pub fn geaidnosa_tree_bake(
+        axes: Axes,
+        corners: Corners,
+        points: *const f32, points_length: usize,
+        uses: *const u32, uses_length: usize,
+        kinds: *const u8, kinds_length: usize,
+        numbers: *const f32, numbers_length: usize,
+        boxes: *const f32, boxes_length: usize,
+        nodes: *const u32, nodes_length: usize,
+        order: *const u32, order_length: usize,
+        light: Light,
+        ambient: Ambient,
+        sky: *const f32, sky_length: usize,
+        lamps: *const f32, lamps_length: usize,
+        active: *const u64, active_length: usize,
+        lights: *const f32, lights_length: usize,
+        volume: *mut f32, volume_length: usize,
+        scratch: *mut f32, scratch_length: usize,
+        distances: *mut f32, distances_length: usize,
+        places: *mut usize, places_length: usize,
         progress: Progress,
         allowance: u64,
     ) -> BakeAnswer;

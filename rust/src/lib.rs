@@ -15,12 +15,17 @@
 //! Most halls have solid walls alone. Where [`Scene::is_solid`] says so, [`solid_transmittance`], [`solid_sun`] and [`solid_bake`] answer and write what
 //! [`transmittance`], [`sun`] and [`bake`] do, bit for bit, without hit scratch: a ray to the sun, the sky or a lamp ends at the first hit that is found. A bake
 //! may be begun by one of the two and gone on with by the other.
+//!
+//! A scene may come with a tree of boxes, a [`Tree`]: [`build_tree`] makes one, and [`tree_nearest`], [`tree_transmittance`], [`tree_sun`] and [`tree_bake`] look
+//! only into boxes on a ray's way. Any accepted tree of a scene gives the same bits; they are those of the calls without a tree wherever no hit of those lies off
+//! the triangle's own padded box, which docs/DIFFERENCES.md speaks of. So a bake that was begun through a tree is gone on with through one. A call tests its tree once, and
+//! takes about half a megabyte of stack.
 use std::fmt;
 
 mod face;
 
 /// The version of the C face that this crate was written to.
-pub const VERSION_NUMBER: u32 = 6_000;
+pub const VERSION_NUMBER: u32 = 7_000;
 /// The number itself, so that the words of [`Refusal::Axis`] are made of it too.
 macro_rules! axis_limit {
     () => {
@@ -164,6 +169,40 @@ impl Scene<'_> {
     }
 }
 
+/// A tree of boxes over a scene's triangles, which [`build_tree`] or a drawing tool has made. It is accepted exactly when the lists fit each other; each box but
+/// the first is a half of exactly one box, once; halves stand behind their box in the list; every present triangle stands once, in a single leaf, and nothing
+/// else stands in one; each triangle's box, padded by 1e-5, lies inside its leaf's and each box inside the one above it, where sides may touch; and no box has more
+/// than 24 above it. A triangle is present unless the cross product (p1−p0)×(p2−p0) has a squared length of 1e-12 or less. Where none is, [`Tree::EMPTY`] is
+/// accepted, and there alone.
+#[derive(Clone, Copy, Debug)]
+pub struct Tree<'a> {
+    /// 6 a box: its low corner x y z, then its high one. Box 0 is the root.
+    pub boxes: &'a [f32],
+    /// 3 a box: 0, and which two boxes are its halves; or, of a leaf, how many triangles stand in it, and where their run begins in the order, the third not read.
+    pub nodes: &'a [u32],
+    /// Places of triangles in the scene's list, at most T of them.
+    pub order: &'a [u32],
+}
+
+impl Tree<'_> {
+    /// The tree of no box, of a scene in which no triangle is present.
+    pub const EMPTY: Tree<'static> = Tree { boxes: &[], nodes: &[], order: &[] };
+}
+
+/// A tree that holds its lists, as [`build_tree`] makes it; [`BoxTree::lent`] lends it to a call.
+#[derive(Clone, Debug, Default, PartialEq)]
+pub struct BoxTree {
+    pub boxes: Vec<f32>,
+    pub nodes: Vec<u32>,
+    pub order: Vec<u32>,
+}
+
+impl BoxTree {
+    pub fn lent(&self) -> Tree<'_> {
+        Tree { boxes: &self.boxes, nodes: &self.nodes, order: &self.order }
+    }
+}
+
 /// Two lists of at least T, which a call that traces rays writes as it likes. The solid calls need none.
 #[derive(Debug)]
 pub struct HitScratch<'a> {
@@ -189,12 +228,13 @@ pub enum Refusal {
     File = 12,
     Contents = 13,
     TooLong = 14,
+    Tree = 16,
     Lamp = 19,
 }
 
 impl Refusal {
     /// Every row, in the table's order.
-    pub const ALL: [Refusal; 15] = [
+    pub const ALL: [Refusal; 16] = [
         Refusal::Axis,
         Refusal::Corner,
         Refusal::Length,
@@ -209,6 +249,7 @@ impl Refusal {
         Refusal::File,
         Refusal::Contents,
         Refusal::TooLong,
+        Refusal::Tree,
         Refusal::Lamp,
     ];
 
@@ -238,6 +279,7 @@ impl Refusal {
             Refusal::File => "any fault in a volume file",
             Refusal::Contents => "an unused bit of a mask set; a light not finite or beyond 2^64 in magnitude; a coefficient not finite or beyond 2^96",
             Refusal::TooLong => "more than 65,536 bytes",
+            Refusal::Tree => "a box tree that is not accepted",
             Refusal::Lamp => "more than eight lamps, a lamp's position not finite or beyond 4,096 in magnitude, or its colour not finite or beyond 65,536",
         }
     }
@@ -426,6 +468,51 @@ pub fn solid_transmittance(scene: Scene, ray: Ray) -> Result<f32, Refusal> {
     Ok(answer.transmittance)
 }
 
+/// The tree of a scene of these points, which is accepted for it: a run of triangles is halved at the median along its widest axis until four or fewer remain.
+/// Refuses 3 (points in no multiple of nine), 4, 5.
+pub fn build_tree(points: &[f32]) -> Result<BoxTree, Refusal> {
+    let t = points.len() / 9;
+    let mut tree = BoxTree { boxes: vec![0.0; 6 * t], nodes: vec![0; 3 * t], order: vec![0; t] };
+    let answer = unsafe {
+        face::geaidnosa_build_tree(
+            points.as_ptr(), points.len(), tree.boxes.as_mut_ptr(), tree.boxes.len(), tree.nodes.as_mut_ptr(), tree.nodes.len(),
+            tree.order.as_mut_ptr(), tree.order.len(),
+        )
+    };
+    Refusal::good(answer.refusal)?;
+    tree.boxes.truncate(6 * answer.boxes);
+    tree.nodes.truncate(3 * answer.boxes);
+    tree.order.truncate(answer.places);
+    Ok(tree)
+}
+
+/// What [`nearest`] answers, through a tree: among the triangles whose own padded box is not passed over. Refuses 3, 4, 5, 6, 16, 8.
+pub fn tree_nearest(scene: Scene, tree: Tree, ray: Ray) -> Result<Option<Hit>, Refusal> {
+    let Scene { points, uses, kinds, numbers } = scene;
+    let Tree { boxes, nodes, order } = tree;
+    hit_of(unsafe {
+        face::geaidnosa_tree_nearest(
+            points.as_ptr(), points.len(), uses.as_ptr(), uses.len(), kinds.as_ptr(), kinds.len(), numbers.as_ptr(), numbers.len(),
+            boxes.as_ptr(), boxes.len(), nodes.as_ptr(), nodes.len(), order.as_ptr(), order.len(), ray,
+        )
+    })
+}
+
+/// What [`transmittance`] answers, through a tree. Writes hit scratch alone. Refuses 3, 4, 5, 6, 16, 8.
+pub fn tree_transmittance(scene: Scene, tree: Tree, ray: Ray, hits: HitScratch) -> Result<f32, Refusal> {
+    let Scene { points, uses, kinds, numbers } = scene;
+    let Tree { boxes, nodes, order } = tree;
+    let answer = unsafe {
+        face::geaidnosa_tree_transmittance(
+            points.as_ptr(), points.len(), uses.as_ptr(), uses.len(), kinds.as_ptr(), kinds.len(), numbers.as_ptr(), numbers.len(),
+            boxes.as_ptr(), boxes.len(), nodes.as_ptr(), nodes.len(), order.as_ptr(), order.len(), ray,
+            hits.distances.as_mut_ptr(), hits.distances.len(), hits.places.as_mut_ptr(), hits.places.len(),
+        )
+    };
+    Refusal::good(answer.refusal)?;
+    Ok(answer.transmittance)
+}
+
 /// Fills both masks, [`Axes::words`] each, whatever stood there: occupied where a triangle's sample lies in the voxel, whatever its material and side, active
 /// within two voxels of that on every axis. Refuses 1, 2, 3 (points in no multiple of nine too), 4, 5.
 pub fn masks(axes: Axes, corners: Corners, points: &[f32], occupied: &mut [u64], active: &mut [u64]) -> Result<Marked, Refusal> {
@@ -473,6 +560,24 @@ pub fn solid_sun(axes: Axes, corners: Corners, scene: Scene, direction: Vec3, ac
         face::geaidnosa_solid_sun(
             axes, corners, points.as_ptr(), points.len(), uses.as_ptr(), uses.len(), kinds.as_ptr(), kinds.len(), numbers.as_ptr(), numbers.len(),
             direction, active.as_ptr(), active.len(), light.as_mut_ptr(), light.len(), scratch.as_mut_ptr(), scratch.len(),
+        )
+    };
+    Refusal::good(answer.refusal)?;
+    Ok(answer.rays)
+}
+
+/// What [`sun`] does, through a tree, with hit scratch. Refuses 1, 2, 3, 4, 5, 6, 7, 16, 13.
+pub fn tree_sun(
+    axes: Axes, corners: Corners, scene: Scene, tree: Tree, direction: Vec3, active: &[u64], light: &mut [f32], scratch: &mut [f32], hits: HitScratch,
+) -> Result<u64, Refusal> {
+    let Scene { points, uses, kinds, numbers } = scene;
+    let Tree { boxes, nodes, order } = tree;
+    let answer = unsafe {
+        face::geaidnosa_tree_sun(
+            axes, corners, points.as_ptr(), points.len(), uses.as_ptr(), uses.len(), kinds.as_ptr(), kinds.len(), numbers.as_ptr(), numbers.len(),
+            boxes.as_ptr(), boxes.len(), nodes.as_ptr(), nodes.len(), order.as_ptr(), order.len(),
+            direction, active.as_ptr(), active.len(), light.as_mut_ptr(), light.len(), scratch.as_mut_ptr(), scratch.len(),
+            hits.distances.as_mut_ptr(), hits.distances.len(), hits.places.as_mut_ptr(), hits.places.len(),
         )
     };
     Refusal::good(answer.refusal)?;
@@ -529,6 +634,27 @@ pub fn solid_bake(input: BakeInput, volume: &mut [f32], scratch: &mut [f32], pro
             axes, corners, points.as_ptr(), points.len(), uses.as_ptr(), uses.len(), kinds.as_ptr(), kinds.len(), numbers.as_ptr(), numbers.len(),
             light, ambient, sky.as_ptr(), sky.len(), lamps.as_ptr(), lamps.len(), active.as_ptr(), active.len(), lights.as_ptr(), lights.len(),
             volume.as_mut_ptr(), volume.len(), scratch.as_mut_ptr(), scratch.len(), progress, allowance,
+        )
+    };
+    Refusal::good(answer.refusal)?;
+    Ok(Baked { progress: answer.progress, rays: answer.rays })
+}
+
+/// What [`bake`] does, through a tree, with hit scratch: the lights are those of [`tree_sun`]. Each call is handed a tree of the same scene, whichever; a bake that
+/// was begun without one is gone on with without one. Refuses 1, 2, 3, 4, 5, 6, 7, 19, 16, 9, 10, 13.
+pub fn tree_bake(
+    input: BakeInput, tree: Tree, volume: &mut [f32], scratch: &mut [f32], hits: HitScratch, progress: Progress, allowance: u64,
+) -> Result<Baked, Refusal> {
+    let BakeInput { axes, corners, scene, light, ambient, sky, lamps, active, lights } = input;
+    let Scene { points, uses, kinds, numbers } = scene;
+    let Tree { boxes, nodes, order } = tree;
+    let answer = unsafe {
+        face::geaidnosa_tree_bake(
+            axes, corners, points.as_ptr(), points.len(), uses.as_ptr(), uses.len(), kinds.as_ptr(), kinds.len(), numbers.as_ptr(), numbers.len(),
+            boxes.as_ptr(), boxes.len(), nodes.as_ptr(), nodes.len(), order.as_ptr(), order.len(),
+            light, ambient, sky.as_ptr(), sky.len(), lamps.as_ptr(), lamps.len(), active.as_ptr(), active.len(), lights.as_ptr(), lights.len(),
+            volume.as_mut_ptr(), volume.len(), scratch.as_mut_ptr(), scratch.len(),
+            hits.distances.as_mut_ptr(), hits.distances.len(), hits.places.as_mut_ptr(), hits.places.len(), progress, allowance,
         )
     };
     Refusal::good(answer.refusal)?;

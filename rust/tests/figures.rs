@@ -315,6 +315,199 @@ fn solid_walls() {
     assert_eq!(solid_transmittance(empty, ray), Ok(1.0));
 }
 
+/// The tree of one leaf that holds every triangle, in a box as large as this.
+fn one_leaf(t: usize, reach: f32) -> BoxTree {
+    BoxTree { boxes: vec![-reach, -reach, -reach, reach, reach, reach], nodes: vec![t as u32, 0, 7], order: (0..t as u32).collect() }
+}
+
+/// The boxes of a chain: each but the last has a leaf of one triangle as its left half, and all else as its right.
+fn chain(t: usize) -> BoxTree {
+    let (mut nodes, order) = (Vec::new(), (0..t as u32).rev().collect());
+    for k in 0..t as u32 - 1 {
+        nodes.extend([0, 2 * k + 1, 2 * k + 2, 1, k, 0]);
+    }
+    nodes.extend([1, t as u32 - 1, 0]);
+    BoxTree { boxes: [-99.0, -99.0, -99.0, 99.0, 99.0, 99.0].repeat(nodes.len() / 3), nodes, order }
+}
+
+#[test]
+fn trees() {
+    let bits = |list: &[f32]| list.iter().map(|x| x.to_bits()).collect::<Vec<u32>>();
+    let (axes, corners, points, uses, numbers) = walled();
+    let (n, t) = (axes.count(), uses.len());
+    let scene = Scene { points: &points, uses: &uses, kinds: &[OPAQUE, TRANSLUCENT, PANEL], numbers: &numbers };
+    // the builder's: ten triangles in leaves of two and three, each triangle in one, every box inside the one above it
+    let built = build_tree(&points).unwrap();
+    assert_eq!((built.boxes.len(), built.nodes.len(), built.order.len()), (42, 21, t));
+    let mut order = built.order.clone();
+    order.sort_unstable();
+    assert_eq!(order, (0..t as u32).collect::<Vec<u32>>());
+    assert_eq!(built.nodes.chunks(3).map(|node| node[0]).collect::<Vec<u32>>(), [0, 0, 2, 3, 0, 2, 3]);
+    let inside = |low: usize, high: usize| (0..3).all(|a| built.boxes[6 * high + a] <= built.boxes[6 * low + a] && built.boxes[6 * low + 3 + a] <= built.boxes[6 * high + 3 + a]);
+    for (k, node) in built.nodes.chunks(3).enumerate().filter(|(_, node)| node[0] == 0) {
+        assert!(node[1..].iter().all(|half| *half as usize > k && inside(*half as usize, k)));
+    }
+    let others = [one_leaf(t, 50.0), one_leaf(t, f32::INFINITY), chain(t)];
+    let trees: Vec<Tree> = [&built].into_iter().chain(&others).map(BoxTree::lent).collect();
+    // rays from everywhere to everywhere: each tree's answers are those without one
+    let (mut distances, mut places) = (vec![0.0; t], vec![0; t]);
+    let mut hit = 0;
+    for k in 0..4096u32 {
+        let part = |shift: u32| (k.wrapping_mul(2_654_435_761) >> shift & 63) as f32 / 64.0;
+        let origin = Vec3::new(4.0 * part(0), 5.0 * part(6), 12.0 * part(12));
+        let direction = Vec3::new(2.0 * part(18) - 1.0, 2.0 * part(24) - 1.0, if k % 2 == 0 { 1.0 } else { -1.0 });
+        let ray = Ray { origin, direction, shortest: 1e-4, longest: [f32::INFINITY, f32::INFINITY, 1.5, -1.0][k as usize / 2 % 4] };
+        let (first, through) = (nearest(scene, ray).unwrap(), passes(scene, ray).unwrap().to_bits());
+        hit += u32::from(first.is_some());
+        for tree in &trees {
+            assert_eq!(tree_nearest(scene, *tree, ray), Ok(first), "{ray:?}");
+            let hits = HitScratch { distances: &mut distances, places: &mut places };
+            assert_eq!(tree_transmittance(scene, *tree, ray, hits).map(f32::to_bits), Ok(through), "{ray:?}");
+        }
+    }
+    assert!(500 < hit && hit < 3500, "{hit}");
+    // sun and bake: the same bits and rays, whichever tree a call is handed
+    let (mut occupied, mut active) = (vec![0; axes.words()], vec![0; axes.words()]);
+    let count = masks(axes, corners, &points, &mut occupied, &mut active).unwrap().active;
+    let towards = Vec3::new(0.1, -0.05, 0.9);
+    let (mut lights, mut before) = (vec![5.0; n], vec![6.0; n]);
+    assert_eq!(sun(axes, corners, scene, towards, &active, &mut lights, &mut before, HitScratch { distances: &mut distances, places: &mut places }), Ok(count));
+    for tree in &trees {
+        let (mut light, mut scratch) = (vec![7.0; n], vec![8.0; n]);
+        let hits = HitScratch { distances: &mut distances, places: &mut places };
+        assert_eq!(tree_sun(axes, corners, scene, *tree, towards, &active, &mut light, &mut scratch, hits), Ok(count));
+        assert_eq!((bits(&light), bits(&scratch)), (bits(&lights), bits(&before)));
+    }
+    let sky: Vec<f32> = (0..SKY_LENGTH).map(|i| 0.5 + (i % 7) as f32 * 0.125).collect();
+    let light = Light { direction: towards, colour: Vec3::new(3.0, 2.5, 2.0) };
+    let ambient = Ambient { c0: Vec3::new(0.2, 0.25, 0.3), ..Ambient::default() };
+    let lamps = [2.0, 2.0, 2.5, 6.0, 5.0, 4.0];
+    let input = BakeInput { axes, corners, scene, light, ambient, sky: &sky, lamps: &lamps, active: &active, lights: &lights };
+    let mut by = |tree: Option<Tree>, input: BakeInput, volume: &mut [f32], scratch: &mut [f32], progress: Progress, allowance: u64| {
+        let hits = HitScratch { distances: &mut distances, places: &mut places };
+        match tree {
+            Some(tree) => tree_bake(input, tree, volume, scratch, hits, progress, allowance),
+            None => bake(input, volume, scratch, hits, progress, allowance),
+        }
+    };
+    let (mut whole, mut unblurred) = (vec![0.0; 16 * n], vec![0.0; 16 * n]);
+    let unbroken = by(None, input, &mut whole, &mut unblurred, Progress::ZERO, u64::MAX).unwrap();
+    for tree in &trees {
+        let (mut volume, mut scratch) = (vec![0.0; 16 * n], vec![0.0; 16 * n]);
+        assert_eq!(by(Some(*tree), input, &mut volume, &mut scratch, Progress::ZERO, u64::MAX), Ok(unbroken));
+        assert_eq!((bits(&volume), bits(&scratch)), (bits(&whole), bits(&unblurred)));
+    }
+    // one bake, each call through the next of the trees
+    let (mut volume, mut scratch, mut progress, mut calls) = (vec![0.0; 16 * n], vec![0.0; 16 * n], Progress::ZERO, 0);
+    while progress.next < n {
+        progress = by(Some(trees[calls % trees.len()]), input, &mut volume, &mut scratch, progress, 2000).unwrap().progress;
+        calls += 1;
+    }
+    assert!(calls > trees.len() && progress == unbroken.progress);
+    assert_eq!((bits(&volume), bits(&scratch)), (bits(&whole), bits(&unblurred)));
+    // a tree that is not accepted: 16 of every call, and nothing is written
+    let mut bad = Vec::new();
+    let mut broken = |tree: &BoxTree, what: &'static str, change: &dyn Fn(&mut BoxTree)| {
+        let mut tree = tree.clone();
+        change(&mut tree);
+        bad.push((what, tree));
+    };
+    broken(&built, "a box more", &|tree| tree.boxes.extend([0.0; 6]));
+    broken(&built, "a number less", &|tree| tree.boxes.truncate(tree.boxes.len() - 1));
+    broken(&built, "a whole number less", &|tree| tree.nodes.truncate(tree.nodes.len() - 1));
+    broken(&built, "a place more", &|tree| tree.order.push(0));
+    broken(&built, "a place less", &|tree| tree.order.truncate(tree.order.len() - 1));
+    broken(&built, "no box", &|tree| *tree = BoxTree::default());
+    broken(&built, "a leaf as both halves", &|tree| tree.nodes[5] = 2);
+    broken(&built, "a half past the boxes", &|tree| tree.nodes[2] = 7);
+    broken(&built, "a half before its box", &|tree| tree.nodes[4] = 1);
+    broken(&built, "a triangle twice", &|tree| tree.order[1] = tree.order[0]);
+    broken(&built, "a place past the list", &|tree| tree.order[0] = t as u32);
+    broken(&built, "a leaf without triangles", &|tree| tree.nodes[6] = 0);
+    broken(&built, "a run past the order", &|tree| tree.nodes[18] = 4);
+    broken(&built, "a box the least bit small", &|tree| tree.boxes[3] = f32::from_bits(tree.boxes[3].to_bits() - 1));
+    broken(&built, "a box with a NaN", &|tree| tree.boxes[41] = f32::NAN);
+    broken(&one_leaf(t, 50.0), "a leaf short of one triangle", &|tree| tree.nodes[0] -= 1);
+    for (what, tree) in &bad {
+        let tree = tree.lent();
+        assert_eq!(tree_nearest(scene, tree, down(2.0, 2.5, 8.0)), Err(Refusal::Tree), "{what}");
+        let (mut d, mut p, mut light, mut scratch) = (vec![1.0; t], vec![2; t], vec![5.0; n], vec![6.0; n]);
+        assert_eq!(tree_transmittance(scene, tree, down(2.0, 2.5, 8.0), HitScratch { distances: &mut d, places: &mut p }), Err(Refusal::Tree), "{what}");
+        let hits = HitScratch { distances: &mut d, places: &mut p };
+        assert_eq!(tree_sun(axes, corners, scene, tree, towards, &active, &mut light, &mut scratch, hits), Err(Refusal::Tree), "{what}");
+        assert_eq!((light, scratch, d, p), (vec![5.0; n], vec![6.0; n], vec![1.0; t], vec![2; t]));
+        assert_eq!(by(Some(tree), input, &mut volume, &mut unblurred.clone(), Progress::ZERO, u64::MAX), Err(Refusal::Tree), "{what}");
+        assert_eq!(bits(&volume), bits(&whole), "{what}");
+    }
+    // 24 boxes above a box are accepted, 25 are not
+    let sheets = Q_POINTS.repeat(26);
+    let stack = Scene { points: &sheets[..225], uses: &[0; 25], kinds: &[OPAQUE], numbers: &SHEET };
+    assert_eq!(tree_nearest(stack, chain(25).lent(), down(0.25, 0.25, 1.0)).unwrap().map(|h| h.place), Some(24));
+    let stack = Scene { points: &sheets, uses: &[0; 26], ..stack };
+    assert_eq!(tree_nearest(stack, chain(26).lent(), down(0.25, 0.25, 1.0)), Err(Refusal::Tree));
+    // in its row: after 6, 7 and 19, before 8, 9, 10 and 13
+    let wrong = one_leaf(t, 1.0);
+    let (tree, wrong) = (built.lent(), wrong.lent());
+    let ray = Ray { shortest: -1.0, ..down(2.0, 2.5, 8.0) };
+    let odd = Scene { kinds: &[OPAQUE, TRANSLUCENT, 3], ..scene };
+    assert_eq!((tree_nearest(odd, wrong, ray), tree_nearest(scene, wrong, ray), tree_nearest(scene, tree, ray)), (Err(Refusal::Material), Err(Refusal::Tree), Err(Refusal::Ray)));
+    let untidy: Vec<u64> = active.iter().enumerate().map(|(k, word)| if k + 1 == active.len() { word | 1 << 63 } else { *word }).collect();
+    assert!(n % 64 != 0);
+    let (mut d, mut p, mut lit, mut kept) = (vec![0.0; t], vec![0; t], vec![5.0; n], vec![6.0; n]);
+    for (tree, direction, row) in [(wrong, Vec3::default(), Refusal::Light), (wrong, towards, Refusal::Tree), (tree, towards, Refusal::Contents)] {
+        let hits = HitScratch { distances: &mut d, places: &mut p };
+        assert_eq!(tree_sun(axes, corners, scene, tree, direction, &untidy, &mut lit, &mut kept, hits), Err(row));
+    }
+    assert_eq!((lit, kept), (vec![5.0; n], vec![6.0; n]));
+    let far = [1e9, 0.0, 0.0, 0.0, 0.0, 0.0];
+    let rows = [
+        (wrong, Vec3::default(), &far, Progress { next: n + 1, rays: 0 }, 0, Refusal::Light),
+        (wrong, towards, &far, Progress { next: n + 1, rays: 0 }, 0, Refusal::Lamp),
+        (wrong, towards, &lamps, Progress { next: n + 1, rays: 0 }, 0, Refusal::Tree),
+        (tree, towards, &lamps, Progress { next: n + 1, rays: 0 }, 0, Refusal::Progress),
+        (tree, towards, &lamps, Progress::ZERO, 447, Refusal::Allowance),
+        (tree, towards, &lamps, Progress::ZERO, 448, Refusal::Contents),
+    ];
+    for (tree, direction, lamps, progress, allowance, row) in rows {
+        let input = BakeInput { light: Light { direction, ..light }, lamps, active: &untidy, ..input };
+        assert_eq!(by(Some(tree), input, &mut volume, &mut scratch, progress, allowance), Err(row));
+    }
+    assert_eq!((bits(&volume), bits(&scratch)), (bits(&whole), bits(&unblurred)));
+    // no triangle, or none that is present: the empty tree, and that one alone
+    let empty = Scene { points: &[], uses: &[], kinds: &[], numbers: &[] };
+    let absent = Scene { points: &[1.0; 18], uses: &[0; 2], kinds: &[OPAQUE], numbers: &SHEET };
+    for scene in [empty, absent] {
+        assert_eq!(build_tree(scene.points), Ok(BoxTree::default()));
+        assert_eq!(tree_nearest(scene, Tree::EMPTY, down(0.25, 0.25, 1.0)), Ok(None));
+        let hits = HitScratch { distances: &mut d, places: &mut p };
+        assert_eq!(tree_transmittance(scene, Tree::EMPTY, down(0.25, 0.25, 1.0), hits), Ok(1.0));
+        assert_eq!(tree_nearest(scene, one_leaf(scene.uses.len(), 50.0).lent(), down(0.25, 0.25, 1.0)), Err(Refusal::Tree));
+    }
+    // the builder's refusals: 3 before 4 before 5
+    assert_eq!(build_tree(&vec![f32::NAN; 9 * 4097 + 1]), Err(Refusal::Length));
+    assert_eq!(build_tree(&vec![f32::NAN; 9 * 4097]), Err(Refusal::TooMany));
+    assert_eq!(build_tree(&vec![f32::NAN; 9 * 4096]), Err(Refusal::Point));
+    assert_eq!(build_tree(&Q_POINTS).map(|tree| (tree.nodes, tree.order)), Ok((vec![1, 0, 0], vec![0])));
+}
+
+/// The smallest hit that was found of those that a tree leaves out: it lies off its own triangle's padded box. docs/DIFFERENCES.md has it.
+#[test]
+fn what_a_tree_leaves_out() {
+    let points = [0x3ec7ae15u32, 0x3e55b37e, 0x3ece762a, 0xbd79ecde, 0x3e99999a, 0, 0x3ec7ae15, 0xbd30048c, 0x3e367474].map(f32::from_bits);
+    let [x, y, z, dx, dy, dz] = [0x3ecb0429u32, 0xba486500, 0x3e64483b, 0x3f563f9f, 0x3de57e3c, 0x3f800000].map(f32::from_bits);
+    let ray = Ray { origin: Vec3::new(x, y, z), direction: Vec3::new(dx, dy, dz), shortest: 0.0, longest: f32::INFINITY };
+    let tree = build_tree(&points).unwrap();
+    for kind in [OPAQUE, TRANSLUCENT] {
+        let scene = Scene { points: &points, uses: &[0], kinds: &[kind], numbers: &SHEET };
+        assert_eq!(nearest(scene, ray).unwrap().map(|hit| hit.t.to_bits()), Some(0x3d800000));
+        assert!(passes(scene, ray).unwrap() < 1.0);
+        assert_eq!(tree_nearest(scene, tree.lent(), ray), Ok(None));
+        assert_eq!(tree_nearest(scene, one_leaf(1, 50.0).lent(), ray), Ok(None));
+        let hits = HitScratch { distances: &mut [0.0], places: &mut [0] };
+        assert_eq!(tree_transmittance(scene, tree.lent(), ray, hits), Ok(1.0));
+    }
+}
+
 #[test]
 fn grids() {
     let (mut occupied, mut active) = ([9], [!9]);

@@ -828,6 +828,335 @@ static void check_solid(void) {
     points[9] = x;
 }
 
+/* ---- box trees: the builder's, a leaf of all triangles and a chain, by the calls through a tree and by the others */
+
+enum { MOST = 2 * T - 1 };
+
+typedef struct Tree {
+    float boxes[6 * (MOST + 1)]; /* a list has room for one more than is lent */
+    uint32_t nodes[3 * (MOST + 1)], order[T + 1];
+    size_t box_numbers, node_numbers, order_numbers; /* as many are lent */
+} Tree;
+
+#define SCENE points, 9 * T, uses, T, kinds, M, numbers, 7 * M
+#define LENT(t) (t)->boxes, (t)->box_numbers, (t)->nodes, (t)->node_numbers, (t)->order, (t)->order_numbers
+
+static GeaidnosaRayHit tree_nearest(const Tree *tree, GeaidnosaRay ray) { return geaidnosa_tree_nearest(SCENE, LENT(tree), ray); }
+
+static GeaidnosaTransmitted tree_passes(const Tree *tree, GeaidnosaRay ray) { return geaidnosa_tree_transmittance(SCENE, LENT(tree), ray, distances, T, places, T); }
+
+static GeaidnosaSunned tree_sun(const Tree *tree, GeaidnosaVec3 direction, float *l, float *s) {
+    return geaidnosa_tree_sun(axes, corners, SCENE, LENT(tree), direction, active, active_words, l, N, s, N, distances, T, places, T);
+}
+
+static GeaidnosaBakeAnswer tree_bake(const Tree *tree, GeaidnosaLight sun_light, float *v, float *s, GeaidnosaProgress progress, uint64_t allowance) {
+    return geaidnosa_tree_bake(axes, corners, SCENE, LENT(tree), sun_light, ambient, sky, SKY, lamps, lamp_numbers, active, active_words, lights, N, v, 16 * N, s, 16 * N, distances, T, places, T,
+                               progress, allowance);
+}
+
+/* the tree of the hall's points, and what it answers */
+static GeaidnosaTreeBuilt built(Tree *tree) {
+    const GeaidnosaTreeBuilt b = geaidnosa_build_tree(points, 9 * T, tree->boxes, 6 * T, tree->nodes, 3 * T, tree->order, T);
+    tree->box_numbers = 6 * b.boxes;
+    tree->node_numbers = 3 * b.boxes;
+    tree->order_numbers = b.places;
+    return b;
+}
+
+static void large_box(Tree *tree, size_t box) {
+    for (size_t a = 0; a < 3; a++) tree->boxes[6 * box + a] = -100, tree->boxes[6 * box + 3 + a] = 100;
+}
+
+static void node(Tree *tree, size_t box, uint32_t count, size_t first, size_t second) {
+    tree->nodes[3 * box] = count;
+    tree->nodes[3 * box + 1] = (uint32_t)first;
+    tree->nodes[3 * box + 2] = (uint32_t)second;
+    large_box(tree, box);
+    tree->box_numbers = 6 * (box + 1);
+    tree->node_numbers = 3 * (box + 1);
+}
+
+static void one_leaf(Tree *tree) {
+    node(tree, 0, T, 0, 12345); /* a leaf's third number is not read */
+    for (uint32_t i = 0; i < T; i++) tree->order[i] = T - 1 - i;
+    tree->order_numbers = T;
+}
+
+/* a box above each triangle, the last but one the deepest: 13 boxes one in the other */
+static void chain(Tree *tree) {
+    one_leaf(tree);
+    for (size_t k = 0; k + 1 < T; k++) {
+        node(tree, 2 * k, 0, 2 * k + 1, 2 * k + 2);
+        node(tree, 2 * k + 1, 1, k, 0);
+    }
+    node(tree, 2 * T - 2, 1, T - 1, 0);
+}
+
+/* every triangle once in the leaves, its padded box inside its leaf's, halves behind their box and inside it */
+static int holds_together(const Tree *tree) {
+    const size_t count = tree->node_numbers / 3;
+    int seen[T] = {0}, parents[MOST] = {0};
+    for (size_t k = 0; k < count; k++) {
+        const uint32_t *n = &tree->nodes[3 * k];
+        const float *box = &tree->boxes[6 * k];
+        for (uint32_t i = 1; n[0] == 0 && i < 3; i++) {
+            if (n[i] <= k || n[i] >= count) return 0;
+            parents[n[i]]++;
+            for (int a = 0; a < 3; a++)
+                if (tree->boxes[6 * n[i] + a] < box[a] || box[3 + a] < tree->boxes[6 * n[i] + 3 + a]) return 0;
+        }
+        if (n[0] > 4 || n[1] + n[0] > tree->order_numbers + (n[0] == 0 ? count : 0)) return 0;
+        for (uint32_t i = 0; i < n[0]; i++) {
+            const uint32_t place = tree->order[n[1] + i];
+            if (place >= T || seen[place]++) return 0;
+            for (int a = 0; a < 9; a++)
+                if (points[9 * place + a] - 1e-5f < box[a % 3] || box[3 + a % 3] < points[9 * place + a] + 1e-5f) return 0;
+        }
+    }
+    for (int i = 0; i < T; i++)
+        if (!seen[i]) return 0;
+    for (size_t k = 1; k < count; k++)
+        if (parents[k] != 1) return 0;
+    return 1;
+}
+
+static uint64_t tree_sum(const Tree *tree) { return sum_on(sum_on(sum_of(tree->boxes, sizeof tree->boxes), tree->nodes, sizeof tree->nodes), tree->order, sizeof tree->order); }
+
+static void check_builder(Tree *tree) {
+    memset(tree, 0xff, sizeof *tree);
+    const uint64_t before = tree_sum(tree);
+    static float many[9 * 4097];
+    static float room[6 * 4097];
+    static uint32_t halves[3 * 4097], run[4097];
+    int good = geaidnosa_build_tree(points, 9 * T - 1, tree->boxes, 6 * T, tree->nodes, 3 * T, tree->order, T).refusal == 3;
+    good = good && geaidnosa_build_tree(points, 9 * T, tree->boxes, 6 * T - 1, tree->nodes, 3 * T, tree->order, T).refusal == 3;
+    good = good && geaidnosa_build_tree(points, 9 * T, tree->boxes, 6 * T, tree->nodes, 3 * T - 1, tree->order, T).refusal == 3;
+    good = good && geaidnosa_build_tree(points, 9 * T, tree->boxes, 6 * T, tree->nodes, 3 * T, tree->order, T - 1).refusal == 3;
+    good = good && geaidnosa_build_tree(many, 9 * 4097, room, 6 * 4097, halves, 3 * 4097, run, 4097).refusal == 4;
+    const float x = points[9];
+    points[9] = NAN;
+    const GeaidnosaTreeBuilt refused = built(tree);
+    points[9] = x;
+    check("build_tree: 9·T−1 points, a list one short, 3; 4,097 triangles, 4; a point NaN, 5; nothing is written",
+          good && refused.refusal == 5 && refused.boxes == 0 && refused.places == 0 && tree_sum(tree) == before);
+    const GeaidnosaTreeBuilt b = built(tree);
+    good = b.refusal == 0 && b.boxes == 7 && b.places == T;
+    for (size_t k = 42; k < 6 * (MOST + 1); k++) good = good && tree->boxes[k] != tree->boxes[k];
+    for (size_t k = 21; k < 3 * (MOST + 1); k++) good = good && tree->nodes[k] == UINT32_MAX;
+    check("build_tree: fourteen triangles, seven boxes, and what stands behind the tree stays", good && tree->order[T] == UINT32_MAX);
+    check("build_tree: every triangle once, boxes inside the one above", holds_together(tree));
+    const GeaidnosaTreeBuilt none = geaidnosa_build_tree(many, 0, room, 0, halves, 0, run, 0), absent = geaidnosa_build_tree(many, 9 * 4096, room, 6 * 4096, halves, 3 * 4096, run, 4096);
+    check("build_tree: no triangle, and 4,096 without area: no box", none.refusal == 0 && none.boxes == 0 && none.places == 0 && absent.refusal == 0 && absent.boxes == 0 && absent.places == 0);
+    printf("   tree sum %016llx\n", (unsigned long long)sum_on(sum_on(sum_of(tree->boxes, 42 * sizeof(float)), tree->nodes, 21 * sizeof(uint32_t)), tree->order, T * sizeof(uint32_t)));
+}
+
+static void check_tree_rays(const Tree *trees, int count) {
+    int met = 0, good = 1;
+    for (int k = 0; k < 4096; k++) {
+        float r[7];
+        for (int i = 0; i < 7; i++) r[i] = chance();
+        const GeaidnosaRay ray = {{W * r[0], H * r[1], D * r[2]}, {2 * r[3] - 1, 2 * r[4] - 1, 2 * r[5] - 1}, 1e-4f, k % 3 ? INFINITY : 3 * r[6]};
+        const GeaidnosaRayHit a = geaidnosa_nearest(SCENE, ray);
+        const GeaidnosaTransmitted p = passes(ray);
+        for (int i = 0; i < count; i++) {
+            const GeaidnosaRayHit b = tree_nearest(&trees[i], ray);
+            const GeaidnosaTransmitted q = tree_passes(&trees[i], ray);
+            good = good && a.refusal == 0 && (a.hit ? is_hit(b, a.place, a.t, a.u, a.v, a.front) : no_hit(b, 0));
+            good = good && q.refusal == 0 && !memcmp(&p.transmittance, &q.transmittance, sizeof p.transmittance);
+        }
+        met += (int)a.hit;
+    }
+    check("tree_nearest and tree_transmittance: 4,096 rays through each of three trees, the bits of a plain run", good && met > 500);
+    printf("   %d rays meet a triangle\n", met);
+    /* a hit off the triangle's own padded box: found without a tree, left out with any */
+    const uint32_t patterns[15] = {0x3ec7ae15, 0x3e55b37e, 0x3ece762a, 0xbd79ecde, 0x3e99999a, 0, 0x3ec7ae15, 0xbd30048c, 0x3e367474, 0x3ecb0429, 0xba486500, 0x3e64483b, 0x3f563f9f, 0x3de57e3c, 0x3f800000};
+    float f[15], box[6];
+    uint32_t leaf[3], run = 9;
+    memcpy(f, patterns, sizeof f);
+    const GeaidnosaRay beside = {{f[9], f[10], f[11]}, {f[12], f[13], f[14]}, 0, INFINITY};
+    const GeaidnosaTreeBuilt b = geaidnosa_build_tree(f, 9, box, 6, leaf, 3, &run, 1);
+    check("tree_nearest and tree_transmittance: a hit off the triangle's own box is left out",
+          b.refusal == 0 && b.boxes == 1 && b.places == 1 && run == 0 && geaidnosa_nearest(f, 9, uses, 1, kinds, M, numbers, 7 * M, beside).hit == 1 &&
+              no_hit(geaidnosa_tree_nearest(f, 9, uses, 1, kinds, M, numbers, 7 * M, box, 6, leaf, 3, &run, 1, beside), 0) &&
+              geaidnosa_transmittance(f, 9, uses, 1, kinds, M, numbers, 7 * M, beside, distances, T, places, T).transmittance == 0 &&
+              geaidnosa_tree_transmittance(f, 9, uses, 1, kinds, M, numbers, 7 * M, box, 6, leaf, 3, &run, 1, beside, distances, T, places, T).transmittance == 1);
+}
+
+/* Leaves the hall's lights in the list of that name. */
+static void check_tree_sun(const Tree *trees, int count) {
+    static float l[N], s[N], nans[N];
+    memset(nans, 0xff, sizeof nans);
+    const GeaidnosaSunned a = sun(light.direction, active);
+    int good = a.refusal == 0;
+    for (int i = 0; i < count; i++) {
+        memset(l, 0xff, sizeof l);
+        memset(s, 0xff, sizeof s);
+        const GeaidnosaSunned b = tree_sun(&trees[i], light.direction, l, s);
+        good = good && b.refusal == 0 && a.rays == b.rays && !memcmp(l, lights, sizeof l) && !memcmp(s, lights_scratch, sizeof s);
+    }
+    check("tree_sun: through each of three trees the same rays, light and scratch bit for bit", good);
+    const uint64_t none[WORDS] = {0};
+    memset(s, 0xff, sizeof s);
+    const GeaidnosaSunned still = geaidnosa_tree_sun(axes, corners, SCENE, LENT(trees), light.direction, none, WORDS, l, N, s, N, distances, T, places, T);
+    good = still.refusal == 0 && still.rays == 0 && !memcmp(s, nans, sizeof s);
+    for (int i = 0; i < N; i++) good = good && l[i] == 1;
+    check("tree_sun: no voxel active, all 1.0, scratch as it was", good);
+    check("tree_sun: hit scratch shorter than the triangles, refuses 3",
+          geaidnosa_tree_sun(axes, corners, SCENE, LENT(trees), light.direction, active, WORDS, l, N, s, N, distances, T - 1, places, T).refusal == 3);
+}
+
+/* A bake in calls of one allowance, each through the next of the trees, is the volume that stands in the lists. */
+static int goes_on(const Tree *trees, int count, uint64_t allowance, uint64_t rays) {
+    static float v[16 * N], s[16 * N];
+    GeaidnosaProgress progress = begin;
+    int calls = 0;
+    memset(v, 0xff, sizeof v);
+    memset(s, 0xff, sizeof s);
+    while (progress.next < N && calls <= N) {
+        const GeaidnosaBakeAnswer a = tree_bake(&trees[calls % count], light, v, s, progress, allowance);
+        if (a.refusal) return 0;
+        progress = a.progress;
+        calls++;
+    }
+    return calls > count && is_progress(progress, N, rays) && !memcmp(v, volume, sizeof volume) && !memcmp(s, scratch, sizeof scratch);
+}
+
+static void check_tree_bake(const Tree *trees, int count) {
+    static float v[16 * N], s[16 * N];
+    const char *const with[2] = {"no lamp", "one lamp"};
+    char line[160];
+    for (int lamp = 0; lamp < 2; lamp++) {
+        lamp_numbers = 6 * (size_t)lamp;
+        const GeaidnosaBakeAnswer a = bake(volume, scratch, begin, UINT64_MAX);
+        int good = a.refusal == 0 && is_progress(a.progress, N, a.rays);
+        for (int i = 0; i < count; i++) {
+            const GeaidnosaBakeAnswer b = tree_bake(&trees[i], light, v, s, begin, UINT64_MAX);
+            good = good && same_answer(a, b) && !memcmp(v, volume, sizeof v) && !memcmp(s, scratch, sizeof s);
+        }
+        snprintf(line, sizeof line, "tree_bake: %s, unbroken, through each of three trees the same answer, volume and scratch bit for bit", with[lamp]);
+        check(line, good);
+        snprintf(line, sizeof line, "tree_bake: %s, in calls of the least allowance and of 5,000, each through another tree, the same", with[lamp]);
+        check(line, goes_on(trees, count, 384 + 64 * (uint64_t)lamp, a.rays) && goes_on(trees, count, 5000, a.rays));
+        good = same_answer(tree_bake(trees, light, v, s, a.progress, 500), bake(v, s, a.progress, 500));
+        snprintf(line, sizeof line, "tree_bake: %s, a finished bake stays", with[lamp]);
+        check(line, good && !memcmp(v, volume, sizeof v) && !memcmp(s, scratch, sizeof s));
+    }
+    lamp_numbers = 0;
+}
+
+/* each of the four refuses 16, all zeros, and writes nothing */
+static int refused_by_all(const Tree *tree) {
+    const GeaidnosaRay up = {{1, 1, 1}, {0, 0, 1}, 0, 1};
+    const uint64_t before = written_sum();
+    const GeaidnosaTransmitted t = tree_passes(tree, up);
+    const GeaidnosaSunned s = tree_sun(tree, light.direction, lights, lights_scratch);
+    const GeaidnosaBakeAnswer b = tree_bake(tree, light, volume, scratch, from(3, 5), 777);
+    return no_hit(tree_nearest(tree, up), 16) && t.refusal == 16 && t.transmittance == 0 && s.refusal == 16 && s.rays == 0 && b.refusal == 16 && is_progress(b.progress, 3, 5) && b.rays == 0 &&
+           written_sum() == before;
+}
+
+/* a number above 0, so many of the least steps on */
+static float stepped(float x, int steps) {
+    uint32_t bits;
+    memcpy(&bits, &x, sizeof x);
+    bits += (uint32_t)steps;
+    memcpy(&x, &bits, sizeof x);
+    return x;
+}
+
+static void check_bad_trees(const Tree *good_tree) {
+    Tree t;
+    int good = 1;
+#define BROKEN(change) t = *good_tree, change, good = good && refused_by_all(&t)
+    BROKEN(t.box_numbers -= 1);
+    BROKEN(t.box_numbers += 6);
+    BROKEN(t.node_numbers -= 1);
+    BROKEN(t.node_numbers -= 3);
+    BROKEN(t.order_numbers -= 1);
+    BROKEN(t.order_numbers += 1);
+    check("calls through a tree: lists that do not fit each other, each in turn, refuses 16 and writes nothing", good);
+    good = 1;
+    BROKEN(t.nodes[1] = t.nodes[2]);
+    BROKEN(t.nodes[1] = 0);
+    BROKEN(t.nodes[2] = 7);
+    BROKEN(t.nodes[6] = 0);
+    BROKEN(t.nodes[6] -= 1);
+    BROKEN(t.nodes[7] += 1);
+    BROKEN(t.order[0] = t.order[1]);
+    BROKEN(t.order[0] = T);
+    check("calls through a tree: a second parent, a half before its box or past the list, a leaf short of a triangle, a triangle twice: 16", good);
+    good = 1;
+    for (int k = 0; k < 42; k++) {
+        BROKEN(t.boxes[k] = NAN);
+        BROKEN(t.boxes[k] = stepped(t.boxes[k], k % 6 < 3 ? 1 : -1));
+    }
+    check("calls through a tree: each number of each box NaN, and the least step too small: 16", good);
+    t = *good_tree;
+    t.box_numbers = t.node_numbers = t.order_numbers = 0;
+    check("calls through a tree: the empty tree of a hall, 16", refused_by_all(&t));
+#undef BROKEN
+}
+
+static void check_tree_rows(const Tree *tree) {
+    Tree wrong = *tree;
+    wrong.order[0] = T;
+    const GeaidnosaRay bad = {{1, 1, 1}, {0, 0, 3}, 0, 1};
+    const GeaidnosaLight dark = {{0, 0, 0}, {1, 1, 1}};
+    const uint64_t before = written_sum(), word = active[WORDS - 1];
+    kinds[3] = 3;
+    int good = no_hit(tree_nearest(&wrong, bad), 6) && tree_passes(&wrong, bad).refusal == 6;
+    kinds[3] = 0;
+    good = good && no_hit(tree_nearest(&wrong, bad), 16) && tree_passes(&wrong, bad).refusal == 16 && no_hit(tree_nearest(tree, bad), 8) && tree_passes(tree, bad).refusal == 8;
+    check("tree_nearest and tree_transmittance: 6 before 16 before 8", good);
+    active[WORDS - 1] |= (uint64_t)1 << 63;
+    good = tree_sun(&wrong, dark.direction, lights, lights_scratch).refusal == 7 && tree_sun(&wrong, light.direction, lights, lights_scratch).refusal == 16 &&
+           tree_sun(tree, light.direction, lights, lights_scratch).refusal == 13;
+    check("tree_sun: 7 before 16 before 13", good);
+    lamp_numbers = 54;
+    good = tree_bake(&wrong, dark, volume, scratch, from(N + 1, 0), 0).refusal == 7 && tree_bake(&wrong, light, volume, scratch, from(N + 1, 0), 0).refusal == 19;
+    lamp_numbers = 0;
+    good = good && tree_bake(&wrong, light, volume, scratch, from(N + 1, 0), 0).refusal == 16 && tree_bake(tree, light, volume, scratch, from(N + 1, 0), 0).refusal == 9 &&
+           tree_bake(tree, light, volume, scratch, begin, 383).refusal == 10 && tree_bake(tree, light, volume, scratch, begin, 384).refusal == 13;
+    active[WORDS - 1] = word;
+    check("tree_bake: 7, 19, 16, 9, 10, 13, in this order", good && written_sum() == before);
+}
+
+static void check_empty_tree(void) {
+    static float flat[18];
+    static float l[N], s[N], l2[N], s2[N], v[16 * N], b[16 * N], v2[16 * N], b2[16 * N];
+    const GeaidnosaRay up = {{1, 1, 1}, {0, 0, 1}, 0, 1};
+    int good = 1;
+    for (size_t t = 0; t <= 2; t += 2) {
+        good = good && no_hit(geaidnosa_tree_nearest(flat, 9 * t, uses, t, kinds, M, numbers, 7 * M, flat, 0, uses, 0, uses, 0, up), 0);
+        good = good && geaidnosa_tree_transmittance(flat, 9 * t, uses, t, kinds, M, numbers, 7 * M, flat, 0, uses, 0, uses, 0, up, distances, T, places, T).transmittance == 1;
+        const GeaidnosaSunned a = geaidnosa_sun(axes, corners, flat, 9 * t, uses, t, kinds, M, numbers, 7 * M, light.direction, active, WORDS, l, N, s, N, distances, T, places, T);
+        const GeaidnosaSunned c = geaidnosa_tree_sun(axes, corners, flat, 9 * t, uses, t, kinds, M, numbers, 7 * M, flat, 0, uses, 0, uses, 0, light.direction, active, WORDS, l2, N, s2, N, distances, T, places, T);
+        good = good && a.refusal == 0 && c.refusal == 0 && a.rays == c.rays && !memcmp(l, l2, sizeof l) && !memcmp(s, s2, sizeof s);
+        const GeaidnosaBakeAnswer d = geaidnosa_bake(axes, corners, flat, 9 * t, uses, t, kinds, M, numbers, 7 * M, light, ambient, sky, SKY, lamps, 6, active, WORDS, l, N, v, 16 * N, b, 16 * N,
+                                                     distances, T, places, T, begin, UINT64_MAX);
+        const GeaidnosaBakeAnswer e = geaidnosa_tree_bake(axes, corners, flat, 9 * t, uses, t, kinds, M, numbers, 7 * M, flat, 0, uses, 0, uses, 0, light, ambient, sky, SKY, lamps, 6, active, WORDS, l, N,
+                                                          v2, 16 * N, b2, 16 * N, distances, T, places, T, begin, UINT64_MAX);
+        good = good && d.refusal == 0 && same_answer(d, e) && !memcmp(v, v2, sizeof v) && !memcmp(b, b2, sizeof b);
+    }
+    check("calls through the empty tree: no triangle, and two without area, as without a tree", good);
+    const uint32_t leaf[3] = {1, 0, 0}, run[1] = {0};
+    const float box[6] = {-9, -9, -9, 9, 9, 9};
+    check("tree_nearest: a box where no triangle is present, 16", no_hit(geaidnosa_tree_nearest(flat, 9, uses, 1, kinds, M, numbers, 7 * M, box, 6, leaf, 3, run, 1, up), 16));
+}
+
+static void check_trees(void) {
+    static Tree trees[3];
+    check_builder(&trees[0]);
+    one_leaf(&trees[1]);
+    chain(&trees[2]);
+    check_tree_rays(trees, 3);
+    check_tree_sun(trees, 3);
+    check_tree_bake(trees, 3);
+    check_bad_trees(&trees[0]);
+    check_tree_rows(&trees[0]);
+    check_empty_tree();
+}
+
 int main(void) {
     build();
     check("version: the header's and the archive's", geaidnosa_version() == GEAIDNOSA_VERSION_NUMBER);
@@ -845,6 +1174,7 @@ int main(void) {
     check_lookups();
     check_file(o, a);
     check_solid();
+    check_trees();
     printf("%d failed\n", failures);
     return failures != 0;
 }

@@ -18,9 +18,9 @@ use Rattle.geaidnosa.specs.declared.PartStart.{PartStart}
 
 -- ---- the version
 
--- 0.6.0: major·1,000,000 + minor·1,000 + patch
+-- 0.7.0: major·1,000,000 + minor·1,000 + patch
 abbrev pub versionNumber : ℕ
-versionNumber = 6000
+versionNumber = 7000
 
 -- ---- a hit
 

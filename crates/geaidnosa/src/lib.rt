@@ -1,7 +1,7 @@
 // The public calls for C, and for Rust through C's interface: include/geaidnosa.h says each in one sentence. A list is lent as its pointer and its
 // length, a struct goes by value, and no call keeps a pointer. Each hands on the public call's own contract; where that call answers an enum or a
 // part of a list, specs/Exports.antt says what stands for it. The float functions go by bit patterns, since a NaN's pattern is promised too.
-ghost use Rattle.names.specs.Scene.{sceneOf};
+ghost use Rattle.names.specs.Scene.{sceneOf, treeScene};
 ghost use lib.ListN.{length};
 ghost use mathlib.Core.Path.{_≡_};
 ghost use mathlib.Core.Bool.{false, cond};
@@ -11,10 +11,11 @@ ghost use Rattle.floats.specs.Root.{rootOf};
 ghost use Rattle.floats.specs.Whole.{floorOf, ceilingOf};
 ghost use Rattle.directions.specs.Sets.{setOf};
 ghost use Rattle.directions.specs.Filled.{DirectionsFilled};
-ghost use Rattle.rays.specs.Rays.{refusedValues, hitValues, valuesOfMet, valuesOfFound, TransmittanceAnswered, SolidTransmittanceAnswered};
+ghost use Rattle.rays.specs.Rays.{refusedValues, hitValues, valuesOfMet, valuesOfFound, TransmittanceAnswered, SolidTransmittanceAnswered, TreeTransmittanceAnswered};
+ghost use Rattle.tree_build.specs.Build.{BuildAnswered};
 ghost use Rattle.masks.specs.Masks.{MasksFilled};
 ghost use Rattle.blurs.specs.Blurs.{LightBlurred, CoefficientsBlurred};
-ghost use Rattle.sun.specs.Sun.{SunAnswered, SolidSunAnswered};
+ghost use Rattle.sun.specs.Sun.{SunAnswered, SolidSunAnswered, TreeSunAnswered};
 ghost use Rattle.spread.specs.Spread.{stage};
 ghost use Rattle.intake.specs.Intake.{inputOf, solidInput};
 ghost use Rattle.bake.specs.Baked.{Baked, SolidBaked};
@@ -37,6 +38,7 @@ use rays::Met;
 use rays::Transmitted;
 use spread::Progress;
 use sun::Sunned;
+use tree_build::TreeBuilt;
 use vectors::Ray;
 use vectors::Triangle;
 use vectors::Vec3;
@@ -66,8 +68,8 @@ pub struct PartStart {
 
 // ---- the version
 
-// 0.6.0: major·1,000,000 + minor·1,000 + patch, as GEAIDNOSA_VERSION_NUMBER in the header.
-const VERSION: u32 = 6000;
+// 0.7.0: major·1,000,000 + minor·1,000 + patch, as GEAIDNOSA_VERSION_NUMBER in the header.
+const VERSION: u32 = 7000;
 
 #[no_mangle]
 pub extern "C" fn geaidnosa_version() -> u32
@@ -140,6 +142,65 @@ pub extern "C" fn geaidnosa_solid_transmittance(
     ensures { λ r. ⌜ SolidTransmittanceAnswered (sceneOf (now (points .entry)) (now (uses .entry)) (now (kinds .entry)) (now (numbers .entry))) ray r ⌝ }
 {
     rays::solid_transmittance(points, uses, kinds, numbers, ray)
+}
+
+// ---- a scene's box tree
+
+#[no_mangle]
+pub extern "C" fn geaidnosa_build_tree(
+    points: &[f32],
+    boxes: &mut [f32],
+    nodes: &mut [u32],
+    order: &mut [u32],
+) -> TreeBuilt
+    ensures { λ r. ⌜ BuildAnswered (now (points .entry)) (now (boxes .entry)) (now (nodes .entry)) (now (order .entry)) r (now (boxes .exit)) (now (nodes .exit)) (now (order .exit)) ⌝ }
+{
+    tree_build::build_tree(points, boxes, nodes, order)
+}
+
+#[no_mangle]
+pub extern "C" fn geaidnosa_tree_nearest(
+    points: &[f32],
+    uses: &[u32],
+    kinds: &[u8],
+    numbers: &[f32],
+    boxes: &[f32],
+    nodes: &[u32],
+    order: &[u32],
+    ray: Ray,
+) -> RayHit
+    ensures { λ r. ⌜ NearestTold (treeScene (now (points .entry)) (now (uses .entry)) (now (kinds .entry)) (now (numbers .entry)) (now (boxes .entry)) (now (nodes .entry)) (now (order .entry))) ray r ⌝ }
+{
+    found_told(rays::tree_nearest(points, uses, kinds, numbers, boxes, nodes, order, ray))
+}
+
+#[no_mangle]
+pub extern "C" fn geaidnosa_tree_transmittance(
+    points: &[f32],
+    uses: &[u32],
+    kinds: &[u8],
+    numbers: &[f32],
+    boxes: &[f32],
+    nodes: &[u32],
+    order: &[u32],
+    ray: Ray,
+    distances: &mut [f32],
+    places: &mut [usize],
+) -> Transmitted
+    ensures { λ r. ⌜ TreeTransmittanceAnswered (now (points .entry)) (now (uses .entry)) (now (kinds .entry)) (now (numbers .entry)) (now (boxes .entry)) (now (nodes .entry)) (now (order .entry)) ray (now (distances .entry)) (now (places .entry)) r (now (distances .exit)) (now (places .exit)) ⌝ }
+{
+    rays::tree_transmittance(
+        points,
+        uses,
+        kinds,
+        numbers,
+        boxes,
+        nodes,
+        order,
+        ray,
+        distances,
+        places,
+    )
 }
 
 // ---- masks, blurs and the sun
@@ -237,6 +298,45 @@ pub extern "C" fn geaidnosa_solid_sun(
     )
 }
 
+#[no_mangle]
+pub extern "C" fn geaidnosa_tree_sun(
+    axes: Axes,
+    corners: Corners,
+    points: &[f32],
+    uses: &[u32],
+    kinds: &[u8],
+    numbers: &[f32],
+    boxes: &[f32],
+    nodes: &[u32],
+    order: &[u32],
+    direction: Vec3,
+    active: &[u64],
+    light: &mut [f32],
+    scratch: &mut [f32],
+    distances: &mut [f32],
+    places: &mut [usize],
+) -> Sunned
+    ensures { λ r. ⌜ TreeSunAnswered axes corners (now (points .entry)) (now (uses .entry)) (now (kinds .entry)) (now (numbers .entry)) (now (boxes .entry)) (now (nodes .entry)) (now (order .entry)) direction (now (active .entry)) (now (light .entry)) (now (scratch .entry)) (now (distances .entry)) (now (places .entry)) r (now (light .exit)) (now (scratch .exit)) (now (distances .exit)) (now (places .exit)) ⌝ }
+{
+    sun::tree_sun(
+        axes,
+        corners,
+        points,
+        uses,
+        kinds,
+        numbers,
+        boxes,
+        nodes,
+        order,
+        direction,
+        active,
+        light,
+        scratch,
+        distances,
+        places,
+    )
+}
+
 // ---- the bake
 
 #[no_mangle]
@@ -329,6 +429,62 @@ pub extern "C" fn geaidnosa_solid_bake(
         lights,
         volume,
         scratch,
+        progress,
+        allowance,
+    )
+}
+
+#[no_mangle]
+pub extern "C" fn geaidnosa_tree_bake(
+    axes: Axes,
+    corners: Corners,
+    points: &[f32],
+    uses: &[u32],
+    kinds: &[u8],
+    numbers: &[f32],
+    boxes: &[f32],
+    nodes: &[u32],
+    order: &[u32],
+    light: Light,
+    ambient: Ambient,
+    sky: &[f32],
+    lamps: &[f32],
+    active: &[u64],
+    lights: &[f32],
+    volume: &mut [f32],
+    scratch: &mut [f32],
+    distances: &mut [f32],
+    places: &mut [usize],
+    progress: Progress,
+    allowance: u64,
+) -> BakeAnswer
+    ensures { λ r. ⌜ Baked
+        (inputOf axes corners (treeScene (now (points .entry)) (now (uses .entry)) (now (kinds .entry)) (now (numbers .entry)) (now (boxes .entry)) (now (nodes .entry)) (now (order .entry)))
+        light ambient (now (sky .entry)) (now (lamps .entry)) (now (active .entry)) (now (lights .entry))
+        (length (now (distances .entry))) (length (now (places .entry))))
+        (stage progress (now (volume .entry)) (now (scratch .entry))) allowance
+        r (now (volume .exit)) (now (scratch .exit)) (now (distances .entry)) (now (distances .exit)) (now (places .entry)) (now (places .exit)) ⌝ }
+{
+    bake::tree_bake(
+        axes,
+        corners,
+        points,
+        uses,
+        kinds,
+        numbers,
+        boxes,
+        nodes,
+        order,
+        light,
+        ambient,
+        sky,
+        lamps,
+        active,
+        lights,
+        volume,
+        scratch,
+        distances,
+        places,
         progress,
         allowance,
     )
