@@ -1,6 +1,6 @@
 //! The commands, one function each; each answers its exit code, or an error in words.
 use crate::baking::{self, Asked, Outcome, Prepared, Told};
-use crate::engine::Engine;
+use crate::engine::{Engine, Scan};
 use crate::faults::Found;
 use crate::hall::{self, thousands, vec, Hall};
 use crate::part::{self, Only, Part};
@@ -23,6 +23,12 @@ fn read_hall(path: &Path, warn: bool) -> Result<Hall> {
     }
     found.judged()?;
     hall.context("the hall cannot be read")
+}
+
+/// The same, to be baked: by the scan that a command asks for, else by the hall's own.
+fn read_for_bake(path: &Path, warn: bool, scan: Option<Scan>) -> Result<Hall> {
+    let hall = read_hall(path, warn)?;
+    Ok(Hall { scan: scan.unwrap_or(hall.scan), ..hall })
 }
 
 fn cores() -> usize {
@@ -49,6 +55,11 @@ fn lasting(seconds: f64) -> String {
 /// Said of a hall whose every material is opaque.
 const SOLID: &str = "solid walls: rays to the sun, the sky and the lamps end at their first hit";
 
+/// How many boxes its tree has, said of a hall that is baked through it.
+fn boxed(hall: &Hall) -> String {
+    format!("box tree: a ray of sun and bake looks into those of {} boxes that lie on its way", thousands(hall.tree.boxes.len() as u64 / 6))
+}
+
 pub fn check(paths: &[PathBuf], json: bool) -> Result<u8> {
     let mut code = GOOD;
     for path in paths {
@@ -58,8 +69,8 @@ pub fn check(paths: &[PathBuf], json: bool) -> Result<u8> {
             code = REFUSED;
         }
         if json {
-            let (panels, solid) = (hall.as_ref().map(Hall::panels), hall.as_ref().map(Hall::solid));
-            let line = serde_json::json!({ "hall": path.display().to_string(), "faults": found.faults, "warnings": found.warnings, "panels": panels, "solid": solid });
+            let (panels, solid, scan) = (hall.as_ref().map(Hall::panels), hall.as_ref().map(Hall::solid), hall.as_ref().map(|hall| hall.scan.name()));
+            let line = serde_json::json!({ "hall": path.display().to_string(), "faults": found.faults, "warnings": found.warnings, "panels": panels, "solid": solid, "scan": scan });
             println!("{line}");
             continue;
         }
@@ -80,6 +91,9 @@ pub fn check(paths: &[PathBuf], json: bool) -> Result<u8> {
                 }
                 if hall.triangles() > 0 && hall.solid() {
                     println!("note: {SOLID}");
+                }
+                if hall.scan == Scan::Tree {
+                    println!("note: {}", boxed(&hall));
                 }
                 let marked = baking::marked_of(&hall)?;
                 let idle = hall.axes.count() as u64 - marked.active;
@@ -138,7 +152,7 @@ pub fn bake(args: &Bake) -> Result<u8> {
     let until = args.until.as_deref().map(moment).transpose()?;
     watch_stop()?;
     // all halls are judged before the first is baked
-    let halls = args.halls.iter().map(|path| read_hall(path, true)).collect::<Result<Vec<Hall>>>()?;
+    let halls = args.halls.iter().map(|path| read_for_bake(path, true, args.scan)).collect::<Result<Vec<Hall>>>()?;
     for hall in &halls {
         let least = hall.voxel_cost();
         ensure!(args.allowance >= least, "--allowance {}: {} lamps need at least {least} rays a call (refusal 10)", args.allowance, hall.lamp_count());
@@ -203,7 +217,7 @@ fn bake_one(hall: &Hall, out: &Path, asked: &Baking, stop: &AtomicBool) -> Resul
         None => prepared,
     };
     if asked.json {
-        println!("{}", serde_json::json!({ "event": "prepared", "hall": hall.name, "masks_seconds": prepared.masks_seconds, "sun_seconds": prepared.sun_seconds }));
+        println!("{}", serde_json::json!({ "event": "prepared", "hall": hall.name, "scan": hall.scan.name(), "masks_seconds": prepared.masks_seconds, "sun_seconds": prepared.sun_seconds }));
     }
     let bar = ProgressBar::with_draw_target(Some(prepared.marked.active), if asked.json { ProgressDrawTarget::hidden() } else { ProgressDrawTarget::stderr() });
     bar.set_style(ProgressStyle::with_template("{prefix} [{bar:32}] {pos}/{len} voxels, {msg}, {eta} left")?.progress_chars("=> "));
@@ -244,9 +258,10 @@ fn bake_one(hall: &Hall, out: &Path, asked: &Baking, stop: &AtomicBool) -> Resul
             removed(&part_path)?;
         }
         let (active, time) = (prepared.marked.active, lasting(seconds));
+        let through = if hall.scan == Scan::Tree { ", through a box tree" } else { "" };
         said(
-            format!("{}: {}, {} of {} voxels active, {} rays in all, {time}", hall.name, out.display(), thousands(active), thousands(hall.axes.count() as u64), thousands(rays)),
-            serde_json::json!({ "event": "done", "hall": hall.name, "volume": out.display().to_string(), "voxels": active, "rays": rays, "seconds": seconds }),
+            format!("{}: {}, {} of {} voxels active, {} rays in all, {time}{through}", hall.name, out.display(), thousands(active), thousands(hall.axes.count() as u64), thousands(rays)),
+            serde_json::json!({ "event": "done", "hall": hall.name, "volume": out.display().to_string(), "scan": hall.scan.name(), "voxels": active, "rays": rays, "seconds": seconds }),
         );
         Ok(GOOD)
     };
@@ -322,8 +337,8 @@ fn all_shares(hall: &Hall, prepared: &Prepared, paths: &[PathBuf]) -> Result<Sha
     Ok(all)
 }
 
-pub fn join(hall: &Path, paths: &[PathBuf], out: Option<&Path>) -> Result<u8> {
-    let hall = read_hall(hall, true)?;
+pub fn join(hall: &Path, paths: &[PathBuf], out: Option<&Path>, scan: Option<Scan>) -> Result<u8> {
+    let hall = read_for_bake(hall, true, scan)?;
     let out = out.map_or_else(|| hall.file.with_extension("vgrd"), Path::to_path_buf);
     files::clear_temporaries(&out);
     let prepared = baking::prepare(&hall)?;
@@ -351,6 +366,14 @@ fn under_way(hall: &Hall, active: &[u64], of: u64) {
     }
 }
 
+/// What a plan finds of a bake by one scan: rays and calls of the whole, seconds that the sample took and that the whole will.
+struct Foretold {
+    rays: f64,
+    calls: f64,
+    seconds: f64,
+    whole: f64,
+}
+
 /// The most voxels that a plan bakes where nobody says how many: some seconds' work.
 const MOST_SAMPLED: usize = 1024;
 
@@ -359,7 +382,7 @@ pub fn plan(args: &Plan) -> Result<u8> {
     let threads = threads_of(args.threads)?;
     let mut all = 0.0;
     for path in &args.halls {
-        let hall = read_hall(path, true)?;
+        let hall = read_for_bake(path, true, args.scan)?;
         let cost = hall.voxel_cost();
         ensure!(args.allowance >= cost, "--allowance {}: {} lamps need at least {cost} rays a call (refusal 10)", args.allowance, hall.lamp_count());
         let Prepared { active, light, marked, .. } = baking::prepare(&hall)?;
@@ -372,6 +395,9 @@ pub fn plan(args: &Plan) -> Result<u8> {
         if hall.solid() {
             println!("  {SOLID}");
         }
+        if hall.scan == Scan::Tree {
+            println!("  {}", boxed(&hall));
+        }
         println!("  sure: from {} to {} rays ({LEAST_RAYS} to {cost} a voxel)", thousands(LEAST_RAYS * marked.active), thousands(cost * marked.active));
         let at_once = threads.min(marked.active as usize);
         println!("  memory: {} at most with {threads} threads; the volume file has {}, the part file {}", sized(baking::most_bytes(hall.axes, at_once)),
@@ -380,26 +406,34 @@ pub fn plan(args: &Plan) -> Result<u8> {
         let sample = args.sample.unwrap_or((marked.active as usize / MOST_SAMPLED).max(8));
         let first = sample.min(marked.active as usize) / 2;
         let voxels: Vec<usize> = marked_voxels(&active).skip(first).step_by(sample).collect();
-        let (mut volume, mut scratch, mut engine) = (vec![0.0; 16 * n], vec![0.0; 16 * n], Engine::new(&hall));
-        // what is fired from a progress on, the progress then, and the time
-        let mut timed = |voxels: &[usize], progress: Progress| -> Result<(u64, Progress, f64)> {
-            let mut mask = vec![0; hall.axes.words()];
-            voxels.iter().for_each(|voxel| mark(&mut mask, *voxel));
-            let begun = Instant::now();
-            let baked = engine.bake(&mask, &light, &mut volume, &mut scratch, progress, u64::MAX)?;
-            Ok((baked.rays, baked.progress, begun.elapsed().as_secs_f64()))
+        let (mut volume, mut scratch) = (vec![0.0; 16 * n], vec![0.0; 16 * n]);
+        let mut foretold = |scan: Scan| -> Result<Foretold> {
+            let mut engine = Engine::by(&hall, scan);
+            // what is fired from a progress on, the progress then, and the time
+            let mut timed = |voxels: &[usize], progress: Progress| -> Result<(u64, Progress, f64)> {
+                let mut mask = vec![0; hall.axes.words()];
+                voxels.iter().for_each(|voxel| mark(&mut mask, *voxel));
+                let begun = Instant::now();
+                let baked = engine.bake(&mask, &light, &mut volume, &mut scratch, progress, u64::MAX)?;
+                Ok((baked.rays, baked.progress, begun.elapsed().as_secs_f64()))
+            };
+            // A bake of one voxel shows what the grid costs by itself, and a call of a finished bake what each call does: in a large hall both are more than a voxel.
+            let (_, _, grid) = timed(&voxels[..1], Progress::ZERO)?;
+            let (fired, end, seconds) = timed(&voxels, Progress::ZERO)?;
+            let (_, _, call) = timed(&voxels, end)?;
+            let rays = fired as f64 * marked.active as f64 / voxels.len() as f64;
+            let calls = (rays / args.allowance as f64).ceil();
+            let a_voxel = if voxels.len() > 1 { (seconds - grid).max(0.0) / (voxels.len() - 1) as f64 } else { seconds };
+            let whole = grid + (a_voxel * marked.active as f64 + calls * call) / threads as f64;
+            Ok(Foretold { rays, calls, seconds, whole })
         };
-        // A bake of one voxel shows what the grid costs by itself, and a call of a finished bake what each call does: in a large hall both are more than a voxel.
-        let (_, _, grid) = timed(&voxels[..1], Progress::ZERO)?;
-        let (fired, end, seconds) = timed(&voxels, Progress::ZERO)?;
-        let (_, _, call) = timed(&voxels, end)?;
-        let rays = fired as f64 * marked.active as f64 / voxels.len() as f64;
-        let calls = (rays / args.allowance as f64).ceil();
-        let a_voxel = if voxels.len() > 1 { (seconds - grid).max(0.0) / (voxels.len() - 1) as f64 } else { seconds };
-        let whole = grid + (a_voxel * marked.active as f64 + calls * call) / threads as f64;
+        let (by_list, by_tree) = (foretold(Scan::List)?, foretold(Scan::Tree)?);
+        let Foretold { rays, calls, seconds, whole } = if hall.scan == Scan::Tree { &by_tree } else { &by_list };
         all += whole;
-        println!("  foretold from {} voxels baked in {}: some {} rays, {} calls at {} rays, {} with {threads} threads", thousands(voxels.len() as u64), lasting(seconds),
-            thousands(rays as u64), thousands(calls as u64), thousands(args.allowance), lasting(whole));
+        println!("  foretold from {} voxels baked in {}: some {} rays, {} calls at {} rays, {} with {threads} threads", thousands(voxels.len() as u64), lasting(*seconds),
+            thousands(*rays as u64), thousands(*calls as u64), thousands(args.allowance), lasting(*whole));
+        let quicker = if by_tree.whole < by_list.whole { Scan::Tree } else { Scan::List };
+        println!("  by the list {}, through a box tree {}: scan \"{}\" is quicker", lasting(by_list.whole), lasting(by_tree.whole), quicker.name());
     }
     if args.halls.len() > 1 {
         println!("all {} halls: {}", args.halls.len(), lasting(all));
@@ -665,9 +699,9 @@ pub fn diff(first: &Path, second: &Path, png: Option<&Path>) -> Result<u8> {
     Ok(DIFFERS)
 }
 
-pub fn verify(volume_path: &Path, hall_path: &Path, sample: usize) -> Result<u8> {
+pub fn verify(volume_path: &Path, hall_path: &Path, sample: usize, scan: Option<Scan>) -> Result<u8> {
     let volume = Volume::read(volume_path)?;
-    let hall = read_hall(hall_path, false)?;
+    let hall = read_for_bake(hall_path, false, scan)?;
     ensure!(sample >= 1, "--sample {sample}: at least one voxel");
     let mut words = Vec::new();
     if (hall.axes, hall.corners) != (volume.axes, volume.corners) {
@@ -734,6 +768,8 @@ pub fn explain(number: u32) -> Result<u8> {
         Refusal::File => "The volume file is not whole, not a volume, changed since it was written, or of a newer version with larger axes. Bake it again.",
         Refusal::Contents => "A list holds a number that no bake writes. Bake the volume again.",
         Refusal::TooLong => "`volstat` reads files of at most 65,536 bytes; `plate stats` reads all of them.",
+        Refusal::Tree => "A box tree handed to the library does not hold every present triangle once, has a box that does not lie inside the one above it, or is otherwise not the tree of these \
+            triangles; include/geaidnosa.h says under \"Trees\" what is accepted. The program takes the library's own trees, which are; a program of your own may, by build_tree.",
         Refusal::Lamp => "In hall.toml, lamps: at most eight, each within 4,096 metres and of a colour of at most 65,536.",
     });
     Ok(GOOD)
@@ -773,7 +809,7 @@ pub fn demo(args: &Demo) -> Result<u8> {
     let threads = threads_of(args.threads)?;
     let dir = &args.dir;
     laid_out(dir, &SAMPLE)?;
-    let hall = read_hall(&dir.join("hall.toml"), true)?;
+    let hall = read_for_bake(&dir.join("hall.toml"), true, args.scan)?;
     println!("{}: a sample archery hall of {} triangles with {} lamps", dir.join("hall.toml").display(), hall.triangles(), hall.lamp_count());
     let out = dir.join("hall.vgrd");
     let asked = Baking { threads, shares: threads, share: None, allowance: 100_000, until: None, save_every: None, resume: false, fresh: false, json: false };

@@ -1,5 +1,5 @@
 //! A hall: hall.toml, its drawing and its sky, made into the lists that the library takes. Everything wrong is said in words with its place.
-use crate::engine::Engine;
+use crate::engine::{Engine, Scan};
 use crate::faults::Found;
 use crate::obj;
 use geaidnosa::*;
@@ -27,6 +27,13 @@ struct HallFile {
     lamps: Vec<LampFile>,
     #[serde(default)]
     faces: Vec<FaceFile>,
+    bake: Option<BakeFile>,
+}
+
+#[derive(Deserialize)]
+#[serde(deny_unknown_fields)]
+struct BakeFile {
+    scan: Option<Spanned<String>>,
 }
 
 #[derive(Deserialize)]
@@ -122,6 +129,10 @@ pub struct Hall {
     pub lamps: Vec<f32>,
     pub faces: Vec<Face>,
     pub inputs: Vec<Input>,
+    /// How sun and bake go: as the file says, or as a command asks.
+    pub scan: Scan,
+    /// The box tree of the points, by the library's builder. It is not among the numbers that a part file is bound to: any accepted tree gives the same bits.
+    pub tree: BoxTree,
 }
 
 pub fn sha256(bytes: &[u8]) -> String {
@@ -345,16 +356,27 @@ pub fn read(path: &Path, found: &mut Found) -> Option<Hall> {
     let ambient = ambient_of(&sky);
     let lamps = lamps_of(&mut reading, &hall.lamps);
     let faces = faces_of(&mut reading, &hall.faces);
+    let scan = scan_of(&mut reading, &hall.bake);
     let lists = drawing_of(&mut reading, &hall, folder, &mut inputs);
     if reading.found.faults.len() > before {
         return None;
     }
     let Lists { points, uses, kinds, numbers, materials } = lists?;
     let name = hall.name.unwrap_or_else(|| path.file_stem().map_or("hall".into(), |s| s.to_string_lossy().into_owned()));
-    let hall_read = Hall { name, file: path.into(), axes, corners, points, uses, kinds, numbers, materials, sun, sky, ambient, lamps, faces, inputs };
+    let refused = |reading: &mut Reading, refusal: Refusal| {
+        reading.found.fault(&reading.file, None, format!("the library refuses the hall: {}", refusal.words()), Some(refusal));
+    };
+    let tree = match build_tree(&points) {
+        Ok(tree) => tree,
+        Err(refusal) => {
+            refused(&mut reading, refusal);
+            return None;
+        }
+    };
+    let hall_read = Hall { name, file: path.into(), axes, corners, points, uses, kinds, numbers, materials, sun, sky, ambient, lamps, faces, inputs, scan, tree };
     // The library is the judge: with no ray allowed, 10 is what it answers exactly when it takes everything before.
     if let Err(refusal) = judged_by_library(&hall_read) {
-        reading.found.fault(&reading.file, None, format!("the library refuses the hall: {}", refusal.words()), Some(refusal));
+        refused(&mut reading, refusal);
         return None;
     }
     for (place, lamp) in hall.lamps.iter().enumerate() {
@@ -409,6 +431,16 @@ fn grid(reading: &mut Reading, grid: &GridFile) -> (Axes, Corners) {
         }
     }
     (axes, corners)
+}
+
+fn scan_of(reading: &mut Reading, bake: &Option<BakeFile>) -> Scan {
+    let Some(at) = bake.as_ref().and_then(|bake| bake.scan.as_ref()) else {
+        return Scan::default();
+    };
+    Scan::of_name(at.get_ref()).unwrap_or_else(|| {
+        reading.fault(at, format!("bake.scan: \"{}\" is none of \"list\" and \"tree\"", at.get_ref()), None);
+        Scan::default()
+    })
 }
 
 fn sun_of(reading: &mut Reading, sun: &Option<SunFile>) -> Light {

@@ -63,6 +63,9 @@ enum Command {
         /// The volume file; else the hall's name with .vgrd
         #[arg(short, long)]
         out: Option<PathBuf>,
+        /// By which scan the shares were baked; as hall.toml says where it is left out
+        #[arg(long, value_enum)]
+        scan: Option<engine::Scan>,
     },
     /// Picture of one slice of a volume
     Slice(Slice),
@@ -92,6 +95,9 @@ enum Command {
         /// How many active voxels to bake again, spread over the hall
         #[arg(long, default_value_t = 16)]
         sample: usize,
+        /// By which scan the volume was baked; as hall.toml says where it is left out
+        #[arg(long, value_enum)]
+        scan: Option<engine::Scan>,
     },
     /// What a refusal's number means, and what to do
     Explain { number: u32 },
@@ -111,6 +117,9 @@ pub struct Demo {
     /// How many threads; all cores where it is left out
     #[arg(long)]
     threads: Option<usize>,
+    /// What a ray is tested against; as hall.toml says (bake.scan) where it is left out, else the list. The tree may bake other bits than the list
+    #[arg(long, value_enum)]
+    scan: Option<engine::Scan>,
 }
 
 #[derive(clap::Args)]
@@ -126,6 +135,9 @@ pub struct Plan {
     /// Rays a call of the bake
     #[arg(long, default_value_t = 100_000)]
     allowance: u64,
+    /// What a ray is tested against; as hall.toml says (bake.scan) where it is left out, else the list. The tree may bake other bits than the list
+    #[arg(long, value_enum)]
+    scan: Option<engine::Scan>,
 }
 
 #[derive(clap::Args)]
@@ -147,6 +159,9 @@ pub struct Bake {
     /// Rays a call: between calls the bake can stop
     #[arg(long, default_value_t = 100_000)]
     allowance: u64,
+    /// What a ray is tested against; as hall.toml says (bake.scan) where it is left out, else the list. The tree may bake other bits than the list
+    #[arg(long, value_enum)]
+    scan: Option<engine::Scan>,
     /// Stop and save at this time of the day, HH:MM (the next one that comes)
     #[arg(long)]
     until: Option<String>,
@@ -274,14 +289,14 @@ pub fn run() -> ExitCode {
         Command::Check { halls, json } => commands::check(&halls, json),
         Command::Plan(args) => commands::plan(&args),
         Command::Bake(args) => commands::bake(&args),
-        Command::Join { hall, shares, out } => commands::join(&hall, &shares, out.as_deref()),
+        Command::Join { hall, shares, out, scan } => commands::join(&hall, &shares, out.as_deref(), scan),
         Command::Slice(args) => commands::slice(&args),
         Command::Face(args) => commands::face(&args),
         Command::View(args) => commands::view(&args),
         Command::Look(args) => commands::look(&args),
         Command::Stats { volumes } => commands::stats(&volumes),
         Command::Diff { first, second, png } => commands::diff(&first, &second, png.as_deref()),
-        Command::Verify { volume, hall, sample } => commands::verify(&volume, &hall, sample),
+        Command::Verify { volume, hall, sample, scan } => commands::verify(&volume, &hall, sample, scan),
         Command::Explain { number } => commands::explain(number),
         Command::Lists { hall } => commands::lists(&hall),
         Command::Completions { shell } => {

@@ -1,6 +1,7 @@
 //! The part file of an unfinished bake: one line of mark and SHA-256 of the rest, one line of JSON, then the unblurred volume as far as it is, f32 bits
 //! little-endian. It is written whole, and read only where every input is as it was. The file of one machine's share has the same form, and names its share.
 use crate::baking::{mask_of, passed_count, shares_of};
+use crate::engine::Scan;
 use crate::files;
 use crate::hall::{sha256, sha256_of, thousands, Hall, Input};
 use anyhow::{bail, ensure, Context, Result};
@@ -14,8 +15,9 @@ const MARK: &str = "plate-part-2";
 /// Of files whose shares were no record of the library's.
 const EARLIER: &str = "plate-part-1";
 
-/// The libraries whose bakes are this one's bit for bit, so that a part of one is gone on with by another: to 0.5.0 the solid calls were added, no call was changed.
-const ALIKE: [u32; 2] = [5_000, 6_000];
+/// The libraries whose bakes are this one's bit for bit, so that a part of one is gone on with by another: to 0.5.0 the solid calls were added and to 0.6.0 those
+/// through a tree, no call was changed.
+const ALIKE: [u32; 3] = [5_000, 6_000, 7_000];
 
 /// How many numbers are made bytes at a time.
 const PIECE: usize = 1 << 16;
@@ -63,6 +65,9 @@ struct Head {
     shares: Vec<Share>,
     #[serde(default, skip_serializing_if = "Option::is_none")]
     only: Option<Only>,
+    /// Left out by the list, as in files of programs that had no other scan.
+    #[serde(default, skip_serializing_if = "Option::is_none")]
+    scan: Option<String>,
 }
 
 #[derive(Clone, Debug, PartialEq)]
@@ -93,6 +98,7 @@ impl Part {
             seconds: self.seconds,
             shares: self.shares.iter().map(|p| Share { next: p.next, rays: p.rays }).collect(),
             only: self.only,
+            scan: (hall.scan != Scan::List).then(|| hall.scan.name().into()),
         };
         let mut line = serde_json::to_vec(&head)?;
         line.push(b'\n');
@@ -155,6 +161,8 @@ impl Part {
             .chain(hall.inputs.iter().filter(|new| head.inputs.iter().all(|old| old.file != new.file)).map(|new| format!("{} is new", new.file)))
             .collect();
         ensure!(changed.is_empty(), "since it was saved {}", changed.join(", "));
+        let begun_by = head.scan.as_deref().unwrap_or(Scan::List.name());
+        ensure!(begun_by == hall.scan.name(), "it was begun by scan \"{begun_by}\", and \"{}\" is asked: the two may bake other bits", hall.scan.name());
         let alike = |library: u32| ALIKE.contains(&library);
         ensure!(alike(head.library) && alike(geaidnosa::version()), "it was baked by another version of the library");
         ensure!(head.numbers == hall.numbers_sha256(), "another version of this program made other numbers of the same files");

@@ -1,6 +1,6 @@
 //! Every command with good and bad input, through the program itself; and the numbers it writes held to the library's own bake.
 use geaidnosa::*;
-use plate::{baking, engine::Engine, faults::Found, hall, part::Only, part::Part, volume::Volume};
+use plate::{baking, engine::Engine, engine::Scan, faults::Found, hall, part::Only, part::Part, volume::Volume};
 use std::path::{Path, PathBuf};
 use std::process::{Command, Output};
 use std::sync::atomic::AtomicBool;
@@ -533,7 +533,7 @@ fn stops_are_saved_and_changed_inputs_are_refused() {
     says(at, &["bake", "hall.toml"], 3, &["no first line"]);
     // sound, but of a library that this one is not known to bake as, the last of them before masks were words
     let mut old = Vec::new();
-    for library in [7000, 4000, 1000] {
+    for library in [8000, 4000, 1000] {
         old = of_library(&good, library);
         std::fs::write(&part, &old).unwrap();
         says(at, &["bake", "hall.toml"], 3, &["another version of the library", "--fresh"]);
@@ -779,8 +779,8 @@ fn a_part_of_solid_walls_says_nothing_of_its_calls() {
         std::fs::read(at.join("hall.vgrd.part")).unwrap()
     });
     assert!(files[0] == files[1]);
-    // begun by the other call, and also by the library before there were solid ones: gone on with by the program
-    for file in [files[1].clone(), of_library(&files[1], 5000)] {
+    // begun by the other call, and also by the libraries before there were solid ones and trees: gone on with by the program
+    for file in [files[1].clone(), of_library(&files[1], 5000), of_library(&files[1], 6000)] {
         std::fs::write(at.join("hall.vgrd.part"), file).unwrap();
         let said = says(at, &["bake", "hall.toml", "--resume", "--threads", "1"], 0, &["going on from hall.vgrd.part"]);
         let counted = said.lines().find(|line| line.contains("rays in all")).unwrap();
@@ -793,6 +793,102 @@ fn a_part_of_solid_walls_says_nothing_of_its_calls() {
     let ended = by_hits(&mut gone_on, first.shares[0], u64::MAX);
     assert_eq!(ended.progress, Progress { next: n, rays });
     assert!(gone_on.iter().map(|x| x.to_bits()).eq(volume.volume.iter().map(|x| x.to_bits())));
+}
+
+/// The bake through a box tree as a program of one's own would do it, in one call.
+fn unbroken_through_a_tree(hall: &hall::Hall) -> (Volume, u64) {
+    let (n, t) = (hall.axes.count(), hall.triangles());
+    let tree = build_tree(&hall.points).unwrap();
+    let (mut occupied, mut active) = (vec![0; hall.axes.words()], vec![0; hall.axes.words()]);
+    let (mut light, mut kept) = (vec![0.0; n], vec![0.0; n]);
+    let (mut volume, mut scratch, mut distances, mut places) = (vec![0.0; 16 * n], vec![0.0; 16 * n], vec![0.0; t], vec![0; t]);
+    masks(hall.axes, hall.corners, &hall.points, &mut occupied, &mut active).unwrap();
+    let hits = HitScratch { distances: &mut distances, places: &mut places };
+    tree_sun(hall.axes, hall.corners, hall.scene(), tree.lent(), hall.sun.direction, &active, &mut light, &mut kept, hits).unwrap();
+    let hits = HitScratch { distances: &mut distances, places: &mut places };
+    let baked = tree_bake(hall.input(&active, &light), tree.lent(), &mut volume, &mut scratch, hits, Progress::ZERO, u64::MAX).unwrap();
+    assert_eq!(baked.progress, Progress { next: n, rays: baked.rays });
+    (Volume { axes: hall.axes, corners: hall.corners, light, volume, occupied, active }, baked.rays)
+}
+
+/// Whether a part file's head names a scan.
+fn names_a_scan(path: &Path) -> bool {
+    let bytes = std::fs::read(path).unwrap();
+    let head = bytes.split(|b| *b == b'\n').nth(1).unwrap();
+    String::from_utf8_lossy(head).contains("\"scan\"")
+}
+
+#[test]
+fn bakes_through_a_tree() {
+    let (dir, path) = small();
+    let at = dir.path();
+    edit(&path, "colour = [0.0, 0.0, 0.0]", "colour = [2.0, 1.5, 1.0]");
+    let hall = read(&path);
+    assert!(hall.scan == Scan::List && !hall.solid());
+    let (volume, rays) = unbroken_through_a_tree(&hall);
+    let bytes = volume.bytes().unwrap();
+    // in this hall no hit lies off its triangle's box, so that the list bakes the same
+    assert_eq!(hall::sha256(&unbroken(&hall).0.bytes().unwrap()), hall::sha256(&bytes));
+    for (shares, scan) in [("1", "tree"), ("3", "tree"), ("2", "list")] {
+        let out = format!("{scan}{shares}.vgrd");
+        let said = says(at, &["bake", "hall.toml", "--scan", scan, "-o", &out, "--shares", shares, "--threads", "2", "--allowance", "5000"], 0, &[]);
+        assert_eq!((rays_said(&said), said.contains("through a box tree")), (rays, scan == "tree"), "{out}: {said}");
+        assert_eq!(hall::sha256(&std::fs::read(at.join(&out)).unwrap()), hall::sha256(&bytes), "{out}");
+    }
+    says(at, &["verify", "tree1.vgrd", "hall.toml", "--scan", "tree"], 0, &["good"]);
+    // which is quicker is measured, whatever is asked
+    for scan in ["list", "tree"] {
+        let said = says(at, &["plan", "hall.toml", "--scan", scan, "--sample", "100"], 0, &["  by the list ", ", through a box tree ", " is quicker"]);
+        assert_eq!(said.contains("box tree: a ray of sun and bake looks into those of 7 boxes"), scan == "tree", "{said}");
+    }
+    // a part names its scan where it is the tree, and is not gone on with by the other
+    let boxed = hall::Hall { scan: Scan::Tree, ..read(&path) };
+    let active = baking::active_of(&hall).unwrap();
+    let part_path = at.join("hall.vgrd.part");
+    for (own, other, name, others_name) in [(&hall, &boxed, "list", "tree"), (&boxed, &hall, "tree", "list")] {
+        let baking::Outcome::Stopped { part, .. } = baked(own, None, 1, 1, 1) else { panic!("one call bakes all of it") };
+        part.write(&part_path, own).unwrap();
+        assert_eq!(names_a_scan(&part_path), name == "tree");
+        assert_eq!(Part::read(&part_path, own, &active, None).unwrap(), part);
+        let why = format!("it was begun by scan \"{name}\", and \"{others_name}\" is asked");
+        assert!(format!("{:#}", Part::read(&part_path, other, &active, None).unwrap_err()).contains(&why));
+        says(at, &["bake", "hall.toml", "--scan", others_name], 3, &["hall.vgrd.part is not gone on with (--fresh begins anew)", &why]);
+        says(at, &["plan", "hall.toml", "--scan", others_name, "--sample", "5000"], 0, &[&why]);
+        says(at, &["bake", "hall.toml", "--scan", name, "--resume", "--threads", "1"], 0, &["going on from hall.vgrd.part"]);
+        assert_eq!(std::fs::read(at.join("hall.vgrd")).unwrap(), bytes);
+        std::fs::remove_file(at.join("hall.vgrd")).unwrap();
+    }
+    // shares of machines: joined by the scan that they were baked by
+    for share in ["1/2", "2/2"] {
+        says(at, &["bake", "hall.toml", "--scan", "tree", "--share", share], 0, &[]);
+    }
+    says(at, &["join", "hall.toml", "hall.share1of2", "hall.share2of2"], 3, &["hall.share1of2: it was begun by scan \"tree\", and \"list\" is asked", "hall.share2of2: it was"]);
+    says(at, &["join", "hall.toml", "hall.share1of2", "hall.share2of2", "--scan", "tree"], 0, &["2 shares"]);
+    assert_eq!(std::fs::read(at.join("hall.vgrd")).unwrap(), bytes);
+    // as the hall's file says, unless a command asks for the other
+    assert!(!says(at, &["check", "hall.toml"], 0, &[]).contains("box tree"));
+    says(at, &["check", "hall.toml", "--json"], 0, &["\"scan\":\"list\""]);
+    let text = std::fs::read_to_string(&path).unwrap();
+    std::fs::write(&path, format!("{text}\n[bake]\nscan = \"tree\"\n")).unwrap();
+    assert_eq!(read(&path).scan, Scan::Tree);
+    says(at, &["check", "hall.toml"], 0, &["note: box tree: a ray of sun and bake looks into those of 7 boxes that lie on its way"]);
+    says(at, &["check", "hall.toml", "--json"], 0, &["\"scan\":\"tree\""]);
+    says(at, &["bake", "hall.toml", "-o", "said.vgrd", "--json"], 0, &["\"scan\":\"tree\""]);
+    assert_eq!(std::fs::read(at.join("said.vgrd")).unwrap(), bytes);
+    says(at, &["verify", "said.vgrd", "hall.toml", "--sample", "2"], 0, &["good"]);
+    std::fs::write(&path, format!("{text}\n[bake]\nscan = \"octree\"\n")).unwrap();
+    let line = text.lines().count() + 3;
+    says(at, &["check", "hall.toml"], 3, &[&format!("hall.toml:{line}: bake.scan: \"octree\" is none of \"list\" and \"tree\"")]);
+    std::fs::write(&path, format!("{text}\n[bake]\ntree = true\n")).unwrap();
+    says(at, &["check", "hall.toml"], 3, &["unknown field `tree`"]);
+    std::fs::write(&path, &text).unwrap();
+    says(at, &["bake", "hall.toml", "--scan", "octree"], 2, &["octree", "list", "tree"]);
+    says(at, &["explain", "16"], 0, &["a box tree that is not accepted", "build_tree"]);
+    // a hall without a surface has the empty tree
+    std::fs::write(at.join("hall.obj"), "mtllib hall.mtl\n").unwrap();
+    says(at, &["bake", "hall.toml", "--scan", "tree", "-o", "empty-tree.vgrd"], 0, &[]);
+    says(at, &["bake", "hall.toml", "-o", "empty.vgrd"], 0, &[]);
+    says(at, &["diff", "empty.vgrd", "empty-tree.vgrd"], 0, &["bit for bit"]);
 }
 
 /// A floor with a curtain across its middle, at z = 3, that sends out blue and lets some light pass by its d; a red lamp behind it, at z = 1, and a green one before.

@@ -1144,6 +1144,32 @@ static void check_empty_tree(void) {
     check("tree_nearest: a box where no triangle is present, 16", no_hit(geaidnosa_tree_nearest(flat, 9, uses, 1, kinds, M, numbers, 7 * M, box, 6, leaf, 3, run, 1, up), 16));
 }
 
+/* A roof of as many triangles as are accepted, wavy so that no two are alike, over the hall. */
+static void check_largest_tree(void) {
+    enum { MANY = 4096 };
+    static float roof[9 * MANY], b[6 * MANY], d[MANY];
+    static uint32_t them[MANY], n[3 * MANY], o[MANY];
+    static size_t p[MANY];
+    for (int k = 0; k < MANY; k++) {
+        const float x = (float)(k % 64) * W / 64, y = (float)(k / 64) * H / 64, z = 8 + chance();
+        const float corner[9] = {x, y, z, x + 0.1f, y, z, x, y + 0.1f, z + 0.25f};
+        memcpy(&roof[9 * k], corner, sizeof corner);
+        them[k] = k % 3 ? 1 : 0;
+    }
+    const GeaidnosaTreeBuilt built_many = geaidnosa_build_tree(roof, 9 * MANY, b, 6 * MANY, n, 3 * MANY, o, MANY);
+    int good = built_many.refusal == 0 && built_many.boxes == 2047 && built_many.places == MANY, met = 0;
+    for (int k = 0; good && k < 64; k++) {
+        const GeaidnosaRay ray = {{W * chance(), H * chance(), 1}, {0.2f * chance() - 0.1f, 0.2f * chance() - 0.1f, 1}, 0, INFINITY};
+        const GeaidnosaRayHit a = geaidnosa_nearest(roof, 9 * MANY, them, MANY, kinds, M, numbers, 7 * M, ray);
+        const GeaidnosaRayHit c = geaidnosa_tree_nearest(roof, 9 * MANY, them, MANY, kinds, M, numbers, 7 * M, b, 6 * 2047, n, 3 * 2047, o, MANY, ray);
+        const GeaidnosaTransmitted e = geaidnosa_transmittance(roof, 9 * MANY, them, MANY, kinds, M, numbers, 7 * M, ray, d, MANY, p, MANY);
+        const GeaidnosaTransmitted f = geaidnosa_tree_transmittance(roof, 9 * MANY, them, MANY, kinds, M, numbers, 7 * M, b, 6 * 2047, n, 3 * 2047, o, MANY, ray, d, MANY, p, MANY);
+        good = a.refusal == 0 && (a.hit ? is_hit(c, a.place, a.t, a.u, a.v, a.front) : no_hit(c, 0)) && f.refusal == 0 && !memcmp(&e, &f, sizeof e);
+        met += (int)a.hit;
+    }
+    check("build_tree, tree_nearest and tree_transmittance: 4,096 triangles in 2,047 boxes, 64 rays as without a tree", good && met > 20);
+}
+
 static void check_trees(void) {
     static Tree trees[3];
     check_builder(&trees[0]);
@@ -1155,6 +1181,7 @@ static void check_trees(void) {
     check_bad_trees(&trees[0]);
     check_tree_rows(&trees[0]);
     check_empty_tree();
+    check_largest_tree();
 }
 
 int main(void) {

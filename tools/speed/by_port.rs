@@ -5,6 +5,8 @@ use crate::{bits, measure, met, Lists, MET, POSITIONS, RAYS, SHORTEST};
 
 const GRID: Axes = Axes { width: AXES[0], height: AXES[1], depth: AXES[2] };
 const WORDS: usize = (VOXELS + 63) / 64;
+/// The least allowance of a bake without lamps.
+const LEAST: u64 = 384;
 
 fn vec3(v: &[f32]) -> Vec3 {
     Vec3 { x: v[0], y: v[1], z: v[2] }
@@ -17,6 +19,39 @@ fn words(mask: &[bool]) -> Vec<u64> {
 /// An entry a voxel.
 fn entries(mask: &[u64]) -> impl Iterator<Item = u32> + '_ {
     (0..VOXELS).map(|i| (mask[i / 64] >> (i % 64)) as u32 & 1)
+}
+
+/// The builder's tree of the hall.
+struct Tree {
+    boxes: Vec<f32>,
+    nodes: Vec<u32>,
+    order: Vec<u32>,
+}
+
+impl Tree {
+    fn room(triangles: usize) -> Self {
+        Tree { boxes: vec![0.0; 6 * triangles], nodes: vec![0; 3 * triangles], order: vec![0; triangles] }
+    }
+
+    /// Builds it where there is room, and answers the refusal's number.
+    fn fill(&mut self, points: &[f32]) -> u32 {
+        let t = points.len() / 9;
+        let built = unsafe {
+            port::geaidnosa_build_tree(points.as_ptr(), 9 * t, self.boxes.as_mut_ptr(), self.boxes.len(), self.nodes.as_mut_ptr(), self.nodes.len(), self.order.as_mut_ptr(), self.order.len())
+        };
+        self.boxes.truncate(6 * built.boxes);
+        self.nodes.truncate(3 * built.boxes);
+        self.order.truncate(built.places);
+        built.refusal
+    }
+}
+
+/// How a bake is called.
+#[derive(Clone, Copy, PartialEq)]
+enum By {
+    List,
+    Solid,
+    Tree,
 }
 
 /// What the calls answer and write.
@@ -33,6 +68,8 @@ struct State {
     volume_scratch: Vec<f32>,
     distances: Vec<f32>,
     places: Vec<usize>,
+    tree: Tree,
+    progress: Progress,
     refusal: u32,
 }
 
@@ -51,6 +88,8 @@ impl State {
             volume_scratch: vec![0.0; 16 * VOXELS],
             distances: vec![0.0; triangles],
             places: vec![0; triangles],
+            tree: Tree::room(triangles),
+            progress: Progress { next: 0, rays: 0 },
             refusal: 0,
         }
     }
@@ -65,32 +104,90 @@ impl State {
         self.hits.iter().flat_map(|h| met((h.hit == 1).then_some((h.place, h.t, h.u, h.v)))).collect()
     }
 
-    /// The bake, so many rays a call.
-    fn bake(&mut self, hall: &Hall, lists: &Lists, few: &[u64], corners: Corners, solid: bool, allowance: u64) {
+    /// The bake to its end, so many rays a call.
+    fn bake(&mut self, hall: &Hall, lists: &Lists, few: &[u64], corners: Corners, by: By, allowance: u64) {
+        self.progress = Progress { next: 0, rays: 0 };
+        while self.progress.next < VOXELS && self.refusal == 0 {
+            self.bake_on(hall, lists, few, corners, by, allowance);
+        }
+    }
+
+    /// One call of the bake.
+    fn bake_on(&mut self, hall: &Hall, lists: &Lists, few: &[u64], corners: Corners, by: By, allowance: u64) {
         let light = Light { direction: vec3(&DIRECTION), colour: vec3(&COLOUR) };
         let ambient = Ambient { c: [0, 3, 6, 9].map(|i| vec3(&AMBIENT[i..])) };
-        let triangles = hall.triangles();
-        let mut progress = Progress { next: 0, rays: 0 };
-        while progress.next < VOXELS && self.refusal == 0 {
-            let answer = match solid {
-                false => unsafe {
-                    port::geaidnosa_bake(
-                        GRID, corners, hall.points.as_ptr(), 9 * triangles, hall.uses.as_ptr(), triangles, hall.kinds.as_ptr(), MATERIALS, NUMBERS.as_ptr(),
-                        7 * MATERIALS, light, ambient, hall.sky.as_ptr(), hall.sky.len(), hall.sky.as_ptr(), 0, few.as_ptr(), WORDS, lists.lights.as_ptr(), VOXELS,
-                        self.volume.as_mut_ptr(), 16 * VOXELS, self.volume_scratch.as_mut_ptr(), 16 * VOXELS, self.distances.as_mut_ptr(), triangles,
-                        self.places.as_mut_ptr(), triangles, progress, allowance,
-                    )
-                },
-                true => unsafe {
-                    port::geaidnosa_solid_bake(
-                        GRID, corners, hall.points.as_ptr(), 9 * triangles, hall.uses.as_ptr(), triangles, hall.kinds.as_ptr(), MATERIALS, NUMBERS.as_ptr(),
-                        7 * MATERIALS, light, ambient, hall.sky.as_ptr(), hall.sky.len(), hall.sky.as_ptr(), 0, few.as_ptr(), WORDS, lists.lights.as_ptr(), VOXELS,
-                        self.volume.as_mut_ptr(), 16 * VOXELS, self.volume_scratch.as_mut_ptr(), 16 * VOXELS, progress, allowance,
-                    )
-                },
-            };
-            self.refusal = answer.refusal;
-            progress = answer.progress;
+        let (triangles, progress) = (hall.triangles(), self.progress);
+        let answer = match by {
+            By::List => unsafe {
+                port::geaidnosa_bake(
+                    GRID, corners, hall.points.as_ptr(), 9 * triangles, hall.uses.as_ptr(), triangles, hall.kinds.as_ptr(), MATERIALS, NUMBERS.as_ptr(),
+                    7 * MATERIALS, light, ambient, hall.sky.as_ptr(), hall.sky.len(), hall.sky.as_ptr(), 0, few.as_ptr(), WORDS, lists.lights.as_ptr(), VOXELS,
+                    self.volume.as_mut_ptr(), 16 * VOXELS, self.volume_scratch.as_mut_ptr(), 16 * VOXELS, self.distances.as_mut_ptr(), triangles,
+                    self.places.as_mut_ptr(), triangles, progress, allowance,
+                )
+            },
+            By::Solid => unsafe {
+                port::geaidnosa_solid_bake(
+                    GRID, corners, hall.points.as_ptr(), 9 * triangles, hall.uses.as_ptr(), triangles, hall.kinds.as_ptr(), MATERIALS, NUMBERS.as_ptr(),
+                    7 * MATERIALS, light, ambient, hall.sky.as_ptr(), hall.sky.len(), hall.sky.as_ptr(), 0, few.as_ptr(), WORDS, lists.lights.as_ptr(), VOXELS,
+                    self.volume.as_mut_ptr(), 16 * VOXELS, self.volume_scratch.as_mut_ptr(), 16 * VOXELS, progress, allowance,
+                )
+            },
+            By::Tree => unsafe {
+                let Tree { boxes, nodes, order } = &self.tree;
+                port::geaidnosa_tree_bake(
+                    GRID, corners, hall.points.as_ptr(), 9 * triangles, hall.uses.as_ptr(), triangles, hall.kinds.as_ptr(), MATERIALS, NUMBERS.as_ptr(),
+                    7 * MATERIALS, boxes.as_ptr(), boxes.len(), nodes.as_ptr(), nodes.len(), order.as_ptr(), order.len(), light, ambient, hall.sky.as_ptr(),
+                    hall.sky.len(), hall.sky.as_ptr(), 0, few.as_ptr(), WORDS, lists.lights.as_ptr(), VOXELS, self.volume.as_mut_ptr(), 16 * VOXELS,
+                    self.volume_scratch.as_mut_ptr(), 16 * VOXELS, self.distances.as_mut_ptr(), triangles, self.places.as_mut_ptr(), triangles, progress, allowance,
+                )
+            },
+        };
+        self.refusal = answer.refusal;
+        self.progress = answer.progress;
+    }
+
+    /// The sun over a mask, through the tree or not.
+    fn sun(&mut self, hall: &Hall, corners: Corners, mask: &[u64], through_tree: bool) {
+        let (points, uses, kinds, numbers) = (hall.points.as_ptr(), hall.uses.as_ptr(), hall.kinds.as_ptr(), NUMBERS.as_ptr());
+        let count = hall.triangles();
+        let (lights, scratch, distances, places) = (self.lights.as_mut_ptr(), self.lights_scratch.as_mut_ptr(), self.distances.as_mut_ptr(), self.places.as_mut_ptr());
+        let Tree { boxes, nodes, order } = &self.tree;
+        let sunned = if through_tree {
+            unsafe {
+                port::geaidnosa_tree_sun(
+                    GRID, corners, points, 9 * count, uses, count, kinds, MATERIALS, numbers, 7 * MATERIALS, boxes.as_ptr(), boxes.len(), nodes.as_ptr(), nodes.len(),
+                    order.as_ptr(), order.len(), vec3(&DIRECTION), mask.as_ptr(), WORDS, lights, VOXELS, scratch, VOXELS, distances, count, places, count,
+                )
+            }
+        } else {
+            unsafe {
+                port::geaidnosa_sun(
+                    GRID, corners, points, 9 * count, uses, count, kinds, MATERIALS, numbers, 7 * MATERIALS, vec3(&DIRECTION), mask.as_ptr(), WORDS, lights, VOXELS,
+                    scratch, VOXELS, distances, count, places, count,
+                )
+            }
+        };
+        self.refusal = sunned.refusal;
+    }
+
+    fn tree_nearest(&self, hall: &Hall, ray: Ray) -> RayHit {
+        let (count, Tree { boxes, nodes, order }) = (hall.triangles(), &self.tree);
+        unsafe {
+            port::geaidnosa_tree_nearest(
+                hall.points.as_ptr(), 9 * count, hall.uses.as_ptr(), count, hall.kinds.as_ptr(), MATERIALS, NUMBERS.as_ptr(), 7 * MATERIALS, boxes.as_ptr(), boxes.len(),
+                nodes.as_ptr(), nodes.len(), order.as_ptr(), order.len(), ray,
+            )
+        }
+    }
+
+    fn tree_transmittance(&mut self, hall: &Hall, ray: Ray) -> Transmitted {
+        let (count, Tree { boxes, nodes, order }) = (hall.triangles(), &self.tree);
+        unsafe {
+            port::geaidnosa_tree_transmittance(
+                hall.points.as_ptr(), 9 * count, hall.uses.as_ptr(), count, hall.kinds.as_ptr(), MATERIALS, NUMBERS.as_ptr(), 7 * MATERIALS, boxes.as_ptr(), boxes.len(),
+                nodes.as_ptr(), nodes.len(), order.as_ptr(), order.len(), ray, self.distances.as_mut_ptr(), count, self.places.as_mut_ptr(), count,
+            )
         }
     }
 }
@@ -105,6 +202,7 @@ pub fn answer(call: &str, turns: Option<usize>, hall: &Hall, lists: &Lists) -> V
     let mut state = State::new(hall.triangles());
     let count = hall.triangles();
     let s = &mut state;
+    assert!(s.tree.fill(&hall.points) == 0, "the hall has a tree");
     let still = |_: &mut State| {};
     let with_lists = |s: &mut State| {
         s.lights.copy_from_slice(&lists.lights);
@@ -143,6 +241,24 @@ pub fn answer(call: &str, turns: Option<usize>, hall: &Hall, lists: &Lists) -> V
             });
             s.passed.iter().map(|p| p.transmittance.to_bits()).collect()
         }
+        "tree nearest" => {
+            measure(turns, s, |s| s.hits.clear(), |s| {
+                for ray in &rays {
+                    let hit = s.tree_nearest(hall, *ray);
+                    s.hits.push(hit);
+                }
+            });
+            s.hit_words()
+        }
+        "tree transmittance" => {
+            measure(turns, s, |s| s.passed.clear(), |s| {
+                for ray in &rays {
+                    let passed = s.tree_transmittance(hall, *ray);
+                    s.passed.push(passed);
+                }
+            });
+            s.passed.iter().map(|p| p.transmittance.to_bits()).collect()
+        }
         "solid transmittance" => {
             measure(turns, s, |s| s.passed.clear(), |s| {
                 for ray in &rays {
@@ -171,17 +287,13 @@ pub fn answer(call: &str, turns: Option<usize>, hall: &Hall, lists: &Lists) -> V
             });
             bits(&s.volume)
         }
-        "sun" => {
-            measure(turns, s, still, |s| {
-                s.refusal = unsafe {
-                    port::geaidnosa_sun(
-                        GRID, corners, points, 9 * count, uses, count, kinds, MATERIALS, numbers, 7 * MATERIALS, vec3(&DIRECTION),
-                        active.as_ptr(), WORDS, s.lights.as_mut_ptr(), VOXELS, s.lights_scratch.as_mut_ptr(), VOXELS, s.distances.as_mut_ptr(),
-                        count, s.places.as_mut_ptr(), count,
-                    )
-                    .refusal
-                };
-            });
+        "sun" | "tree sun" => {
+            measure(turns, s, still, |s| s.sun(hall, corners, &active, call == "tree sun"));
+            bits(&s.lights)
+        }
+        // where no voxel is active a call only tests its input
+        "sun of no voxel" | "tree sun of no voxel" => {
+            measure(turns, s, still, |s| s.sun(hall, corners, &[0; WORDS], call.starts_with("tree")));
             bits(&s.lights)
         }
         "solid sun" => {
@@ -196,10 +308,42 @@ pub fn answer(call: &str, turns: Option<usize>, hall: &Hall, lists: &Lists) -> V
             });
             bits(&s.lights)
         }
-        "bake" | "bake in parts" | "solid bake" => {
-            let (solid, allowance) = (call == "solid bake", if call == "bake in parts" { 2000 } else { u64::MAX });
-            measure(turns, s, still, |s| s.bake(hall, lists, &few, corners, solid, allowance));
+        "bake" | "bake in parts" | "solid bake" | "tree bake" | "tree bake in parts" => {
+            let by = match call.split_once(' ') {
+                Some(("solid", _)) => By::Solid,
+                Some(("tree", _)) => By::Tree,
+                _ => By::List,
+            };
+            let allowance = if call.ends_with("in parts") { 2000 } else { u64::MAX };
+            measure(turns, s, still, |s| s.bake(hall, lists, &few, corners, by, allowance));
             bits(&s.volume)
+        }
+        // the second call, since the first one fills the volume
+        "bake call" | "tree bake call" => {
+            let by = if call == "bake call" { By::List } else { By::Tree };
+            let first = |s: &mut State| {
+                s.progress = Progress { next: 0, rays: 0 };
+                s.bake_on(hall, lists, &few, corners, by, LEAST);
+            };
+            measure(turns, s, first, |s| s.bake_on(hall, lists, &few, corners, by, LEAST));
+            bits(&s.volume)
+        }
+        "tree build" => {
+            let room = |s: &mut State| s.tree = Tree::room(count);
+            measure(turns, s, room, |s| s.refusal = s.tree.fill(&hall.points));
+            s.tree.order.iter().chain(&s.tree.nodes).copied().chain(bits(&s.tree.boxes)).collect()
+        }
+        // a ray that is refused once the tree is accepted: the test of the input, and nothing else
+        "tested" | "tree tested" => {
+            let beyond = Ray { direction: Vec3 { x: 3.0, y: 0.0, z: 0.0 }, ..rays[0] };
+            measure(turns, s, |s| s.hits.clear(), |s| {
+                s.hits.push(if call == "tested" {
+                    unsafe { port::geaidnosa_nearest(points, 9 * count, uses, count, kinds, MATERIALS, numbers, 7 * MATERIALS, beyond) }
+                } else {
+                    s.tree_nearest(hall, beyond)
+                });
+            });
+            s.hits.drain(..).map(|h| h.refusal).collect()
         }
         "light at" => {
             measure(turns, s, |s| s.lit.clear(), |s| {

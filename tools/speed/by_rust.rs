@@ -83,8 +83,8 @@ pub fn answer(call: &str, turns: Option<usize>, hall: &Hall, lists: &Lists) -> V
         s.grid.set_light_intensity_data(lists.lights.clone());
         s.grid.set_all_gi_sh4(packed(&lists.volume));
     };
-    // it has one way with rays, which answers the solid calls too
-    match call.strip_prefix("solid ").unwrap_or(call) {
+    // it has one way with rays, which answers the solid calls and those through a tree too
+    match call.strip_prefix("solid ").or(call.strip_prefix("tree ")).unwrap_or(call) {
         "meet" => {
             measure(turns, s, |s| s.met.clear(), |s| {
                 for (origin, direction) in &rays[..MET] {

@@ -1,6 +1,6 @@
 //! The scene that both sides are measured on: a closed hall of 12·n·n + 12·b triangles in 16×16×16 voxels, with rays and positions in it. The environment's
 //! SPEED_SPLIT is n, 6 where it is not set, and SPEED_BOXES is b, 5 where it is not set: 492 triangles. Where SPEED_SOLID is set, and not empty, its glass is
-//! plaster and every material is opaque.
+//! plaster and every material is opaque. Where SPEED_SHUFFLED is, the list has the triangles in no order, as a drawing may have them.
 
 pub const AXES: [usize; 3] = [16, 16, 16];
 pub const VOXELS: usize = 16 * 16 * 16;
@@ -58,7 +58,8 @@ impl Hall {
     /// past the fifth, every fourth black.
     pub fn new() -> Self {
         let (n, boxes) = (number("SPEED_SPLIT", 6), number("SPEED_BOXES", 5));
-        let solid = std::env::var("SPEED_SOLID").map_or(false, |word| !word.is_empty());
+        let asked = |name: &str| std::env::var(name).map_or(false, |word| !word.is_empty());
+        let solid = asked("SPEED_SOLID");
         assert!(boxes <= MOST_BOXES, "SPEED_BOXES is {boxes}, and {MOST_BOXES} have room");
         let (glass, kinds) = if solid { (0, [0; MATERIALS]) } else { (1, [0, 1, 0, 0]) };
         let mut hall = Hall { points: vec![], uses: vec![], kinds, sky: (0..1728).map(|i| 0.5 + (i % 7) as f32 * 0.125).collect() };
@@ -74,7 +75,21 @@ impl Hall {
             hall.cuboid([x, y, z], [x + 1.2, y + 1.5, z + 0.8], 1, |_, _| if place % 4 == 3 { 3 } else { 0 });
         }
         assert!(hall.triangles() == 12 * n * n + 12 * boxes && hall.points.len() == 9 * hall.triangles());
+        if asked("SPEED_SHUFFLED") {
+            let mut chance = Chance::new(3);
+            for i in (1..hall.triangles()).rev() {
+                hall.swap(i, chance.between(0.0, (i + 1) as f32) as usize);
+            }
+        }
         hall
+    }
+
+    /// Two triangles change places.
+    fn swap(&mut self, i: usize, j: usize) {
+        self.uses.swap(i, j);
+        for k in 0..9 {
+            self.points.swap(9 * i + k, 9 * j + k);
+        }
     }
 
     pub fn triangles(&self) -> usize {

@@ -14,6 +14,8 @@ mod lamps;
 mod panels;
 #[path = "../../oracle/src/scene.rs"]
 mod scene;
+#[path = "no_trees.rs"]
+mod trees;
 // The oracle's features are off here: nothing is watched.
 #[allow(unexpected_cfgs)]
 #[path = "../../oracle/src/watch.rs"]

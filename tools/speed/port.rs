@@ -86,6 +86,13 @@ pub struct Sunned {
 }
 
 #[repr(C)]
+pub struct TreeBuilt {
+    pub refusal: u32,
+    pub boxes: usize,
+    pub places: usize,
+}
+
+#[repr(C)]
 #[derive(Clone, Copy)]
 pub struct Progress {
     pub next: usize,
@@ -126,6 +133,11 @@ extern "C" {
     pub fn geaidnosa_bake(axes: Axes, corners: Corners, points: *const f32, points_length: usize, uses: *const u32, uses_length: usize, kinds: *const u8, kinds_length: usize, numbers: *const f32, numbers_length: usize, light: Light, ambient: Ambient, sky: *const f32, sky_length: usize, lamps: *const f32, lamps_length: usize, active: *const u64, active_length: usize, lights: *const f32, lights_length: usize, volume: *mut f32, volume_length: usize, scratch: *mut f32, scratch_length: usize, distances: *mut f32, distances_length: usize, places: *mut usize, places_length: usize, progress: Progress, allowance: u64) -> BakeAnswer;
     pub fn geaidnosa_solid_sun(axes: Axes, corners: Corners, points: *const f32, points_length: usize, uses: *const u32, uses_length: usize, kinds: *const u8, kinds_length: usize, numbers: *const f32, numbers_length: usize, direction: Vec3, active: *const u64, active_length: usize, light: *mut f32, light_length: usize, scratch: *mut f32, scratch_length: usize) -> Sunned;
     pub fn geaidnosa_solid_bake(axes: Axes, corners: Corners, points: *const f32, points_length: usize, uses: *const u32, uses_length: usize, kinds: *const u8, kinds_length: usize, numbers: *const f32, numbers_length: usize, light: Light, ambient: Ambient, sky: *const f32, sky_length: usize, lamps: *const f32, lamps_length: usize, active: *const u64, active_length: usize, lights: *const f32, lights_length: usize, volume: *mut f32, volume_length: usize, scratch: *mut f32, scratch_length: usize, progress: Progress, allowance: u64) -> BakeAnswer;
+    pub fn geaidnosa_build_tree(points: *const f32, points_length: usize, boxes: *mut f32, boxes_length: usize, nodes: *mut u32, nodes_length: usize, order: *mut u32, order_length: usize) -> TreeBuilt;
+    pub fn geaidnosa_tree_nearest(points: *const f32, points_length: usize, uses: *const u32, uses_length: usize, kinds: *const u8, kinds_length: usize, numbers: *const f32, numbers_length: usize, boxes: *const f32, boxes_length: usize, nodes: *const u32, nodes_length: usize, order: *const u32, order_length: usize, ray: Ray) -> RayHit;
+    pub fn geaidnosa_tree_transmittance(points: *const f32, points_length: usize, uses: *const u32, uses_length: usize, kinds: *const u8, kinds_length: usize, numbers: *const f32, numbers_length: usize, boxes: *const f32, boxes_length: usize, nodes: *const u32, nodes_length: usize, order: *const u32, order_length: usize, ray: Ray, distances: *mut f32, distances_length: usize, places: *mut usize, places_length: usize) -> Transmitted;
+    pub fn geaidnosa_tree_sun(axes: Axes, corners: Corners, points: *const f32, points_length: usize, uses: *const u32, uses_length: usize, kinds: *const u8, kinds_length: usize, numbers: *const f32, numbers_length: usize, boxes: *const f32, boxes_length: usize, nodes: *const u32, nodes_length: usize, order: *const u32, order_length: usize, direction: Vec3, active: *const u64, active_length: usize, light: *mut f32, light_length: usize, scratch: *mut f32, scratch_length: usize, distances: *mut f32, distances_length: usize, places: *mut usize, places_length: usize) -> Sunned;
+    pub fn geaidnosa_tree_bake(axes: Axes, corners: Corners, points: *const f32, points_length: usize, uses: *const u32, uses_length: usize, kinds: *const u8, kinds_length: usize, numbers: *const f32, numbers_length: usize, boxes: *const f32, boxes_length: usize, nodes: *const u32, nodes_length: usize, order: *const u32, order_length: usize, light: Light, ambient: Ambient, sky: *const f32, sky_length: usize, lamps: *const f32, lamps_length: usize, active: *const u64, active_length: usize, lights: *const f32, lights_length: usize, volume: *mut f32, volume_length: usize, scratch: *mut f32, scratch_length: usize, distances: *mut f32, distances_length: usize, places: *mut usize, places_length: usize, progress: Progress, allowance: u64) -> BakeAnswer;
     pub fn geaidnosa_light_at(axes: Axes, corners: Corners, light: *const f32, light_length: usize, position: Vec3) -> LightAt;
     pub fn geaidnosa_coefficients_at(axes: Axes, corners: Corners, volume: *const f32, volume_length: usize, position: Vec3) -> CoefficientsAt;
 }

@@ -432,7 +432,7 @@ pub fn ended(t: Tally) -> Tally {
     }
 }
 
-// Room for a record, and for each list that a call is lent: one triangle and one material more than are accepted, and 512 voxels; of a wide volume
+// Room for a record, and for each list that a call is lent: one triangle more than are accepted, twice the materials, and 512 voxels; of a wide volume
 // 32,768 voxels, and of masks and wide lights 81,920, more than sixteen bits count, each with a few more. Wide room is made only for a record that
 // needs it, since it is cleared each time.
 pub fn buffer() -> [u8; 1048576] {
@@ -460,8 +460,8 @@ pub fn room_for_words() -> [u32; 20500] {
     [0u32; 20500]
 }
 
-pub fn room_for_kinds() -> [u8; 260] {
-    [0u8; 260]
+pub fn room_for_kinds() -> [u8; 520] {
+    [0u8; 520]
 }
 
 pub fn room_for_distances() -> [f32; 4100] {

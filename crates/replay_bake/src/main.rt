@@ -518,8 +518,8 @@ fn fits(s: &[u8]) -> bool {
     known(replay::word(s, 0))
         & replay::fits(s, FROM, 36900)
         & replay::fits(s, replay::nth(s, FROM, 1), 4100)
-        & replay::fits(s, replay::nth(s, FROM, 2), 260)
-        & replay::fits(s, replay::nth(s, FROM, 3), 1820)
+        & replay::fits(s, replay::nth(s, FROM, 2), 520)
+        & replay::fits(s, replay::nth(s, FROM, 3), 3640)
         & replay::fits(s, replay::nth(s, FROM, 4), 1740)
         & replay::fits(s, replay::nth(s, FROM, 5), 80)
         & replay::fits(s, replay::nth(s, FROM, 6), 82240)
@@ -622,10 +622,10 @@ fn hit(
     )
 }
 
-// Room for 36,900 numbers of points, 1,820 of materials, 1,740 of the sky, 80 of lamps, which is thirteen and more than any call accepts, 82,000 lights and
+// Room for 36,900 numbers of points, 3,640 of materials, 1,740 of the sky, 80 of lamps, which is thirteen and more than any call accepts, 82,000 lights and
 // 24,600 of boxes.
-fn room_for_floats() -> [f32; 147140] {
-    [0.0f32; 147140]
+fn room_for_floats() -> [f32; 148960] {
+    [0.0f32; 148960]
 }
 
 fn record(s: &[u8], t: Tally) -> Tally {
@@ -634,7 +634,7 @@ fn record(s: &[u8], t: Tally) -> Tally {
     let mut kinds = replay::room_for_kinds();
     let mut active = replay::room_for_mask();
     let u = replay::held(t, fits(s));
-    let c = replay::fit(s, replay::nth(s, FROM, 2), 260);
+    let c = replay::fit(s, replay::nth(s, FROM, 2), 520);
     let f = replay::mask_words(s, replay::nth(s, FROM, 6), 1285);
     filled(
         s,

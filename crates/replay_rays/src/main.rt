@@ -314,8 +314,8 @@ fn several(
 fn fits(s: &[u8]) -> bool {
     replay::fits(s, FROM, 36900)
         & replay::fits(s, replay::nth(s, FROM, 1), 4100)
-        & replay::fits(s, replay::nth(s, FROM, 2), 260)
-        & replay::fits(s, replay::nth(s, FROM, 3), 1820)
+        & replay::fits(s, replay::nth(s, FROM, 2), 520)
+        & replay::fits(s, replay::nth(s, FROM, 3), 3640)
         & replay::fits(s, replay::nth(s, FROM, 4), 4100)
         & replay::fits(s, replay::nth(s, FROM, 5), 8200)
         & tree_fits(s)
@@ -350,9 +350,9 @@ fn hit(s: &[u8], t: Tally, floats: &[f32], words: &[u32], kinds: &[u8]) -> Tally
     )
 }
 
-// Room for 36,900 numbers of points, 1,820 of materials and 24,600 of boxes.
-fn room_for_floats() -> [f32; 63320] {
-    [0.0f32; 63320]
+// Room for 36,900 numbers of points, 3,640 of materials and 24,600 of boxes.
+fn room_for_floats() -> [f32; 65140] {
+    [0.0f32; 65140]
 }
 
 fn scene(s: &[u8], t: Tally) -> Tally {
@@ -360,7 +360,7 @@ fn scene(s: &[u8], t: Tally) -> Tally {
     let mut words = replay::room_for_words();
     let mut kinds = replay::room_for_kinds();
     let u = replay::held(t, fits(s));
-    let c = replay::fit(s, replay::nth(s, FROM, 2), 260);
+    let c = replay::fit(s, replay::nth(s, FROM, 2), 520);
     many(s, u, &mut floats, &mut words, &mut kinds[..c])
 }
 

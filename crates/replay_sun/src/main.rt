@@ -309,8 +309,8 @@ fn fits(s: &[u8]) -> bool {
     known(replay::word(s, 0))
         & replay::fits(s, FROM, 36900)
         & replay::fits(s, replay::nth(s, FROM, 1), 4100)
-        & replay::fits(s, replay::nth(s, FROM, 2), 260)
-        & replay::fits(s, replay::nth(s, FROM, 3), 1820)
+        & replay::fits(s, replay::nth(s, FROM, 2), 520)
+        & replay::fits(s, replay::nth(s, FROM, 3), 3640)
         & replay::fits(s, replay::nth(s, FROM, 4), 82240)
         & replay::fits(s, replay::nth(s, FROM, 5), 82000)
         & replay::fits(s, replay::nth(s, FROM, 6), 82000)
@@ -389,9 +389,9 @@ fn hit(
     )
 }
 
-// Room for 36,900 numbers of points, 1,820 of materials and 24,600 of boxes.
-fn room_for_floats() -> [f32; 63320] {
-    [0.0f32; 63320]
+// Room for 36,900 numbers of points, 3,640 of materials and 24,600 of boxes.
+fn room_for_floats() -> [f32; 65140] {
+    [0.0f32; 65140]
 }
 
 fn record(s: &[u8], t: Tally) -> Tally {
@@ -400,7 +400,7 @@ fn record(s: &[u8], t: Tally) -> Tally {
     let mut kinds = replay::room_for_kinds();
     let mut active = replay::room_for_mask();
     let u = replay::held(t, fits(s));
-    let c = replay::fit(s, replay::nth(s, FROM, 2), 260);
+    let c = replay::fit(s, replay::nth(s, FROM, 2), 520);
     let e = replay::mask_words(s, replay::nth(s, FROM, 4), 1285);
     sun(
         s,
