@@ -2,7 +2,7 @@
 -- the same hits, and both merged are the whole in order (`halves-in-order`).
 use mathlib.Core.Path.{_≡_, refl, sym, ap, _∙_}
 use mathlib.Core.List.{List}
-use Prim.Native.Nat.{ℕ, _/_, _<_}
+use Prim.Native.Nat.{ℕ, _/_, _≤_, _<_}
 use native.Mathlib.Omega.{arith}
 use lib.ListN.{length, take, drop, length-drop}
 use lib.Seq.{length-take-le, length-front}
@@ -20,6 +20,10 @@ use Rattle.hits.proofs.inner.merge.Reads as merge-reads
 use Rattle.hits.proofs.inner.one_by_one.Reads as one-by-one-reads
 use Rattle.hits.proofs.inner.+by_halves.{statement}
 use Rattle.hits.proofs.inner.+by_halves.Tie.{close}
+
+-- half of m lies within as many; said here, since `omega` would read all that is known at a place
+half-within : (n m : ℕ) → n ≡ m → m / 2 ≤ n
+half-within n m e = omega arith
 
 abbrev μ-by-halves : Measures 4 by-halves-kinds.ps ℕ
 μ-by-halves κs a = length (a .0 .now)
@@ -59,7 +63,7 @@ by-halves-slice-aggregate-by-halves t c =
     let h = length (a .distances .now) / 2 in
     let k = ap (λ (l : List Float). length l) (q .1) in
     let j = ap (λ (l : List ℕ). length l) (q .2) in
-    sym (length-take-le h (a .ts .now) (omega arith))
+    sym (length-take-le h (a .ts .now) (half-within (length (a .ts .now)) (length (a .distances .now)) k))
 
 by-halves-slice-relend-prefix-by-halves-2 :
     (t : ℕ) → by-halves-lts.Need-slice-relend-prefix-by-halves-2 (claims t) (by-halves-at t) by-halves.Post
@@ -73,7 +77,7 @@ by-halves-slice-aggregate-by-halves-2 t c =
     let h = length (a .distances .now) / 2 in
     let k = ap (λ (l : List Float). length l) (q .1) in
     let j = ap (λ (l : List ℕ). length l) (q .2) in
-    sym (length-take-le h (a .is .now) (omega arith))
+    sym (length-take-le h (a .is .now) (half-within (length (a .is .now)) (length (a .distances .now)) (j ∙ sym (q .0))))
 
 by-halves-slice-relend-prefix-by-halves-3 :
     (t : ℕ) → by-halves-lts.Need-slice-relend-prefix-by-halves-3 (claims t) (by-halves-at t) by-halves.Post
@@ -87,7 +91,7 @@ by-halves-slice-aggregate-by-halves-3 t c =
     let h = length (a .distances .now) / 2 in
     let k = ap (λ (l : List Float). length l) (q .1) in
     let j = ap (λ (l : List ℕ). length l) (q .2) in
-    sym (length-take-le h (a .distances .now) (omega arith))
+    sym (length-take-le h (a .distances .now) (half-within (length (a .distances .now)) (length (a .distances .now)) refl))
 
 by-halves-slice-relend-prefix-by-halves-4 :
     (t : ℕ) → by-halves-lts.Need-slice-relend-prefix-by-halves-4 (claims t) (by-halves-at t) by-halves.Post
@@ -101,7 +105,7 @@ by-halves-slice-aggregate-by-halves-4 t c =
     let h = length (a .distances .now) / 2 in
     let k = ap (λ (l : List Float). length l) (q .1) in
     let j = ap (λ (l : List ℕ). length l) (q .2) in
-    sym (length-take-le h (a .places .now) (omega arith))
+    sym (length-take-le h (a .places .now) (half-within (length (a .places .now)) (length (a .distances .now)) (sym (q .0))))
 
 by-halves-by-halves-requires : (t : ℕ) → by-halves-lts.Need-by-halves-requires (claims t) (by-halves-at t) by-halves.Post
 by-halves-by-halves-requires t c κs =
@@ -112,12 +116,12 @@ by-halves-by-halves-requires t c κs =
     let k = ap (λ (l : List Float). length l) (q .1) in
     let j = ap (λ (l : List ℕ). length l) (q .2) in
     let n : Numbers (paired (a .ts .now) (a .is .now)) = rw (q .1, q .2) (q .3) in (
-      omega (arith, s .pre .0, length-take-le h (a .ts .now) (omega arith)),
+      omega (arith, s .pre .0, length-take-le h (a .ts .now) (half-within (length (a .ts .now)) (length (a .distances .now)) k)),
       (
-        length-take-le h (a .ts .now) (omega arith) ∙ sym (length-take-le h (a .is .now) (omega arith)),
+        length-take-le h (a .ts .now) (half-within (length (a .ts .now)) (length (a .distances .now)) k) ∙ sym (length-take-le h (a .is .now) (half-within (length (a .is .now)) (length (a .distances .now)) (j ∙ sym (q .0)))),
         ap (λ (l : List Float). take h l) (sym (q .1)),
         ap (λ (l : List ℕ). take h l) (sym (q .2)),
-        numbers-halves (a .ts .now) (a .is .now) h (omega arith) (omega arith) n .0,
+        numbers-halves (a .ts .now) (a .is .now) h (k ∙ q .0 ∙ sym j) (half-within (length (a .ts .now)) (length (a .distances .now)) k) n .0,
       ),
     )
 
@@ -179,10 +183,10 @@ by-halves-by-halves-requires-2 t c κs =
     let j = ap (λ (l : List ℕ). length l) (q .2) in
     let n : Numbers (paired (a .ts .now) (a .is .now)) = rw (q .1, q .2) (q .3) in
     let x = c .before .before .before .before .before .before .before .before .before .before .before .before .by-halves in
-    let st = second-lent (a .ts .now) (x .last .0) h (omega arith) (x .kept .0) in
-    let si = second-lent (a .is .now) (x .last .1 .0) h (omega arith) (x .kept .1 .0) in
-    let sd = second-lent (a .distances .now) (x .last .1 .1 .0) h (omega arith) (x .kept .1 .1 .0) in
-    let sp = second-lent (a .places .now) (x .last .1 .1 .1 .0) h (omega arith) (x .kept .1 .1 .1 .0) in
+    let st = second-lent (a .ts .now) (x .last .0) h (half-within (length (a .ts .now)) (length (a .distances .now)) k) (x .kept .0) in
+    let si = second-lent (a .is .now) (x .last .1 .0) h (half-within (length (a .is .now)) (length (a .distances .now)) (j ∙ sym (q .0))) (x .kept .1 .0) in
+    let sd = second-lent (a .distances .now) (x .last .1 .1 .0) h (half-within (length (a .distances .now)) (length (a .distances .now)) refl) (x .kept .1 .1 .0) in
+    let sp = second-lent (a .places .now) (x .last .1 .1 .1 .0) h (half-within (length (a .places .now)) (length (a .distances .now)) (sym (q .0))) (x .kept .1 .1 .1 .0) in
     let lt = ap (λ (l : List Float). length l) st in
     let li = ap (λ (l : List ℕ). length l) si in (
       omega (arith, s .pre .0, lt, length-drop h (a .ts .now)),
@@ -190,7 +194,7 @@ by-halves-by-halves-requires-2 t c κs =
         omega (arith, lt, li, length-drop h (a .ts .now), length-drop h (a .is .now)),
         sd ∙ ap (λ (l : List Float). drop h l) (sym (q .1)) ∙ sym st,
         sp ∙ ap (λ (l : List ℕ). drop h l) (sym (q .2)) ∙ sym si,
-        rw (st, si) (numbers-halves (a .ts .now) (a .is .now) h (omega arith) (omega arith) n .1),
+        rw (st, si) (numbers-halves (a .ts .now) (a .is .now) h (k ∙ q .0 ∙ sym j) (half-within (length (a .ts .now)) (length (a .distances .now)) k) n .1),
       ),
     )
 
@@ -204,11 +208,11 @@ by-halves-merge-requires t c κs =
     let j = ap (λ (l : List ℕ). length l) (q .2) in
     let x = c .before .before .before .before .before .before .before .before .before .before .before .before .before .before .before .before .before .before .before .before .before .before .before .before .before .by-halves in
     let y = c .before .before .before .before .before .before .before .before .before .before .before .before .by-halves2 in
-    let bt = back-length (a .ts .now) (x .last .0) h (omega arith) (x .kept .0) (y .last .0) (y .kept .0) in
-    let bi = back-length (a .is .now) (x .last .1 .0) h (omega arith) (x .kept .1 .0) (y .last .1 .0) (y .kept .1 .0) in
-    let bd = back-length (a .distances .now) (x .last .1 .1 .0) h (omega arith) (x .kept .1 .1 .0) (y .last .1 .1 .0) (y .kept .1 .1 .0) in
-    let bp = back-length (a .places .now) (x .last .1 .1 .1 .0) h (omega arith) (x .kept .1 .1 .1 .0) (y .last .1 .1 .1 .0) (y .kept .1 .1 .1 .0) in
-    (omega (arith, bt, bi), omega (arith, bt), omega (arith, bd, bt), omega (arith, bp, bt))
+    let bt = back-length (a .ts .now) (x .last .0) h (half-within (length (a .ts .now)) (length (a .distances .now)) k) (x .kept .0) (y .last .0) (y .kept .0) in
+    let bi = back-length (a .is .now) (x .last .1 .0) h (half-within (length (a .is .now)) (length (a .distances .now)) (j ∙ sym (q .0))) (x .kept .1 .0) (y .last .1 .0) (y .kept .1 .0) in
+    let bd = back-length (a .distances .now) (x .last .1 .1 .0) h (half-within (length (a .distances .now)) (length (a .distances .now)) refl) (x .kept .1 .1 .0) (y .last .1 .1 .0) (y .kept .1 .1 .0) in
+    let bp = back-length (a .places .now) (x .last .1 .1 .1 .0) h (half-within (length (a .places .now)) (length (a .distances .now)) (sym (q .0))) (x .kept .1 .1 .1 .0) (y .last .1 .1 .1 .0) (y .kept .1 .1 .1 .0) in
+    (bt ∙ k ∙ q .0 ∙ sym j ∙ sym bi, half-within _ (length (a .distances .now)) (bt ∙ k), bd ∙ sym k ∙ sym bt, bp ∙ sym (q .0) ∙ sym k ∙ sym bt)
 
 by-halves-same-length-3 : (t : ℕ) → by-halves-lts.Need-same-length-3 (claims t) (by-halves-at t) by-halves.Post
 by-halves-same-length-3 t c =
@@ -220,8 +224,8 @@ by-halves-same-length-3 t c =
     let j = ap (λ (l : List ℕ). length l) (q .2) in
     let x = c .before .before .before .before .before .before .before .before .before .before .before .before .before .before .before .before .before .before .before .before .before .before .before .before .before .before .before .before .before .before .by-halves in
     let y = c .before .before .before .before .before .before .before .before .before .before .before .before .before .before .before .before .before .by-halves2 in
-    let bd = back-length (a .distances .now) (x .last .1 .1 .0) h (omega arith) (x .kept .1 .1 .0) (y .last .1 .1 .0) (y .kept .1 .1 .0) in
-    omega (arith, bd)
+    let bd = back-length (a .distances .now) (x .last .1 .1 .0) h (half-within (length (a .distances .now)) (length (a .distances .now)) refl) (x .kept .1 .1 .0) (y .last .1 .1 .0) (y .kept .1 .1 .0) in
+    c .before .before .before .before .merge .kept .1 .1 .1 .0 ∙ bd
 
 by-halves-same-length-4 : (t : ℕ) → by-halves-lts.Need-same-length-4 (claims t) (by-halves-at t) by-halves.Post
 by-halves-same-length-4 t c =
@@ -233,8 +237,8 @@ by-halves-same-length-4 t c =
     let j = ap (λ (l : List ℕ). length l) (q .2) in
     let x = c .before .before .before .before .before .before .before .before .before .before .before .before .before .before .before .before .before .before .before .before .before .before .before .before .before .before .before .before .before .before .by-halves in
     let y = c .before .before .before .before .before .before .before .before .before .before .before .before .before .before .before .before .before .by-halves2 in
-    let bp = back-length (a .places .now) (x .last .1 .1 .1 .0) h (omega arith) (x .kept .1 .1 .1 .0) (y .last .1 .1 .1 .0) (y .kept .1 .1 .1 .0) in
-    omega (arith, bp)
+    let bp = back-length (a .places .now) (x .last .1 .1 .1 .0) h (half-within (length (a .places .now)) (length (a .distances .now)) (sym (q .0))) (x .kept .1 .1 .1 .0) (y .last .1 .1 .1 .0) (y .kept .1 .1 .1 .0) in
+    c .before .before .before .before .merge .kept .1 .1 .1 .1 .0 ∙ bp
 
 by-halves-same-length-5 : (t : ℕ) → by-halves-lts.Need-same-length-5 (claims t) (by-halves-at t) by-halves.Post
 by-halves-same-length-5 t c =
@@ -246,7 +250,7 @@ by-halves-same-length-5 t c =
     let j = ap (λ (l : List ℕ). length l) (q .2) in
     let x = c .before .before .before .before .before .before .before .before .before .before .before .before .before .before .before .before .before .before .before .before .before .before .before .before .before .before .before .before .before .before .by-halves in
     let y = c .before .before .before .before .before .before .before .before .before .before .before .before .before .before .before .before .before .by-halves2 in
-    let bt = back-length (a .ts .now) (x .last .0) h (omega arith) (x .kept .0) (y .last .0) (y .kept .0) in
+    let bt = back-length (a .ts .now) (x .last .0) h (half-within (length (a .ts .now)) (length (a .distances .now)) k) (x .kept .0) (y .last .0) (y .kept .0) in
     bt
 
 by-halves-same-length-6 : (t : ℕ) → by-halves-lts.Need-same-length-6 (claims t) (by-halves-at t) by-halves.Post
@@ -259,7 +263,7 @@ by-halves-same-length-6 t c =
     let j = ap (λ (l : List ℕ). length l) (q .2) in
     let x = c .before .before .before .before .before .before .before .before .before .before .before .before .before .before .before .before .before .before .before .before .before .before .before .before .before .before .before .before .before .before .by-halves in
     let y = c .before .before .before .before .before .before .before .before .before .before .before .before .before .before .before .before .before .by-halves2 in
-    let bi = back-length (a .is .now) (x .last .1 .0) h (omega arith) (x .kept .1 .0) (y .last .1 .0) (y .kept .1 .0) in
+    let bi = back-length (a .is .now) (x .last .1 .0) h (half-within (length (a .is .now)) (length (a .distances .now)) (j ∙ sym (q .0))) (x .kept .1 .0) (y .last .1 .0) (y .kept .1 .0) in
     bi
 
 by-halves-returns-2 : (t : ℕ) → by-halves-lts.Need-returns-2 (claims t) (by-halves-at t) by-halves.Post
@@ -274,7 +278,7 @@ by-halves-returns-2 t c =
     let x = c .before .before .before .before .before .before .before .before .before .before .before .before .before .before .before .before .before .before .before .before .before .before .before .before .before .before .before .before .before .before .by-halves in
     let y = c .before .before .before .before .before .before .before .before .before .before .before .before .before .before .before .before .before .by-halves2 in
     c .before .before .before .before .merge .ensures
-    ∙ halves-in-order (a .ts .now) (x .last .0) (y .last .0) (a .is .now) (x .last .1 .0) (y .last .1 .0) h (omega arith) (omega arith) n (x .kept .0) (x .kept .1 .0) (x .ensures) (y .ensures)
+    ∙ halves-in-order (a .ts .now) (x .last .0) (y .last .0) (a .is .now) (x .last .1 .0) (y .last .1 .0) h (k ∙ q .0 ∙ sym j) (half-within (length (a .ts .now)) (length (a .distances .now)) k) n (x .kept .0) (x .kept .1 .0) (x .ensures) (y .ensures)
     ∙ rw (q .1, q .2) refl
 
 pub +by-halves-spec : {M : Type 1} → statement M
