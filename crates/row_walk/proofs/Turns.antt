@@ -23,7 +23,7 @@ use Rattle.tree_walk.specs.CollectLaws.{listed-fits}
 use Rattle.tree_walk.specs.Kept.{RoomFor}
 use Rattle.tree_walk.proofs.Going.{span-missed}
 use Rattle.tree_rows.specs.Rows.{rowBounds, rowAfter, rowFirst, rowCount, rowPlaces, placesTo, Rowed}
-use Rattle.row_walk.specs.RowLaws.{row-longer, rows-longer, rows-passed, rows-next, row-fits}
+use Rattle.row_walk.specs.RowLaws.{row-longer, rows-longer, passed-on, rows-next, row-fits}
 
 -- ---- a span whose first places add nothing
 
@@ -63,7 +63,7 @@ module _ (scene : Scene) (sound : Sound scene) (order : List ℕ) (n : ℕ) (row
   -- the box is passed over
   pub turn-over : (after : ℕ) → after ≡ rowAfter rows k → passedOver (ray .origin) (ray .direction) (rowBounds rows k) ≡ true → held ≡ foldOf step start (placesTo order rows after)
   turn-over after f o =
-      e ∙ rows-passed (scene .points) order n rows r ray step (λ s p q. missed p (boxed-over scene ray p q) s) start k after h o (omega (arith, r .forward k h .0)) (omega arith)
+      e ∙ passed-on (scene .points) order n rows r ray step (λ s p q. missed p (boxed-over scene ray p q) s) start k after h o (omega (arith, r .forward k h .0)) (omega arith)
 
   module _ (first end j : ℕ) (f : first ≡ rowFirst rows k) (g : end ≡ first + rowCount rows k) (a : first ≤ j) (b : j ≤ end) (m : Missed rows ray first j) where
     -- the rest of its run is gone through

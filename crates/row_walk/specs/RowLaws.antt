@@ -90,15 +90,15 @@ module _ (points : List Float) (order : List ℕ) (n : ℕ) (rows : List Float) 
         ∙ over s (getD order (first + count) 0) (h count (omega arith))
 
     -- up to the row after a box that is passed over nothing is added
-    pub rows-passed : (k m : ℕ) → k < n → passedOver (ray .origin) (ray .direction) (rowBounds rows k) ≡ true → k ≤ m → m ≤ rowAfter rows k
+    pub passed-on : (k m : ℕ) → k < n → passedOver (ray .origin) (ray .direction) (rowBounds rows k) ≡ true → k ≤ m → m ≤ rowAfter rows k
         → foldOf step start (placesTo order rows k) ≡ foldOf step start (placesTo order rows m)
     unfolding placesTo
-    rows-passed k zero h e a b = let z : k ≡ 0 = omega arith in rw z refl
-    rows-passed k (suc m) h e a b =
+    passed-on k zero h e a b = let z : k ≡ 0 = omega arith in rw z refl
+    passed-on k (suc m) h e a b =
         ⊎-elim
         (λ (z : k ≡ suc m). rw z refl)
         (λ (c : k < suc m).
-        rows-passed k m h e (omega arith) (omega arith)
+        passed-on k m h e (omega arith) (omega arith)
         ∙ sym (fold-append step start (placesTo order rows m) (rowPlaces order rows m)
         ∙ span-passed (rowFirst rows m) (rowCount rows m) (λ l d. r .over ray k m l h e (omega arith) (omega arith) d) (foldOf step start (placesTo order rows m))))
         (eq-or-lt-of-le a)
