@@ -318,12 +318,12 @@ pub fn answer(call: &str, turns: Option<usize>, hall: &Hall, lists: &Lists) -> V
             measure(turns, s, still, |s| s.bake(hall, lists, &few, corners, by, allowance));
             bits(&s.volume)
         }
-        // the second call, since the first one fills the volume
+        // under way, well inside the hall: a first call fills the volume and bakes some forty voxels
         "bake call" | "tree bake call" => {
             let by = if call == "bake call" { By::List } else { By::Tree };
             let first = |s: &mut State| {
                 s.progress = Progress { next: 0, rays: 0 };
-                s.bake_on(hall, lists, &few, corners, by, LEAST);
+                s.bake_on(hall, lists, &few, corners, by, 40 * LEAST);
             };
             measure(turns, s, first, |s| s.bake_on(hall, lists, &few, corners, by, LEAST));
             bits(&s.volume)
