@@ -1,26 +1,28 @@
 -- The same of results of the public call tree_bake: answer, volume and scratch are bit for bit the same, and where no ray is fired the lists of hits too. So a bake
--- may be spread over calls each with an accepted tree of its own: they are calls with the first one's, and do what demand 3 asks.
+-- may be spread over calls each with an accepted tree of its own: they are calls with any one of the trees, and do what demand 3 asks.
 use mathlib.Core.Path.{_≡_, refl, sym, ap, _∙_}
 use mathlib.Core.Bool.{true, false}
 use mathlib.Core.List.{List, [], _∷_, map}
 use Prim.Native.Nat.{ℕ}
 use lib.ListN.{length}
 use lib.Ieee.{Float}
+use Rattle.names.specs.Numbers.{voxelCost}
 use Rattle.names.specs.Scene.{treeScene}
 use Rattle.grid.specs.declared.Axes.{Axes}
 use Rattle.grid.specs.declared.Corners.{Corners}
 use Rattle.limits.specs.declared.Light.{Light}
 use Rattle.limits.specs.declared.Ambient.{Ambient}
+use Rattle.limits.specs.Limits.{lampCount}
 use Rattle.tree.specs.Tree.{AcceptedTree}
-use Rattle.spread.specs.Spread.{Stage, Called, EachAtLeast}
-use Rattle.intake.specs.Intake.{BakeInput, inputOf, bakeCost}
+use Rattle.spread.specs.Spread.{Stage, Called, EachAtLeast, NoneRefused}
+use Rattle.intake.specs.Intake.{BakeInput, inputOf}
 use Rattle.intake.specs.IntakeLaws.{fits, none-refused}
 use Rattle.demand.specs.Bake.{bakeCall}
 use Rattle.demand.specs.Calls.{answers-refusal}
 use Rattle.bake.specs.declared.BakeAnswer.{BakeAnswer}
 use Rattle.bake.specs.Baked.{Baked}
 use Rattle.bake.specs.BakedLaws.{SameBaked, baked-once}
-use Rattle.bake.specs.Results.{Result, handedOn, Successive, allowancesOf, DemandOfResults}
+use Rattle.bake.specs.Results.{Result, handedOn, Successive, allowancesOf, refusalsOf, DemandOfResults}
 use Rattle.bake.specs.ResultsLaws.{demand-of-results}
 use Rattle.tree_alike.specs.BakeUnread.{call-unread}
 use Rattle.tree_alike.specs.RefusalsAlike.{bake-refusals-alike}
@@ -84,34 +86,49 @@ module _ (axes : Axes) (corners : Corners) (points : List Float) (uses kinds : L
     pub order : List ℕ
     pub result : Result
 
-  -- results of calls from the stage s on with the hit lists d and p, each through its own tree, which is accepted: each satisfies the public contract, and is handed on
-  -- to the next, all else unchanged
+  -- results of calls from the stage s on with the hit lists d and p, each through its own tree: each satisfies the public contract, and is handed on to the next, all
+  -- else unchanged
   abbrev pub ThroughTrees : Stage Float → List Float → List ℕ → List TreeResult → Type 0
   ThroughTrees s d p [] = Unit
   ThroughTrees s d p (t ∷ rest) =
       let c = t .result in
-      AcceptedTree points (t .boxes) (t .nodes) (t .order)
-      × Baked (throughTree (t .boxes) (t .nodes) (t .order) (length d) (length p)) s (c .allowance) (c .answer) (c .volume) (c .scratch) d (c .distances) p (c .places)
+      Baked (throughTree (t .boxes) (t .nodes) (t .order) (length d) (length p)) s (c .allowance) (c .answer) (c .volume) (c .scratch) d (c .distances) p (c .places)
       × ThroughTrees (handedOn c) (c .distances) (c .places) rest
+
+  abbrev pub EachTreeAccepted : List TreeResult → Type 0
+  EachTreeAccepted [] = Unit
+  EachTreeAccepted (t ∷ rest) = AcceptedTree points (t .boxes) (t .nodes) (t .order) × EachTreeAccepted rest
 
   abbrev pub resultsOf : List TreeResult → List Result
   resultsOf results = map (λ (t : TreeResult). t .result) results
 
-  -- they are results of calls through any one accepted tree
-  pub trees-successive : (boxes : List Float) (nodes order : List ℕ) → AcceptedTree points boxes nodes order → (distances places : ℕ) (s : Stage Float) (d : List Float) (p : List ℕ)
-      (results : List TreeResult) → ThroughTrees s d p results → Successive (throughTree boxes nodes order distances places) s d p (resultsOf results)
-  trees-successive boxes nodes order accepted distances places s d p [] h = tt
-  trees-successive boxes nodes order accepted distances places s d p (t ∷ rest) h =
+  -- where no call is refused each tree is accepted
+  pub unrefused-trees : (s : Stage Float) (d : List Float) (p : List ℕ) (results : List TreeResult) → ThroughTrees s d p results → NoneRefused (refusalsOf (resultsOf results))
+      → EachTreeAccepted results
+  unrefused-trees s d p [] h n = tt
+  unrefused-trees s d p (t ∷ rest) h n =
       let c = t .result in (
-        bake-through-either boxes (t .boxes) nodes order (t .nodes) (t .order) accepted (h .0) (length d) (length p) s (c .allowance) (c .answer) (c .volume) (c .scratch) d (c .distances) p (c .places) (h .1),
-        trees-successive boxes nodes order accepted distances places (handedOn c) (c .distances) (c .places) rest (h .2),
+        bake-tree-accepted (t .boxes) (t .nodes) (t .order) (length d) (length p) s (c .allowance) (c .answer) (c .volume) (c .scratch) d (c .distances) p (c .places) (h .0) (n .0),
+        unrefused-trees (handedOn c) (c .distances) (c .places) rest (h .1) (n .1),
       )
 
-  -- so they do what demand 3 asks of calls through the first one's tree: at the end they have the unbroken bake bit for bit
-  pub demand-of-trees : (s : Stage Float) (d : List Float) (p : List ℕ) (first : TreeResult) (rest : List TreeResult) → ThroughTrees s d p (first ∷ rest) → s .progress .next ≡ 0
-      → EachAtLeast (bakeCost (throughTree (first .boxes) (first .nodes) (first .order) (length d) (length p))) (allowancesOf (resultsOf (first ∷ rest)))
-      → first .result .answer .refusal ≡ 0
-      → DemandOfResults (throughTree (first .boxes) (first .nodes) (first .order) (length d) (length p)) s (first .result) (resultsOf rest)
-  demand-of-trees s d p first rest h o m r =
-      demand-of-results (throughTree (first .boxes) (first .nodes) (first .order) (length d) (length p)) s d p (first .result) (resultsOf rest)
-      (trees-successive (first .boxes) (first .nodes) (first .order) (h .0) (length d) (length p) s d p (first ∷ rest) h) o m r
+  module _ (boxes : List Float) (nodes order : List ℕ) (accepted : AcceptedTree points boxes nodes order) where
+    -- they are results of calls through any one accepted tree
+    pub trees-successive : (distances places : ℕ) (s : Stage Float) (d : List Float) (p : List ℕ) (results : List TreeResult) → ThroughTrees s d p results → EachTreeAccepted results
+        → Successive (throughTree boxes nodes order distances places) s d p (resultsOf results)
+    trees-successive distances places s d p [] h n = tt
+    trees-successive distances places s d p (t ∷ rest) h n =
+        let c = t .result in (
+          bake-through-either boxes (t .boxes) nodes order (t .nodes) (t .order) accepted (n .0) (length d) (length p) s (c .allowance) (c .answer) (c .volume) (c .scratch) d (c .distances) p (c .places) (h .0),
+          trees-successive distances places (handedOn c) (c .distances) (c .places) rest (h .1) (n .1),
+        )
+
+    -- so they do what demand 3 asks of calls through that tree, the first one's or another: at the end they have its unbroken bake bit for bit
+    pub demand-of-trees : (s : Stage Float) (d : List Float) (p : List ℕ) (first : TreeResult) (rest : List TreeResult) → ThroughTrees s d p (first ∷ rest)
+        → EachTreeAccepted (first ∷ rest)
+        → s .progress .next ≡ 0
+        → EachAtLeast (voxelCost (lampCount lamps)) (allowancesOf (resultsOf (first ∷ rest)))
+        → first .result .answer .refusal ≡ 0
+        → DemandOfResults (throughTree boxes nodes order (length d) (length p)) s (first .result) (resultsOf rest)
+    demand-of-trees s d p first rest h n o m r =
+        demand-of-results (throughTree boxes nodes order (length d) (length p)) s d p (first .result) (resultsOf rest) (trees-successive (length d) (length p) s d p (first ∷ rest) h n) o m r
