@@ -8,28 +8,28 @@ use lib.Ieee.{Float}
 use Rattle.names.specs.Refusals.{row, firstOf}
 use Rattle.names.specs.Scene.{Scene, treeScene}
 use Rattle.vectors.specs.declared.Vec3.{Vec3}
+use Rattle.vectors.specs.declared.Ray.{Ray}
 use Rattle.grid.specs.Grid.{voxels}
 use Rattle.grid.specs.declared.Axes.{Axes}
 use Rattle.grid.specs.declared.Corners.{Corners}
 use Rattle.limits.specs.declared.Light.{Light}
 use Rattle.limits.specs.declared.Ambient.{Ambient}
-use Rattle.limits.specs.Limits.{badAxes, badGrid, wrongScene, tooMany, badPoints, badMaterialsFor, badDirection, badLamps, lampCount, belowCost}
+use Rattle.limits.specs.Limits.{badAxes, badGrid, wrongScene, tooMany, badPoints, badMaterialsFor, badDirection, badRay, badLamps, lampCount, belowCost}
 use Rattle.limits.specs.LimitsLaws.{either, few-points}
 use Rattle.words.specs.Words.{unusedSet}
 use Rattle.tree.specs.Tree.{AcceptedTree}
 use Rattle.tree.specs.Trees.{badTree}
 use Rattle.tree.specs.TreesLaws.{tree-row}
 use Rattle.spread.specs.Spread.{Stage}
+use Rattle.rays.specs.Rays.{wrongScratch, nearestRefusal, transmittanceRefusal}
 use Rattle.sun.specs.Sun.{wrongSun, sunRefusal}
 use Rattle.intake.specs.Intake.{BakeInput, inputFor, activeEntries, wrongBakeLists, badLighting, badProgress, badContents, bakeRows, bakeRefusal}
 
--- where rows 1 to 4 pass, the rest decides
-after-four : (a b c d : Bool) (x y : ℕ) → (c ≡ false → d ≡ false → x ≡ y) → cond a 1 (cond b 2 (cond c 3 (cond d 4 x))) ≡ cond a 1 (cond b 2 (cond c 3 (cond d 4 y)))
-after-four true b c d x y h = refl
-after-four false true c d x y h = refl
-after-four false false true d x y h = refl
-after-four false false false true x y h = refl
-after-four false false false false x y h = h refl refl
+-- where rows 3 and 4 pass, the rest decides
+after-four : (c d : Bool) (x y : ℕ) → (c ≡ false → d ≡ false → x ≡ y) → cond c 3 (cond d 4 x) ≡ cond c 3 (cond d 4 y)
+after-four true d x y h = refl
+after-four false true x y h = refl
+after-four false false x y h = h refl refl
 
 first-of-five : (a b c d e : Bool) → a || b || c || d || e ≡ false → a ≡ false
 first-of-five a b c d e h = either a b .0 (either (a || b) c .0 (either (a || b || c) d .0 (either (a || b || c || d) e .0 h .0) .0) .0) .0
@@ -48,13 +48,32 @@ module _ (points : List Float) (uses kinds : List ℕ) (numbers boxes boxes′ :
       let within = few-points points uses kinds numbers lists few in
       tree-row one within .1 (λ b. accepted) ∙ sym (tree-row other within .1 (λ b. accepted′))
 
+  -- the rows of a ray
+  module _ (ray : Ray) where
+    rest-alike : wrongScene points uses kinds numbers ≡ false → tooMany (length uses) (length kinds) ≡ false
+        → firstOf (row 5 (badPoints points) ∷ row 6 (badMaterialsFor false uses kinds numbers) ∷ row 16 (badTree one) ∷ row 8 (badRay ray) ∷ [])
+        ≡ firstOf (row 5 (badPoints points) ∷ row 6 (badMaterialsFor false uses kinds numbers) ∷ row 16 (badTree other) ∷ row 8 (badRay ray) ∷ [])
+    rest-alike lists few =
+        ap (λ (t : Bool). firstOf (row 5 (badPoints points) ∷ row 6 (badMaterialsFor false uses kinds numbers) ∷ row 16 t ∷ row 8 (badRay ray) ∷ [])) (row-alike lists few)
+
+    pub nearest-refusals-alike : nearestRefusal one ray ≡ nearestRefusal other ray
+    unfolding nearestRefusal firstOf
+    nearest-refusals-alike = after-four (wrongScene points uses kinds numbers) (tooMany (length uses) (length kinds)) _ _ rest-alike
+
+    pub transmittance-refusals-alike : (distances : List Float) (places : List ℕ) → transmittanceRefusal one ray distances places ≡ transmittanceRefusal other ray distances places
+    unfolding transmittanceRefusal firstOf wrongScratch
+    transmittance-refusals-alike distances places =
+        after-four (wrongScratch one (length distances) (length places)) (tooMany (length uses) (length kinds)) _ _
+        (λ lists few. rest-alike (either (wrongScene points uses kinds numbers) _ .0 lists .0) few)
+
   -- the sun's rows
   pub sun-refusals-alike : (axes : Axes) (corners : Corners) (direction : Vec3) (active : List ℕ) (lightLength scratchLength distancesLength placesLength : ℕ)
       → sunRefusal false axes corners one direction active lightLength scratchLength distancesLength placesLength
       ≡ sunRefusal false axes corners other direction active lightLength scratchLength distancesLength placesLength
   unfolding sunRefusal firstOf wrongSun
   sun-refusals-alike axes corners direction active lightLength scratchLength distancesLength placesLength =
-      after-four (badAxes axes) (badGrid corners axes) (wrongSun false (voxels axes) one (length active) lightLength scratchLength distancesLength placesLength) (tooMany (length uses) (length kinds)) _ _
+      ap (λ (n : ℕ). cond (badAxes axes) 1 (cond (badGrid corners axes) 2 n))
+      (after-four (wrongSun false (voxels axes) one (length active) lightLength scratchLength distancesLength placesLength) (tooMany (length uses) (length kinds)) _ _
       (λ lists few.
       ap
       (λ (t : Bool). firstOf
@@ -64,7 +83,7 @@ module _ (points : List Float) (uses kinds : List ℕ) (numbers boxes boxes′ :
       ∷ row 16 t
       ∷ row 13 (unusedSet active (voxels axes))
       ∷ []))
-      (row-alike (first-of-five (wrongScene points uses kinds numbers) _ _ _ _ lists) few))
+      (row-alike (first-of-five (wrongScene points uses kinds numbers) _ _ _ _ lists) few)))
 
   -- the bake's
   module _ (axes : Axes) (corners : Corners) (light : Light) (ambient : Ambient) (sky lamps : List Float) (active : List ℕ) (lights : List Float) (distances places : ℕ) where
@@ -74,7 +93,8 @@ module _ (points : List Float) (uses kinds : List ℕ) (numbers boxes boxes′ :
     pub bake-refusals-alike : (s : Stage Float) (a : ℕ) → bakeRefusal (inputFrom one) s a ≡ bakeRefusal (inputFrom other) s a
     unfolding bakeRefusal bakeRows firstOf wrongBakeLists
     bake-refusals-alike s a =
-        after-four (badAxes axes) (badGrid corners axes) (wrongBakeLists (inputFrom one) s) (tooMany (length uses) (length kinds)) _ _
+        ap (λ (n : ℕ). cond (badAxes axes) 1 (cond (badGrid corners axes) 2 n))
+        (after-four (wrongBakeLists (inputFrom one) s) (tooMany (length uses) (length kinds)) _ _
         (λ lists few.
         ap
         (λ (t : Bool). firstOf
@@ -87,4 +107,4 @@ module _ (points : List Float) (uses kinds : List ℕ) (numbers boxes boxes′ :
         ∷ row 10 (belowCost (lampCount lamps) a)
         ∷ row 13 (badContents active lights (s .volume) (s .progress .next) (voxels axes))
         ∷ []))
-        (row-alike (either (wrongScene points uses kinds numbers) _ .0 lists .0) few))
+        (row-alike (either (wrongScene points uses kinds numbers) _ .0 lists .0) few)))
