@@ -1,5 +1,5 @@
--- The same of results of the public call tree_bake: answer, volume and scratch are bit for bit the same, and where no ray is fired the lists of hits too. So a bake
--- may be spread over calls each with an accepted tree of its own: they are calls with any one of the trees, and do what demand 3 asks.
+-- The same of results of the public call tree_bake: answer, volume and scratch are bit for bit the same, and where no ray is fired the lists of hits too. Document 02, C-20,
+-- has demand 3 of a bake through a tree, "the tree handed on unchanged". It need not be: calls each with an accepted tree of its own are calls with any one of them.
 use mathlib.Core.Path.{_≡_, refl, sym, ap, _∙_}
 use mathlib.Core.Bool.{true, false}
 use mathlib.Core.List.{List, [], _∷_, map}

@@ -1,4 +1,4 @@
--- "so two accepted trees of one scene agree", of results of the public calls tree_nearest and tree_transmittance: the answers are the same, refusals too.
+-- Two accepted trees of one scene agree, of results of the public calls tree_nearest and tree_transmittance: the answers are the same, refusals too.
 use mathlib.Core.Path.{_≡_, sym, ap, ap₂, _∙_}
 use mathlib.Core.Bool.{true}
 use mathlib.Core.List.{List}

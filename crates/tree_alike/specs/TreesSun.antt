@@ -1,5 +1,5 @@
--- "so two accepted trees of one scene agree", of results of the public call tree_sun: the contract with the one tree is the contract with the other, so that answer, light
--- and scratch are bit for bit the same, and where no ray is traced the lists of hits too.
+-- Two accepted trees of one scene give the same bits, of results of the public call tree_sun: the contract with the one tree is the contract with the other, so that
+-- answer, light and scratch are the same, and where no ray is traced the lists of hits too.
 use mathlib.Core.Path.{_≡_, refl, sym, ap, _∙_}
 use mathlib.Core.Bool.{true, false}
 use mathlib.Core.List.{List}
