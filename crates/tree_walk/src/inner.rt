@@ -4,7 +4,6 @@ ghost use mathlib.Core.Path.{_≡_};
 ghost use mathlib.Core.Bool.{false};
 ghost use Prim.Native.Nat.{ℕ, _+_, _*_, _≤_, _<_};
 ghost use lib.ListN.{length, getD};
-ghost use lib.Ieee.{nan};
 ghost use Rattle.names.specs.Bits.{one32};
 ghost use Rattle.names.specs.Scene.{Sound, treeScene, HitsFit};
 ghost use Rattle.hits.specs.Hits.{paired, placesOf};
@@ -15,7 +14,7 @@ ghost use Rattle.tree.specs.Tree.{boxCount, countAt, innerAt, AcceptedTree};
 ghost use Rattle.tree_walk.specs.Boxed.{boxedAt, nearestStep};
 ghost use Rattle.scan.specs.Nearest.{nearestOf};
 ghost use Rattle.scan.specs.Transmittance.{transmittanceOf};
-ghost use Rattle.tree_walk.specs.Turned.{Turned};
+ghost use Rattle.tree_walk.specs.Turned.{Turned, TurnedTo};
 ghost use Rattle.tree_walk.specs.Walk.{runVisit, nodeVisit, pairVisit, TreeFits};
 ghost use Rattle.tree_walk.specs.UnderLaws.{placesUnder};
 ghost use Rattle.tree_walk.specs.FoldLaws.{foldOf};
@@ -36,23 +35,29 @@ pub fn turn(points: &[f32], order: &[u32], turned: &mut [f32])
     requires { ⌜ length (now order) * 9 ≤ length (now turned) ⌝ }
     ensures { λ _. ⌜ Turned (now (points .entry)) (now (order .entry)) (now (turned .exit)) ⌝ }
 {
-    let n = order.len() * 9;
     let mut k = 0;
-    while k < n {
-        let p = tree::inner::word_at(order, k / 9);
-        turned[k] = number_at(points, p * 9 + k % 9);
+    while k < order.len() {
+        turn_one(points, order, k, turned);
         k += 1;
     }
 }
 
-// A number of the scene's list, or any where the place is past it.
-fn number_at(points: &[f32], k: usize) -> f32
-    ensures { λ r. ⌜ (k < length (now (points .entry)) → r ≡ getD (now (points .entry)) k nan) ⌝ }
+// Writes those of the triangle that the order names at place k, if the scene has it.
+fn turn_one(points: &[f32], order: &[u32], k: usize, turned: &mut [f32])
+    requires { ⌜ (k < length (now order)) × (length (now order) * 9 ≤ length (now turned)) ⌝ }
+    ensures { λ _. ⌜ (TurnedTo (now (points .entry)) (now (order .entry)) (now (turned .entry)) (k * 9) → TurnedTo (now (points .entry)) (now (order .entry)) (now (turned .exit)) (k * 9 + 9)) ⌝ }
 {
-    if k < points.len() {
-        return points[k];
+    let p = tree::inner::word_at(order, k);
+    if points.len() / 9 <= p {
+        return;
     }
-    0.0
+    let from = p * 9;
+    let at = k * 9;
+    let mut i = 0;
+    while i < 9 {
+        turned[at + i] = points[from + i];
+        i += 1;
+    }
 }
 
 // ---- the nearest hit
