@@ -22,7 +22,7 @@ use walk::Reached;
 
 // The number of a refusal, 0 where there is none; the progress to go on with; the rays that the call fired.
 #[repr(C)]
-#[derive(Drop)]
+#[derive(Clone, Copy)]
 pub struct BakeAnswer {
     pub refusal: u32,
     pub progress: Progress,

@@ -6,7 +6,7 @@ pub mod inner;
 
 // How far a primary ray starts from its voxel's centre, how far a shading point stands off its surface, how far a secondary ray starts
 // from there, and the bake's shortest distance.
-#[derive(Drop)]
+#[derive(Clone, Copy)]
 pub struct Biases {
     pub primary: f32,
     pub hit: f32,
@@ -15,7 +15,7 @@ pub struct Biases {
 }
 
 // From a point to a lamp: the unit vector there, the squared distance and the distance.
-#[derive(Drop)]
+#[derive(Clone, Copy)]
 pub struct Way {
     pub unit: Vec3,
     pub squared: f32,
@@ -23,7 +23,7 @@ pub struct Way {
 }
 
 // A normal with its two tangents.
-#[derive(Drop)]
+#[derive(Clone, Copy)]
 pub struct Basis {
     pub tangent: Vec3,
     pub bitangent: Vec3,

@@ -2,7 +2,7 @@
 pub mod inner; // inner.rt: a box out of a list, around a triangle, inside another, passed over by a ray
 
 // Along the axes, from the low corner to the high one.
-#[derive(Drop)]
+#[derive(Clone, Copy)]
 pub struct Bounds {
     pub low: vectors::Vec3,
     pub high: vectors::Vec3,

@@ -2,7 +2,7 @@
 pub mod inner;
 
 // What the kind of an entry stands for.
-#[derive(Drop)]
+#[derive(Clone, Copy)]
 pub enum Kind {
     Light,
     Coefficients,

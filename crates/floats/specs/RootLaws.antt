@@ -91,6 +91,12 @@ no_two x y z p q = le_antisymm (not_above (λ l. clash y z (p.under l) (q.over l
 
 one_nearest : (m : ℕ) (e : ℤ) (y z : Float) → NearestRoot m e y → NearestRoot m e z → y ≡ z
 unfolding NearestRoot
+one_nearest m e nan z p q = elim p [ ]
+one_nearest m e (inf _) z p q = elim p [ ]
+one_nearest m e (fin true n d) z p q = elim p [ ]
+one_nearest m e (fin false n d) nan p q = elim q [ ]
+one_nearest m e (fin false n d) (inf _) p q = elim q [ ]
+one_nearest m e (fin false n d) (fin true k j) p q = elim q [ ]
 one_nearest m e (fin false n d) (fin false k j) p q = same_count n k d j p.0 q.0 (no_two (count m e) (count n d) (count k j) (p.1 k j q.0) (q.1 n d p.0))
 
 pub root_is_only : (x y : Float) → T (fits binary32 x) → RootOf x y → y ≡ root_of x

@@ -8,7 +8,7 @@ mod inner;
 
 // The first refusal and the place of the position that it is for, or two zeros. A refusal that no position causes (1, 2 and 3) has place 0.
 #[repr(C)]
-#[derive(Drop)]
+#[derive(Clone, Copy)]
 pub struct FirstRefusal {
     pub refusal: u32,
     pub place: usize,

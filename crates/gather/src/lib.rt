@@ -5,7 +5,7 @@ use vectors::Vec3;
 pub mod inner;
 
 // What comes back along one primary ray: its radiance, 1 where it met nothing, and the rays traced for it, itself among them.
-#[derive(Drop)]
+#[derive(Clone, Copy)]
 pub struct Incoming {
     pub radiance: Vec3,
     pub misses: usize,
@@ -13,7 +13,7 @@ pub struct Incoming {
 }
 
 // What a voxel has gathered so far: the projected sums, the rays that met nothing, and all rays traced.
-#[derive(Drop)]
+#[derive(Clone, Copy)]
 pub struct Gathering {
     pub sums: Coefficients,
     pub misses: usize,

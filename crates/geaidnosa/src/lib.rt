@@ -39,7 +39,7 @@ use volume::{Figures, Head, Needed};
 // A refusal's number, or 0; 1 for a hit, else 0; the hit's place in the list, its distance, u and v, and 1 where the front was met; zeros where there is no
 // hit.
 #[repr(C)]
-#[derive(Drop)]
+#[derive(Clone, Copy)]
 pub struct RayHit {
     pub refusal: u32,
     pub hit: u32,
@@ -52,7 +52,7 @@ pub struct RayHit {
 
 // A refusal's number, or 0 and the place in the list where the voxel's sixteen numbers start.
 #[repr(C)]
-#[derive(Drop)]
+#[derive(Clone, Copy)]
 pub struct PartStart {
     pub refusal: u32,
     pub start: usize,

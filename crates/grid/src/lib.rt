@@ -5,7 +5,7 @@ pub mod inner;
 
 // How many voxels lie along x, y and z.
 #[repr(C)]
-#[derive(Drop)]
+#[derive(Clone, Copy)]
 pub struct Axes {
     pub width: usize,
     pub height: usize,
@@ -14,7 +14,7 @@ pub struct Axes {
 
 // The box that the voxels fill.
 #[repr(C)]
-#[derive(Drop)]
+#[derive(Clone, Copy)]
 pub struct Corners {
     pub min: Vec3,
     pub max: Vec3,

@@ -6,7 +6,7 @@ pub mod inner;
 
 // Four coefficients of three colours, in the basis' order: 1, y, z, x.
 #[repr(C)]
-#[derive(Drop)]
+#[derive(Clone, Copy)]
 pub struct Coefficients {
     pub c0: Vec3,
     pub c1: Vec3,

@@ -9,7 +9,7 @@ use league_report::{League, Opening};
 const TURNS: u64 = 65537;
 
 // The league after a turn, where the next file is to begin, and whether the report has ended.
-#[derive(Drop)]
+#[derive(Clone, Copy)]
 struct Step {
     ended: bool,
     league: League,

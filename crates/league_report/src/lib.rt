@@ -14,7 +14,7 @@ pub mod inner;
 
 // The figures of a file's lights: 18 or 12 and zeros, or 0 and the figures.
 #[repr(C)]
-#[derive(Drop)]
+#[derive(Clone, Copy)]
 pub struct FileLights {
     pub refusal: u32,
     pub figures: LightFigures,
@@ -22,14 +22,14 @@ pub struct FileLights {
 
 // How many files have been read, and the figures of all their lights put together.
 #[repr(C)]
-#[derive(Drop)]
+#[derive(Clone, Copy)]
 pub struct League {
     pub files: u64,
     pub total: LightFigures,
 }
 
 // What stands before a file: nothing, since the input has ended; a length; or too much, or too little, which is 18.
-#[derive(Drop)]
+#[derive(Clone, Copy)]
 pub enum Opening {
     End,
     Length(usize),

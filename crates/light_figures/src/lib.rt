@@ -3,7 +3,7 @@ pub mod inner;
 
 // How many lights there are, their units summed, the lowest and the highest, and how many fall in each of sixteen bands.
 #[repr(C)]
-#[derive(Drop)]
+#[derive(Clone, Copy)]
 pub struct LightFigures {
     pub voxels: u64,
     pub sum: u64,

@@ -5,7 +5,7 @@ pub mod inner;
 
 // The light of a scene: where it comes from, and its colour.
 #[repr(C)]
-#[derive(Drop)]
+#[derive(Clone, Copy)]
 pub struct Light {
     pub direction: Vec3,
     pub colour: Vec3,
@@ -13,7 +13,7 @@ pub struct Light {
 
 // Ambient: four coefficients, each a colour.
 #[repr(C)]
-#[derive(Drop)]
+#[derive(Clone, Copy)]
 pub struct Ambient {
     pub c0: Vec3,
     pub c1: Vec3,
@@ -22,7 +22,7 @@ pub struct Ambient {
 }
 
 // A lamp: a point that shines, and its colour. A list of lamps has six numbers for each: position, then colour.
-#[derive(Drop)]
+#[derive(Clone, Copy)]
 pub struct Lamp {
     pub position: Vec3,
     pub colour: Vec3,

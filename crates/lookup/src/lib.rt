@@ -7,7 +7,7 @@ use vectors::Vec3;
 pub mod inner;
 
 // Where a cell's value stands: at its lower corner, as in the Rust, or at its centre, from which the bake fires its rays.
-#[derive(Drop)]
+#[derive(Clone, Copy)]
 pub enum Mode {
     Corner,
     Centre,
@@ -15,7 +15,7 @@ pub enum Mode {
 
 // The light at a position, or the number of the refusal and 0.
 #[repr(C)]
-#[derive(Drop)]
+#[derive(Clone, Copy)]
 pub struct LightAt {
     pub refusal: u32,
     pub light: f32,
@@ -23,14 +23,14 @@ pub struct LightAt {
 
 // The four coefficients at a position, x y z w of each in turn, or the number of the refusal and zeros.
 #[repr(C)]
-#[derive(Drop)]
+#[derive(Clone, Copy)]
 pub struct CoefficientsAt {
     pub refusal: u32,
     pub numbers: [f32; 16],
 }
 
 // A place along an axis: its cell, the next one, and how far it lies between them.
-#[derive(Drop)]
+#[derive(Clone, Copy)]
 pub struct Between {
     pub cell: usize,
     pub next: usize,
@@ -38,7 +38,7 @@ pub struct Between {
 }
 
 // The indices of the eight cells around a position, 0 the cell and 1 the next along x, y and z in turn, and the three fractions.
-#[derive(Drop)]
+#[derive(Clone, Copy)]
 pub struct Cells {
     pub c000: usize,
     pub c100: usize,

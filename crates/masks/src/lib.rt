@@ -7,7 +7,7 @@ use grid::{Axes, Corners};
 
 // What a call answers: a refusal, or 0 and how many voxels are occupied and how many active.
 #[repr(C)]
-#[derive(Drop)]
+#[derive(Clone, Copy)]
 pub struct Marked {
     pub refusal: u32,
     pub occupied: u64,

@@ -2,7 +2,7 @@
 pub mod inner;
 
 // Coordinates on an axis, from the first up to the one past the last.
-#[derive(Drop)]
+#[derive(Clone, Copy)]
 pub struct Span {
     pub first: usize,
     pub past: usize,

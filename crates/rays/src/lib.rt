@@ -12,7 +12,7 @@ use triangle::Meet;
 use vectors::{Ray, Triangle};
 
 // What the test of one triangle answers: a refusal's number, a miss, or a hit's distance, u and v, and whether the front was met.
-#[derive(Drop)]
+#[derive(Clone, Copy)]
 pub enum Met {
     Refused(u32),
     Miss,
@@ -20,7 +20,7 @@ pub enum Met {
 }
 
 // What the search for the nearest hit answers: a refusal's number, nothing, or the hit's place, distance, u and v, and whether the front was met.
-#[derive(Drop)]
+#[derive(Clone, Copy)]
 pub enum Found {
     Refused(u32),
     Nothing,
@@ -29,7 +29,7 @@ pub enum Found {
 
 // How much light passes along a ray, from 1 down to 0; +0 on a refusal.
 #[repr(C)]
-#[derive(Drop)]
+#[derive(Clone, Copy)]
 pub struct Transmitted {
     pub refusal: u32,
     pub transmittance: f32,

@@ -17,7 +17,7 @@ const FAR: usize = 4294967296;
 const HALF: u64 = 9223372036854775808;
 
 // What was compared: records and things in them, and where the first difference stood.
-#[derive(Drop)]
+#[derive(Clone, Copy)]
 pub struct Tally {
     pub records: u64,
     pub compared: u64,

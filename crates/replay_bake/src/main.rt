@@ -74,7 +74,7 @@ fn lists_held(
 }
 
 // Where each list that no call writes ends in the one that holds it: points, numbers, sky, lamps, lights, boxes; uses, nodes, order.
-#[derive(Drop)]
+#[derive(Clone, Copy)]
 struct Cuts {
     points: usize,
     numbers: usize,

@@ -20,7 +20,7 @@ const NEAREST: u32 = 0;
 const PASSES: u32 = 1;
 
 // What was compared so far, the place of the next recorded ray, and how many rays were listed.
-#[derive(Drop)]
+#[derive(Clone, Copy)]
 struct Listing {
     tally: Tally,
     at: usize,

@@ -27,7 +27,7 @@ fn answer(s: &[u8]) -> usize {
 }
 
 // Where each list that no call writes ends in the one that holds it: points, numbers, boxes; uses, nodes, order.
-#[derive(Drop)]
+#[derive(Clone, Copy)]
 struct Cuts {
     points: usize,
     numbers: usize,

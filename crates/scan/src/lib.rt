@@ -5,7 +5,7 @@ pub mod inner; // inner.rt: the two scans, over lists that fit each other
 
 // "Nearest: smallest t; among equal t the highest list place": nothing, or the hit's place, distance, u and v, and whether the front was met. What the
 // transmittance looks for from place to place is answered in it too: nothing, or the first hit in the list's order.
-#[derive(Drop)]
+#[derive(Clone, Copy)]
 pub enum Nearest {
     Nothing,
     At(usize, f32, f32, f32, bool),

@@ -2,7 +2,7 @@
 
 // The index of the next voxel, and the rays fired so far.
 #[repr(C)]
-#[derive(Drop)]
+#[derive(Clone, Copy)]
 pub struct Progress {
     pub next: usize,
     pub rays: u64,

@@ -17,7 +17,7 @@ use vectors::Vec3;
 
 // What a sun pass answers: a refusal's number, and the rays, one for each active voxel.
 #[repr(C)]
-#[derive(Drop)]
+#[derive(Clone, Copy)]
 pub struct Sunned {
     pub refusal: u32,
     pub rays: u64,

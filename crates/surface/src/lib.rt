@@ -7,7 +7,7 @@ use vectors::Vec3;
 pub mod inner;
 
 // What every surface of a bake is lit by, and the biases of its rays. `toward` is the light's direction, normalised.
-#[derive(Drop)]
+#[derive(Clone, Copy)]
 pub struct Setting {
     pub biases: Biases,
     pub toward: Vec3,
@@ -17,7 +17,7 @@ pub struct Setting {
 
 // A surface where a ray has met it: the point that it is shaded at, which stands off it by the hit bias, its normal, turned to the ray's
 // side, and its two colours.
-#[derive(Drop)]
+#[derive(Clone, Copy)]
 pub struct Surface {
     pub point: Vec3,
     pub normal: Vec3,
@@ -26,14 +26,14 @@ pub struct Surface {
 }
 
 // A sum of transmittances, and the rays traced for it.
-#[derive(Drop)]
+#[derive(Clone, Copy)]
 pub struct Seen {
     pub sum: f32,
     pub rays: u64,
 }
 
 // Light, and the rays traced for it.
-#[derive(Drop)]
+#[derive(Clone, Copy)]
 pub struct Traced {
     pub light: Vec3,
     pub rays: u64,

@@ -8,7 +8,7 @@ pub mod inner; // inner.rt: the boxes of a run, by halves
 
 // What the builder answers: a refusal's number, or 0 and how many boxes and how many places the tree has.
 #[repr(C)]
-#[derive(Drop)]
+#[derive(Clone, Copy)]
 pub struct TreeBuilt {
     pub refusal: u32,
     pub boxes: usize,

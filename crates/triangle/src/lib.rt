@@ -4,14 +4,14 @@
 pub mod inner;
 
 // "The test answers a miss, or a hit that carries distance, u and v", and "which side was met": true for the front.
-#[derive(Drop)]
+#[derive(Clone, Copy)]
 pub enum Meet {
     Miss,
     Hit(f32, f32, f32, bool),
 }
 
 // What the test computes before it judges: the determinant, the two barycentric numbers and the distance.
-#[derive(Drop)]
+#[derive(Clone, Copy)]
 pub struct Solved {
     pub det: f32,
     pub u: f32,
@@ -20,7 +20,7 @@ pub struct Solved {
 }
 
 // The half of it that shows most misses, and what the rest is computed from: the two edges from p0, the origin from p0, and the determinant's inverse.
-#[derive(Drop)]
+#[derive(Clone, Copy)]
 pub struct HalfSolved {
     pub e1: vectors::Vec3,
     pub e2: vectors::Vec3,

@@ -5,7 +5,7 @@ ghost use Rattle.vectors.specs.Vectors.{add_v, sub_v, mul_v, scale_v, div_v, neg
 pub mod inner;
 
 #[repr(C)]
-#[derive(Drop)]
+#[derive(Clone, Copy)]
 pub struct Vec3 {
     pub x: f32,
     pub y: f32,
@@ -14,7 +14,7 @@ pub struct Vec3 {
 
 // From origin along direction, between the distances shortest and longest.
 #[repr(C)]
-#[derive(Drop)]
+#[derive(Clone, Copy)]
 pub struct Ray {
     pub origin: Vec3,
     pub direction: Vec3,
@@ -23,7 +23,7 @@ pub struct Ray {
 }
 
 #[repr(C)]
-#[derive(Drop)]
+#[derive(Clone, Copy)]
 pub struct Triangle {
     pub p0: Vec3,
     pub p1: Vec3,

@@ -16,7 +16,7 @@ use vectors::Vec3;
 
 // What a file says of its grid: 12 or 3 and zeros, or 0, axes and corners.
 #[repr(C)]
-#[derive(Drop)]
+#[derive(Clone, Copy)]
 pub struct Head {
     pub refusal: u32,
     pub axes: Axes,
@@ -25,7 +25,7 @@ pub struct Head {
 
 // How many bytes the writer needs: 1 and zero, or 0 and the count.
 #[repr(C)]
-#[derive(Drop)]
+#[derive(Clone, Copy)]
 pub struct Needed {
     pub refusal: u32,
     pub bytes: usize,
@@ -33,7 +33,7 @@ pub struct Needed {
 
 // The figures of a file: 14 or 12 and zeros, or 0, the axes, the counts of the masks, and how many lights are zero.
 #[repr(C)]
-#[derive(Drop)]
+#[derive(Clone, Copy)]
 pub struct Figures {
     pub refusal: u32,
     pub width: usize,

@@ -2,7 +2,7 @@
 pub mod inner;
 
 // The next voxel's index, and the rays that were fired on the way to it.
-#[derive(Drop)]
+#[derive(Clone, Copy)]
 pub struct Reached {
     pub next: usize,
     pub rays: u64,
