@@ -11,4 +11,4 @@ returns c =
     let args = c.args in
     let bits_of = c.bits_of in
     let put_u32 = c.put_u32 in
-    put_u32.ensures ∙ ap (λ (n : ℕ). sets args.s-1.now args.at (bytes4 n)) bits_of.ensures
+    put_u32.ensures ∙ ap (λ (n : ℕ). sets args.s.now args.at (bytes4 n)) bits_of.ensures

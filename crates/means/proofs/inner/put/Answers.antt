@@ -24,9 +24,9 @@ loop-k-init c = (omega arith, refl, rw add-zero (sym (append-nil _)))
 pub loop-k-preserved : goal.loop-k-preserved
 loop-k-preserved c =
     let k = c.before in let a = k.args in
-    (omega arith, simp length-set k.loop-k.invariant.1, more a.dst.now k.loop-k.dst a.t3 a.at k.loop-k.k (omega arith) (omega arith) k.loop-k.invariant.2)
+    (omega arith, simp length-set k.loop-k.invariant.1, more a.dst.now k.loop-k.dst a.m a.at k.loop-k.k (omega arith) (omega arith) k.loop-k.invariant.2)
 
 pub returns : goal.returns
 returns c = let l = c.loop-k in let a = c.args in
     let k : l.k ≡ 16 = omega arith in
-    rw k at l.invariant.2 ∙ ap (λ (r : List Float). take a.at a.dst.now ++ r) (take_all 16 a.t3 (omega arith))
+    rw k at l.invariant.2 ∙ ap (λ (r : List Float). take a.at a.dst.now ++ r) (take_all 16 a.m (omega arith))

@@ -41,7 +41,7 @@ abreast-n-requires c =
 pub returns-then-n-eq1 : goal.returns-then-n-eq1
 returns-then-n-eq1 c =
     let a = c.args in
-    simp length-set (omega arith, omega arith, rw c.square_at.ensures (tab_step _ a.dst-1.now a.i (omega arith)))
+    simp length-set (omega arith, omega arith, rw c.square_at.ensures (tab_step _ a.dst.now a.i (omega arith)))
 
 pub means_in-m-requires : goal.means_in-m-requires
 means_in-m-requires c =
@@ -66,10 +66,10 @@ returns c =
     let a = n.args in
     let p = n.requires in
     let inner = n.abreast-n.ensures.3 (omega arith) in
-    let fits : a.i + n.abreast-n.result ≤ length a.dst-1.now = omega (arith, inner.2, not_after a.w a.h a.d a.i p.0 p.1 p.2 p.4) in (
+    let fits : a.i + n.abreast-n.result ≤ length a.dst.now = omega (arith, inner.2, not_after a.w a.h a.d a.i p.0 p.1 p.2 p.4) in (
       omega arith,
       fits,
-      placed (square_at a.src.now a.w a.h a.d) _ a.dst-1.now _ _ a.i n.abreast-n.result n.abreast-n.ensures.1 fits (omega arith) b.put.ensures
+      placed (square_at a.src.now a.w a.h a.d) _ a.dst.now _ _ a.i n.abreast-n.result n.abreast-n.ensures.1 fits (omega arith) b.put.ensures
           (made (λ k. mean_in a.src.now 1 k a.w a.h a.d (a.i % a.w) (a.i / a.w % a.h) (a.i / a.w / a.h)) _ _ q.means_in-m.ensures q.squared-q.ensures)
           (λ j h. square_on a.src.now a.w a.h a.d a.i j inner.0 (omega (arith, inner.1))),
     )

@@ -39,4 +39,4 @@ returns c =
     let b = c.before.before in
     let m = b.means_in-m in
     let a = b.args in
-    placed (mean_at a.src.now 16 a.w a.h a.d) _ a.dst-1.now _ _ (a.v * 16) 16 (omega arith) (omega arith) (omega arith) b.put.ensures m.ensures (λ j h. number a.src.now a.w a.h a.d a.v j h)
+    placed (mean_at a.src.now 16 a.w a.h a.d) _ a.dst.now _ _ (a.v * 16) 16 (omega arith) (omega arith) (omega arith) b.put.ensures m.ensures (λ j h. number a.src.now a.w a.h a.d a.v j h)
