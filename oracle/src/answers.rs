@@ -1,12 +1,12 @@
 //! The Rust's answer to each call: the refusal by the table, else what the copies give.
-use crate::calls::{bits, halves, word, Answer, Bake, Call, Grid, Lists, Mode, Progress, Ray, Scratch, Tree};
+use crate::calls::{bits, halves, word, Answer, Bake, Call, Grid, Lists, Progress, Ray, Scratch, Tree};
 use crate::math::Vec3x4;
 use crate::raytracer::{ray_triangle_intersect, RayTracer};
 use crate::scene::Scene;
 use crate::voxelgrid::VoxelGrid;
 use crate::watch::{self, Fired};
 use crate::worlds::voxels;
-use crate::{centres, gi, solid, table, trees, words};
+use crate::{gi, solid, table, trees, words};
 use glam::{Vec3A, Vec4};
 
 pub fn vector(v: &[f32]) -> Vec3A {
@@ -374,15 +374,7 @@ pub fn answer(call: &Call) -> Answer {
             }
             Answer { words, lists: vec![bits(&after.boxes), after.nodes, after.order] }
         }
-        Call::LightLookup { grid, light, position, mode: Mode::Centre } => {
-            let answered = if good { word(centres::light(grid, light, *position)) } else { 0 };
-            Answer { words: vec![refusal, answered], lists: vec![] }
-        }
-        Call::CoefficientLookup { grid, volume, position, mode: Mode::Centre } => {
-            let answered = if good { centres::coefficients(grid, volume, *position) } else { [0.0; 16] };
-            Answer { words: [vec![refusal], bits(&answered)].concat(), lists: vec![] }
-        }
-        Call::LightLookup { grid, light, position, mode: Mode::Corner } => {
+        Call::LightLookup { grid, light, position } => {
             let mut words = vec![refusal, 0];
             if good {
                 let mut voxels = voxel_grid(grid);
@@ -394,7 +386,7 @@ pub fn answer(call: &Call) -> Answer {
             }
             Answer { words, lists: vec![] }
         }
-        Call::CoefficientLookup { grid, volume, position, mode: Mode::Corner } => {
+        Call::CoefficientLookup { grid, volume, position } => {
             let mut words = vec![0; 17];
             words[0] = refusal;
             if good {

@@ -1,7 +1,7 @@
 //! Calls that break each accepted number in turn, by the least step and in both directions, several at once, lengths one off either
 //! way, of masks in words, 4,097 triangles, 257 materials, nine lamps, unused bits, a bake's record, NaN and infinities; and beside each the
 //! accepted number next to it.
-use crate::calls::{Bake, Call, Grid, Lists, Mode, Progress, Ray, Scratch, Tree};
+use crate::calls::{Bake, Call, Grid, Lists, Progress, Ray, Scratch, Tree};
 use crate::chance::Chance;
 use crate::progress_places;
 use crate::table::{self, AXIS};
@@ -105,12 +105,12 @@ fn slots(call: &mut Call, visit: Visit) {
                 each(&mut b.volume, "coefficient", -coefficient_bound, coefficient_bound, 13, visit);
             }
         }
-        Call::LightLookup { grid, light, position, mode: _ } => {
+        Call::LightLookup { grid, light, position } => {
             each(&mut grid.corners, "corner", -4096.0, 4096.0, 2, visit);
             each(position, "position", -4096.0, 4096.0, 11, visit);
             each(light, "light read or not", -light_bound, light_bound, 0, visit);
         }
-        Call::CoefficientLookup { grid, volume, position, mode: _ } => {
+        Call::CoefficientLookup { grid, volume, position } => {
             each(&mut grid.corners, "corner", -4096.0, 4096.0, 2, visit);
             each(position, "position", -4096.0, 4096.0, 11, visit);
             each(volume, "coefficient read or not", -coefficient_bound, coefficient_bound, 0, visit);
@@ -720,8 +720,8 @@ pub fn bases(c: &mut Chance, world: &World) -> Vec<Call> {
         },
         Call::Bake(Box::new(whole)),
         Call::Bake(Box::new(bake)),
-        Call::LightLookup { grid: world.grid, light: unit(c, n), position, mode: Mode::Corner },
-        Call::CoefficientLookup { grid: world.grid, volume: unit(c, 16 * n), position, mode: Mode::Corner },
+        Call::LightLookup { grid: world.grid, light: unit(c, n), position },
+        Call::CoefficientLookup { grid: world.grid, volume: unit(c, 16 * n), position },
         Call::Part { axes, volume: unit(c, 16 * n), scratch: unit(c, 16 * n), index: c.below(n) as u64, choice: c.one_in(2) },
         Call::Bake(Box::new(lamped)),
     ]

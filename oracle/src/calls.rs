@@ -49,8 +49,8 @@ pub enum Call {
     CoefficientBlur { axes: [u64; 3], volume: Vec<f32>, scratch: Vec<f32> },
     Sun { grid: Grid, lists: Lists, direction: [f32; 3], active: Vec<u8>, light: Vec<f32>, scratch: Vec<f32>, hits: Scratch },
     Bake(Box<Bake>),
-    LightLookup { grid: Grid, light: Vec<f32>, position: [f32; 3], mode: Mode },
-    CoefficientLookup { grid: Grid, volume: Vec<f32>, position: [f32; 3], mode: Mode },
+    LightLookup { grid: Grid, light: Vec<f32>, position: [f32; 3] },
+    CoefficientLookup { grid: Grid, volume: Vec<f32>, position: [f32; 3] },
     Part { axes: [u64; 3], volume: Vec<f32>, scratch: Vec<f32>, index: u64, choice: bool },
     SolidTransmittance { lists: Lists, ray: Ray },
     SolidSun { grid: Grid, lists: Lists, direction: [f32; 3], active: Vec<u8>, light: Vec<f32>, scratch: Vec<f32> },
@@ -86,13 +86,6 @@ impl Call {
             _ => None,
         }
     }
-}
-
-/// Where a lookup takes a cell's value to stand: at the cell's lower corner, as the Rust does, or at its centre, as C-15 does.
-#[derive(Clone, Copy, Debug, PartialEq)]
-pub enum Mode {
-    Corner,
-    Centre,
 }
 
 /// Which of the calls is made with a ray over a scene. Its number leads the ray in a record.

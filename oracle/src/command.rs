@@ -1,5 +1,4 @@
 //! The commands. Everything that can be wrong with their words or files is said in one line and ends with status 2.
-use crate::centre_places;
 use crate::gi;
 use crate::items::{self, Item, MODULES};
 use crate::panel_places;
@@ -25,7 +24,7 @@ const USAGE: &str = "usage: oracle COMMAND ..
   answer FILE                   every answer for a scene of that text ('-': standard input)
   timed FILE                    masks, sun and bake of such a scene, how long each took, and what they answer
   rays FILE                     every ray that the sun pass and the bake fire, one a line
-  coverage COUNT                runs seeds 0..COUNT through every module and holds centres to their cells; fails where a branch is never reached or a scene is refused
+  coverage COUNT                runs seeds 0..COUNT through every module; fails where a branch is never reached or a scene is refused
   stream MODULE FIRST COUNT     the records of seeds FIRST.. for a module's program, on standard output
   bad MODULE FIRST COUNT        the same for bad inputs
   every MODULE SEED [PLACE]     the same for bad inputs with each number broken at every place of its list; PLACE: what that one record holds
@@ -42,9 +41,6 @@ MODULE is rays, masks, blurs, sun, bake, lookup or fired.";
 const COMMANDS: [&str; 17] = [
     "directions", "families", "scene", "answer", "timed", "rays", "coverage", "stream", "bad", "every", "record", "compare", "passed", "count", "time", "one", "shrink",
 ];
-
-/// How many grids of any size `coverage` holds every centre of.
-const HELD: u64 = 3000;
 
 pub fn main() -> ExitCode {
     let words: Vec<String> = std::env::args().skip(1).collect();
@@ -210,7 +206,6 @@ fn coverage(seeds: Range<u64>) -> Result<bool, String> {
     for (name, count) in MODULES.iter().zip(both).filter(|(_, count)| *count > 0) {
         say(&format!("{count:>12} records of {name} through both engines\n"))?;
     }
-    say(&centre_places::held(HELD))?;
     Ok(good & report()?)
 }
 
@@ -296,13 +291,6 @@ fn recorded_trees(name: &str) -> [(bool, Vec<Item>); 2] {
     [(true, tree_places::made(name)), (false, tree_places::bad(name, 0))]
 }
 
-/// The records of C-15's mode, which stand after those: likewise.
-fn recorded_centres(name: &str) -> [(bool, Vec<Item>); 2] {
-    let mut bad = centre_places::bad(name, 0);
-    bad.extend(centre_places::broken(name, 0, true, 10));
-    [(true, centre_places::made(name)), (false, bad)]
-}
-
 /// The program that replays a module's records: the bake's also has the rays that it fires.
 fn program(module: &str) -> &str {
     if module == "fired" { "bake" } else { module }
@@ -324,9 +312,6 @@ fn record(folder: &str, compare: bool) -> Result<bool, String> {
         }
         for module in modules() {
             stretches.extend(recorded_trees(module).map(|(inside, items)| (module, inside, items)));
-        }
-        for module in modules() {
-            stretches.extend(recorded_centres(module).map(|(inside, items)| (module, inside, items)));
         }
         for (module, inside, items) in &stretches {
             for item in items {

@@ -1,8 +1,7 @@
 //! What is compared, module by module: for a seed the records of one seeded scene, and for a seed of bad inputs those of one base.
 use crate::answers::{baked, sunned};
 use crate::bad;
-use crate::centre_places;
-use crate::calls::{Bake, Call, Grid, Lists, Mode, Progress, Ray, RayCall, Scratch, Tree};
+use crate::calls::{Bake, Call, Grid, Lists, Progress, Ray, RayCall, Scratch, Tree};
 use crate::chance::Chance;
 use crate::lamp_places;
 use crate::panel_places;
@@ -19,8 +18,8 @@ use crate::worlds::{self, voxels, World};
 pub enum Item {
     One(Call),
     Rays { lists: Lists, hits: Scratch, asked: Vec<(RayCall, Ray)> },
-    LightLookups { grid: Grid, light: Vec<f32>, positions: Vec<[f32; 3]>, mode: Mode },
-    CoefficientLookups { grid: Grid, volume: Vec<f32>, positions: Vec<[f32; 3]>, mode: Mode },
+    LightLookups { grid: Grid, light: Vec<f32>, positions: Vec<[f32; 3]> },
+    CoefficientLookups { grid: Grid, volume: Vec<f32>, positions: Vec<[f32; 3]> },
     Bakes { bake: Box<Bake>, calls: Vec<(Progress, u64)> },
     SolidBakes { bake: Box<Bake>, calls: Vec<(Progress, u64)> },
     Fired(Box<Bake>),
@@ -33,8 +32,8 @@ impl Item {
         match self {
             Item::One(call) => records::record(call),
             Item::Rays { lists, hits, asked } => records::rays(lists, hits, asked),
-            Item::LightLookups { grid, light, positions, mode } => records::light_lookups(grid, light, positions, *mode),
-            Item::CoefficientLookups { grid, volume, positions, mode } => records::coefficient_lookups(grid, volume, positions, *mode),
+            Item::LightLookups { grid, light, positions } => records::light_lookups(grid, light, positions),
+            Item::CoefficientLookups { grid, volume, positions } => records::coefficient_lookups(grid, volume, positions),
             Item::Bakes { bake, calls } => records::bakes(bake, calls),
             Item::SolidBakes { bake, calls } => records::solid_bakes(bake, calls),
             Item::Fired(bake) => records::fired(bake),
@@ -104,7 +103,7 @@ pub fn seeded(module: &str, seed: u64) -> Vec<Item> {
 }
 
 /// What of a seed is inside the limits: its scene's records, then those of a grid of whole words or nearly so, of a bake's progress, of a wide grid, of
-/// panels, of solid walls, of trees and of lookups at centres.
+/// panels, of solid walls and of trees.
 pub fn inside(module: &str, seed: u64) -> Vec<Item> {
     let mut out = good(module, seed);
     out.extend(word_places::seeded(module, seed));
@@ -113,12 +112,10 @@ pub fn inside(module: &str, seed: u64) -> Vec<Item> {
     out.extend(panel_places::seeded(module, seed));
     out.extend(solid_places::seeded(module, seed));
     out.extend(tree_places::seeded(module, seed));
-    out.extend(centre_places::seeded(module, seed));
     out
 }
 
-/// The bad inputs of a seed, then those of masks in words, of a bake's progress, of axes about the limit, of kinds, of the solid calls, of trees and of lookups at
-/// centres.
+/// The bad inputs of a seed, then those of masks in words, of a bake's progress, of axes about the limit, of kinds and of the solid calls.
 pub fn all_bad(module: &str, seed: u64, few: bool, several: usize) -> Vec<Item> {
     let mut out = bad(module, seed, few, several);
     out.extend(word_places::bad(module, seed));
@@ -129,8 +126,6 @@ pub fn all_bad(module: &str, seed: u64, few: bool, several: usize) -> Vec<Item> 
     out.extend(solid_places::broken(module, seed, few, several));
     out.extend(tree_places::bad(module, seed));
     out.extend(tree_places::broken(module, seed, few, several));
-    out.extend(centre_places::bad(module, seed));
-    out.extend(centre_places::broken(module, seed, few, several));
     out
 }
 
@@ -580,8 +575,8 @@ fn lookups(c: &mut Chance, world: &World) -> Vec<Item> {
     let scratch = worlds::coefficient_list(c, world);
     let positions: Vec<[f32; 3]> = (0..12).map(|_| worlds::position(c, &grid)).collect();
     let mut out = vec![
-        Item::LightLookups { grid, light, positions: positions.clone(), mode: Mode::Corner },
-        Item::CoefficientLookups { grid, volume: volume.clone(), positions: positions[..4].to_vec(), mode: Mode::Corner },
+        Item::LightLookups { grid, light, positions: positions.clone() },
+        Item::CoefficientLookups { grid, volume: volume.clone(), positions: positions[..4].to_vec() },
     ];
     if n <= 30 {
         for choice in [false, true] {

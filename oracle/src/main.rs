@@ -4,8 +4,6 @@
 mod answers;
 mod bad;
 mod calls;
-mod centre_places;
-mod centres;
 mod chance;
 mod command;
 mod items;

@@ -10,7 +10,7 @@
 //! must stand as it was. A record that `through_both` lets pass is put through C-22's call as well, and each of its answers is held once more,
 //! of the rays that a bake fires their count, but not that the lists fit, and no hit scratch. The records of the solid calls are laid out as the others, with no hit scratch in them.
 use crate::answers::{self, as_handed_in, bake_answer, bake_call, baked, solid_answer, solid_baked, tree_baked};
-use crate::calls::{bits, bytes, halves, Answer, Bake, Call, Grid, Lists, Mode, Progress, Ray, RayCall, Scratch, Tree};
+use crate::calls::{bits, bytes, halves, Answer, Bake, Call, Grid, Lists, Progress, Ray, RayCall, Scratch, Tree};
 use crate::table::{self, AXIS};
 
 /// A record, led by its length; the comparisons that its program makes of it; the refusals among its answers, 0 for none; and whether calls of it
@@ -181,8 +181,6 @@ pub const TREE_RAYS: u32 = 14;
 pub const TREE_SUN: u32 = 15;
 pub const TREE_BAKE: u32 = 16;
 pub const BUILD_TREE: u32 = 17;
-pub const CENTRE_LIGHT_LOOKUP: u32 = 42;
-pub const CENTRE_COEFFICIENT_LOOKUP: u32 = 43;
 
 /// A record of one call and the oracle's answer.
 pub fn record(call: &Call) -> Record {
@@ -190,8 +188,8 @@ pub fn record(call: &Call) -> Record {
         Call::Nearest { lists, ray } => rays(lists, &Scratch::default(), &[(RayCall::Nearest, *ray)]),
         Call::Transmittance { lists, ray, hits } => rays(lists, hits, &[(RayCall::Transmittance, *ray)]),
         Call::SolidTransmittance { lists, ray } => rays(lists, &Scratch::default(), &[(RayCall::SolidTransmittance, *ray)]),
-        Call::LightLookup { grid, light, position, mode } => light_lookups(grid, light, &[*position], *mode),
-        Call::CoefficientLookup { grid, volume, position, mode } => coefficient_lookups(grid, volume, &[*position], *mode),
+        Call::LightLookup { grid, light, position } => light_lookups(grid, light, &[*position]),
+        Call::CoefficientLookup { grid, volume, position } => coefficient_lookups(grid, volume, &[*position]),
         Call::Bake(bake) => bakes(bake, &[(bake.progress, bake.allowance)]),
         Call::SolidBake(bake) => solid_bakes(bake, &[(bake.progress, bake.allowance)]),
         Call::TreeNearest { lists, tree, ray } => tree_rays(lists, tree, &Scratch::default(), &[(RayCall::Nearest, *ray)]),
@@ -364,40 +362,32 @@ pub fn build_tree(points: &[f32], tree: &Tree) -> Record {
     w.record()
 }
 
-/// Lookups of one mode over the same light: each its position, then refusal and answer. Only the record's kind tells the modes apart.
-pub fn light_lookups(grid: &Grid, light: &[f32], positions: &[[f32; 3]], mode: Mode) -> Record {
+pub fn light_lookups(grid: &Grid, light: &[f32], positions: &[[f32; 3]]) -> Record {
     let mut w = Writer::default();
-    w.word(match mode {
-        Mode::Corner => LIGHT_LOOKUP,
-        Mode::Centre => CENTRE_LIGHT_LOOKUP,
-    });
+    w.word(LIGHT_LOOKUP);
     w.grid(grid);
     w.list(&bits(light));
     w.word(positions.len() as u32);
     w.comparisons = 1;
     for p in positions {
         w.floats(p);
-        let answer = answers::answer(&Call::LightLookup { grid: *grid, light: light.to_vec(), position: *p, mode });
+        let answer = answers::answer(&Call::LightLookup { grid: *grid, light: light.to_vec(), position: *p });
         w.held(1, answer.words[0]);
         w.answer(&answer);
     }
     w.record()
 }
 
-/// The same over a volume, with sixteen numbers an answer.
-pub fn coefficient_lookups(grid: &Grid, volume: &[f32], positions: &[[f32; 3]], mode: Mode) -> Record {
+pub fn coefficient_lookups(grid: &Grid, volume: &[f32], positions: &[[f32; 3]]) -> Record {
     let mut w = Writer::default();
-    w.word(match mode {
-        Mode::Corner => COEFFICIENT_LOOKUP,
-        Mode::Centre => CENTRE_COEFFICIENT_LOOKUP,
-    });
+    w.word(COEFFICIENT_LOOKUP);
     w.grid(grid);
     w.list(&bits(volume));
     w.word(positions.len() as u32);
     w.comparisons = 1;
     for p in positions {
         w.floats(p);
-        let answer = answers::answer(&Call::CoefficientLookup { grid: *grid, volume: volume.to_vec(), position: *p, mode });
+        let answer = answers::answer(&Call::CoefficientLookup { grid: *grid, volume: volume.to_vec(), position: *p });
         w.held(1, answer.words[0]);
         w.answer(&answer);
     }

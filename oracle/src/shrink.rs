@@ -171,14 +171,14 @@ fn smaller(item: &Item) -> Vec<Item> {
                 }
             }
         }
-        Item::LightLookups { grid, light, positions, mode } if positions.len() > 1 => {
+        Item::LightLookups { grid, light, positions } if positions.len() > 1 => {
             for p in positions {
-                out.push(Item::LightLookups { grid: *grid, light: light.clone(), positions: vec![*p], mode: *mode });
+                out.push(Item::LightLookups { grid: *grid, light: light.clone(), positions: vec![*p] });
             }
         }
-        Item::CoefficientLookups { grid, volume, positions, mode } if positions.len() > 1 => {
+        Item::CoefficientLookups { grid, volume, positions } if positions.len() > 1 => {
             for p in positions {
-                out.push(Item::CoefficientLookups { grid: *grid, volume: volume.clone(), positions: vec![*p], mode: *mode });
+                out.push(Item::CoefficientLookups { grid: *grid, volume: volume.clone(), positions: vec![*p] });
             }
         }
         Item::One(Call::Sun { lists, .. } | Call::SolidSun { lists, .. }) => {

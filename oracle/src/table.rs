@@ -1,7 +1,7 @@
-//! Document 01's table of refusals with what document 02's C-12, C-15, C-16, C-18, C-19, C-20, C-21 and C-22 make of it, and the order in which each call tests them,
+//! Document 01's table of refusals with what document 02's C-12, C-16, C-18, C-19, C-20, C-21 and C-22 make of it, and the order in which each call tests them,
 //! written from these and the open points alone: which numbers are accepted, and for each call the first number whose condition holds, 0 if none.
-use crate::calls::{Bake, Call, Grid, Lists, Mode, Progress, Ray, Scratch, Tree};
-use crate::{centres, trees, words};
+use crate::calls::{Bake, Call, Grid, Lists, Progress, Ray, Scratch, Tree};
+use crate::{trees, words};
 
 /// "Axes rise to 1..128."
 pub const AXIS: u64 = 128;
@@ -81,19 +81,19 @@ pub fn refusal(call: &Call) -> u32 {
             (13, &|| bad_mask(active, grid)),
         ]),
         Call::Bake(bake) => bake_refusal(bake, false, None),
-        Call::LightLookup { grid, light, position, mode } => first(&[
+        Call::LightLookup { grid, light, position } => first(&[
             (1, &|| bad_axes(grid.axes)),
             (2, &|| bad_corners(grid)),
             (3, &|| light.len() != count(grid.axes)),
             (11, &|| bad_position(*position)),
-            (13, &|| cells(grid, *position, *mode).iter().any(|c| beyond(&light[*c..c + 1], LIGHT))),
+            (13, &|| cells(grid, *position).iter().any(|c| beyond(&light[*c..c + 1], LIGHT))),
         ]),
-        Call::CoefficientLookup { grid, volume, position, mode } => first(&[
+        Call::CoefficientLookup { grid, volume, position } => first(&[
             (1, &|| bad_axes(grid.axes)),
             (2, &|| bad_corners(grid)),
             (3, &|| volume.len() != 16 * count(grid.axes)),
             (11, &|| bad_position(*position)),
-            (13, &|| cells(grid, *position, *mode).iter().any(|c| beyond(&volume[16 * c..16 * c + 16], COEFFICIENT))),
+            (13, &|| cells(grid, *position).iter().any(|c| beyond(&volume[16 * c..16 * c + 16], COEFFICIENT))),
         ]),
         Call::Part { axes, volume, scratch, index, choice: _ } => first(&[
             (1, &|| bad_axes(*axes)),
@@ -234,7 +234,7 @@ fn bad_corners(grid: &Grid) -> bool {
     beyond(&grid.corners, POINT) || edges(grid).iter().any(|e| !(*e >= EDGE))
 }
 
-pub fn edges(grid: &Grid) -> [f32; 3] {
+fn edges(grid: &Grid) -> [f32; 3] {
     [0, 1, 2].map(|i| (grid.corners[3 + i] - grid.corners[i]) / grid.axes[i] as f32)
 }
 
@@ -306,14 +306,10 @@ fn bad_progress(bake: &Bake) -> bool {
     rays < LEAST * taken || rays > cost(&bake.lamps) * taken
 }
 
-/// The eight cells that a lookup reads: on each axis the floored cell clamped to the grid, and the one after it, clamped too. C-15's mode reads its own.
-fn cells(grid: &Grid, position: [f32; 3], mode: Mode) -> Vec<usize> {
+/// The eight cells that a lookup reads: on each axis the floored cell clamped to the grid, and the one after it, clamped too.
+fn cells(grid: &Grid, position: [f32; 3]) -> Vec<usize> {
     let edge = edges(grid);
     let pair = |i: usize| {
-        if mode == Mode::Centre {
-            let read = centres::between(position[i], grid.corners[i], edge[i], grid.axes[i]);
-            return [read.cell as i64, read.next as i64];
-        }
         let last = grid.axes[i] as i64 - 1;
         let low = (((position[i] - grid.corners[i]) / edge[i]).floor() as i64).clamp(0, last);
         [low, (low + 1).min(last)]

@@ -13,10 +13,9 @@
 //!   lit (a number a voxel)   the light lent to the bake; left out, the sun pass's own
 //!   ray OX OY OZ DX DY DZ SHORTEST LONGEST
 //!   lookup X Y Z         in the baked volume and the sun pass's light
-//!   centre-lookup X Y Z  the same by C-15's mode
 //!   allowances A B ..    an interrupted bake, call by call, until it ends
 use crate::answers::{answer, bake_call, baked, sunned};
-use crate::calls::{bits, Bake, Call, Grid, Lists, Mode, Progress, Ray, Scratch};
+use crate::calls::{bits, Bake, Call, Grid, Lists, Progress, Ray, Scratch};
 use crate::table;
 use crate::worlds::{active_of, voxels, World};
 use std::fmt::Write;
@@ -25,7 +24,7 @@ pub struct Asked {
     pub world: World,
     pub lit: Option<Vec<f32>>,
     pub rays: Vec<Ray>,
-    pub lookups: Vec<([f32; 3], Mode)>,
+    pub lookups: Vec<[f32; 3]>,
     pub allowances: Vec<u64>,
 }
 
@@ -145,8 +144,7 @@ pub fn parsed(text: &str) -> Result<Asked, String> {
                     let r = floats::<8>(rest)?;
                     asked.rays.push(Ray { origin: [r[0], r[1], r[2]], direction: [r[3], r[4], r[5]], shortest: r[6], longest: r[7] });
                 }
-                "lookup" => asked.lookups.push((floats(rest)?, Mode::Corner)),
-                "centre-lookup" => asked.lookups.push((floats(rest)?, Mode::Centre)),
+                "lookup" => asked.lookups.push(floats(rest)?),
                 "allowances" => {
                     for word in rest {
                         asked.allowances.push(whole(word)?);
@@ -277,12 +275,11 @@ pub fn answers(asked: &Asked) -> Result<String, String> {
         let through = answer(&Call::Transmittance { lists: w.lists.clone(), ray: *ray, hits: bake.hits.clone() }).words;
         let _ = writeln!(out, "ray refusal {} hit {} place {} t #{:08x} u #{:08x} v #{:08x} front {} transmittance #{:08x}", hit[0], hit[1], hit[2], hit[3], hit[4], hit[5], hit[6], through[1]);
     }
-    for (p, mode) in &asked.lookups {
-        let light = answer(&Call::LightLookup { grid: w.grid, light: s.after.clone(), position: *p, mode: *mode }).words;
-        let volume = answer(&Call::CoefficientLookup { grid: w.grid, volume: b.after.clone(), position: *p, mode: *mode }).words;
+    for p in &asked.lookups {
+        let light = answer(&Call::LightLookup { grid: w.grid, light: s.after.clone(), position: *p }).words;
+        let volume = answer(&Call::CoefficientLookup { grid: w.grid, volume: b.after.clone(), position: *p }).words;
         let sixteen = volume[1..].iter().map(|x| format!("#{x:08x}")).collect::<Vec<_>>().join(" ");
-        let name = if *mode == Mode::Centre { "centre-lookup" } else { "lookup" };
-        let _ = writeln!(out, "{name} light {} #{:08x} coefficients {} {sixteen}", light[0], light[1], volume[0]);
+        let _ = writeln!(out, "lookup light {} #{:08x} coefficients {} {sixteen}", light[0], light[1], volume[0]);
     }
     let mut now = bake.clone();
     for allowance in &asked.allowances {

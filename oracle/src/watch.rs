@@ -138,17 +138,6 @@ branches! {
     FractionZero true "lookup: a fraction of 0";
     FractionOne true "lookup: a fraction that rounds to 1";
     FractionBetween true "lookup: a fraction between 0 and 1";
-    CentreOneCell true "centre lookup: an axis of one cell";
-    CentreRaised true "centre lookup: a coordinate raised to 0";
-    CentreFirst true "centre lookup: a coordinate of 0";
-    CentreBetween true "centre lookup: a coordinate between two cells";
-    CentreInner true "centre lookup: a whole coordinate between the first cell and the last";
-    CentreLast true "centre lookup: a coordinate of the last cell";
-    CentreLowered true "centre lookup: a coordinate lowered to the last cell";
-    CentreOtherCell true "centre lookup: a cell that is the one before that of the Rust's mode";
-    CentreWhole true "centre lookup: a computed centre whose coordinate comes out whole, which gives its cell's value";
-    CentreBroken true "centre lookup: a computed centre whose coordinate does not";
-    CentreSignLost true "centre lookup: a cell's -0 answered as 0 at its centre";
     SolidFree true "solid: a ray that meets no wall where there are some";
     SolidStopped true "solid: a ray that meets one wall";
     SolidNearestFirst true "solid: of several walls the nearest stands first in the list";

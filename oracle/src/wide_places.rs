@@ -2,7 +2,7 @@
 //! axes on both sides of the limit. Lists of 32,768 voxels are one number or a short row of numbers all over but for a few places, so that
 //! their records stay short.
 use crate::bad;
-use crate::calls::{Bake, Call, Grid, Lists, Mode, Progress};
+use crate::calls::{Bake, Call, Grid, Lists, Progress};
 use crate::chance::Chance;
 use crate::items::Item;
 use crate::panel_places;
@@ -307,8 +307,8 @@ fn good_lookups(c: &mut Chance) -> Vec<Item> {
     let mut over = |c: &mut Chance, grid: Grid, light: Vec<f32>, count: usize| {
         let n = voxels(&grid);
         let positions = positions(c, &grid, count);
-        out.push(Item::LightLookups { grid, light, positions: positions.clone(), mode: Mode::Corner });
-        out.push(Item::CoefficientLookups { grid, volume: seven_voxels(n), positions: positions[..count / 2].to_vec(), mode: Mode::Corner });
+        out.push(Item::LightLookups { grid, light, positions: positions.clone() });
+        out.push(Item::CoefficientLookups { grid, volume: seven_voxels(n), positions: positions[..count / 2].to_vec() });
     };
     for axes in LONG.into_iter().chain(BESIDE) {
         let n = voxels(&grid(axes));
@@ -325,7 +325,7 @@ fn good_lookups(c: &mut Chance) -> Vec<Item> {
         over(c, grid(axes), light, 40);
     }
     let past = PAST_SIXTEEN_BITS.map(|i| [(i % 128) as f32 + 0.25, (i / 128 % 128) as f32 + 0.5, (i / 16_384) as f32 + 0.125]);
-    out.push(Item::LightLookups { grid: grid(DEEP), light: deep_light(), positions: past.to_vec(), mode: Mode::Corner });
+    out.push(Item::LightLookups { grid: grid(DEEP), light: deep_light(), positions: past.to_vec() });
     for axes in LONG {
         out.extend([0, 32, 63, 126, 127].map(|index| Item::One(part(axes, index, index % 2 == 1))));
     }
@@ -458,8 +458,8 @@ fn bases(module: &str, axes: [u64; 3]) -> Vec<Call> {
             vec![Call::Bake(Box::new(bake))]
         }
         "lookup" => vec![
-            Call::LightLookup { grid, light: sevens(n), position, mode: Mode::Corner },
-            Call::CoefficientLookup { grid, volume: vec![0.25; 16 * n], position, mode: Mode::Corner },
+            Call::LightLookup { grid, light: sevens(n), position },
+            Call::CoefficientLookup { grid, volume: vec![0.25; 16 * n], position },
             Call::Part { axes, volume: vec![0.25; 16 * n], scratch: vec![-1.0; 16 * n], index: n as u64 - 1, choice: n % 2 == 1 },
         ],
         _ => vec![],
@@ -637,10 +637,10 @@ fn bad_lookups() -> Vec<Item> {
         {
             let mut light = sevens(n);
             light[cell] = f32::NAN;
-            put(Call::LightLookup { grid: grid(axes), light, position, mode: Mode::Corner }, number, "a bad light");
+            put(Call::LightLookup { grid: grid(axes), light, position }, number, "a bad light");
             let mut volume = seven_voxels(n);
             volume[16 * cell + 15] = f32::INFINITY;
-            put(Call::CoefficientLookup { grid: grid(axes), volume, position, mode: Mode::Corner }, number, "a bad coefficient");
+            put(Call::CoefficientLookup { grid: grid(axes), volume, position }, number, "a bad coefficient");
         }
     }
     out
@@ -795,8 +795,8 @@ pub fn seeded(module: &str, seed: u64) -> Vec<Item> {
             let positions = positions(c, &grid, 12);
             let index = c.below(n) as u64;
             vec![
-                Item::LightLookups { grid, light, positions: positions.clone(), mode: Mode::Corner },
-                Item::CoefficientLookups { grid, volume: volume.clone(), positions: positions[4..10].to_vec(), mode: Mode::Corner },
+                Item::LightLookups { grid, light, positions: positions.clone() },
+                Item::CoefficientLookups { grid, volume: volume.clone(), positions: positions[4..10].to_vec() },
                 Item::One(Call::Part { axes, scratch: seven_voxels(n), volume, index, choice: c.one_in(2) }),
             ]
         }

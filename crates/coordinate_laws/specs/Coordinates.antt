@@ -37,21 +37,18 @@ has_finite nan s n d v = absurd v
 has_finite (inf t) s n d v = absurd v
 has_finite (fin t m e) s n d v = refl
 
-pub floor_finite : (x : Float) → T (fits binary32 x) → finite x ≡ true → finite (floor_of x) ≡ true
+floor_finite : (x : Float) → T (fits binary32 x) → finite x ≡ true → finite (floor_of x) ≡ true
 floor_finite nan f h = absurd (false≢true h)
 floor_finite (inf s) f h = absurd (false≢true h)
 floor_finite (fin s m e) f h = has_finite (floor_of (fin s m e)) s (step (Ieee.unlike s false) (m * Ieee.up e) (Ieee.down e)) 1 (toward_value false s m e f)
 
-pub coordinate_small : (low edge pos : Float) (n : ℕ) → n < 4096 → AtMost 1 12 low → AtLeast 1 10 edge → AtMost n 12 pos → AtMost (n + 1) 22 (coordinate_of low edge pos)
-coordinate_small low edge pos n N l e h =
+one : (low edge pos : Float) (n : ℕ) → n < 4096 → AtMost 1 12 low → AtLeast 1 10 edge → AtMost n 12 pos → FiniteCoordinate low edge pos
+one low edge pos n N l e h =
     let room : (n + 1) * 2 ^ 12 < 2 ^ 128 = lt_of_le_of_lt (mul-le-mul_right {m = n + 1} {n = 4096} (2 ^ 12) (omega arith)) (lit< tt) in
     let d = sub_at_most pos low n 1 12 (omega arith) room h l in
     let q : (n + 1) * 2 ^ 12 ≤ (n + 1) * 1 * 2 ^ 12 = mul-le-mul_right {m = n + 1} {n = (n + 1) * 1} (2 ^ 12) (omega arith) in
-    div_at_most _ edge (n + 1) 1 12 10 (lit< tt) (omega arith) (lt_of_le_of_lt (mul-le-mul_right {m = n + 1} {n = 4096} (2 ^ 22) (omega arith)) (lit< tt)) (at_most_up _ (n + 1) 12 ((n + 1) * 1) 12 q d) e
-
-one : (low edge pos : Float) (n : ℕ) → n < 4096 → AtMost 1 12 low → AtLeast 1 10 edge → AtMost n 12 pos → FiniteCoordinate low edge pos
-one low edge pos n N l e h =
-    let f = at_most_finite _ (n + 1) 22 (coordinate_small low edge pos n N l e h) in
+    let c = div_at_most _ edge (n + 1) 1 12 10 (lit< tt) (omega arith) (lt_of_le_of_lt (mul-le-mul_right {m = n + 1} {n = 4096} (2 ^ 22) (omega arith)) (lit< tt)) (at_most_up _ (n + 1) 12 ((n + 1) * 1) 12 q d) e in
+    let f = at_most_finite _ (n + 1) 22 c in
     record { coordinate = f; floored = floor_finite _ (div-fits binary32 _ edge) f }
 
 pub coordinates_finite : (a : Axes) (c : Corners) (p : Vec3) (n : ℕ) → bad_axes a ≡ false → bad_grid c a ≡ false → n < 4096 → EachAtMost n 12 p → FiniteCoordinates a c p

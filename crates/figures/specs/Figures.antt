@@ -14,6 +14,7 @@ use Rattle.floats.specs.Choice.{magnitude_of, larger_of, smaller_of}
 use Rattle.floats.specs.Whole.{toward}
 use Rattle.floats.specs.Root.{root_of}
 use Rattle.vectors.specs.Vectors.{vec, add_v, sub_v, scale_v, dot_v, cross_v, length_v}
+use Rattle.vectors.specs.declared.Vec3.{Vec3}
 use Rattle.vectors.specs.declared.Ray.{Ray}
 use Rattle.vectors.specs.declared.Triangle.{Triangle}
 use Rattle.grid.specs.declared.Axes.{Axes}
@@ -36,8 +37,7 @@ use Rattle.dilate.specs.Active.{active_in, active_entry, active_of}
 use Rattle.marks.specs.Marks.{marked_count}
 use Rattle.words.specs.Words.{packed, words_of}
 use Rattle.masks.specs.Masks.{wrong_masks, masks_refusal, active_mask_of, marked_of}
-use Rattle.lookup.specs.declared.Mode.TheVariants.{Corner}
-use Rattle.lookup.specs.Place.{clamped, clamped_cell, between_of, coordinate_in, cells_from, cells_of, blend_of, blended_of}
+use Rattle.lookup.specs.Place.{clamped, clamped_cell, between_of, cells_from, cells_of, blend_of, blended_of}
 use Rattle.lookup.specs.Lookup.{bad_light_cells, light_at_of}
 use Rattle.spread.specs.Spread.{run}
 use Rattle.intake.specs.Three.{three, begun}
@@ -119,7 +119,7 @@ blur_answer axes light scratch =
 
 unfoldable pub looked : Float → List ℕ
 looked x =
-    let a = light_at_of Corner (axes_of 2 1 1) (up_to_corner (lit 0x40000000) one32 one32) (zero32 ∷ one32 ∷ []) (vec x zero32 zero32) in
+    let a = light_at_of (axes_of 2 1 1) (up_to_corner (lit 0x40000000) one32 one32) (zero32 ∷ one32 ∷ []) (vec x zero32 zero32) in
     a.refusal ∷ bits (a.light ∷ [])
 
 -- ---- bake: "3×1×1 all active, no triangles", called with each allowance in turn: refusals, rays, then next and the rays so far at the end
@@ -173,7 +173,7 @@ abbrev givens : List Figure → List (List ℕ)
 givens l = map (λ (f : Figure). f.given) l
 
 computed_figures : answers computed ≡ givens computed
-unfolding computed meet_answer passing sampled masked blur_answer looked triangle_q points_q down_from stacked sheets up_to_corner first_of unless_refused fold tab any magnitude_of larger_of smaller_of toward root_of add_v sub_v scale_v dot_v cross_v length_v edges_of within up_to outside_v bad_axes bad_corners bad_edges wrong_share wrong_scene too_many bad_points bad_triangle bad_kinds bad_from bad_uses bad_materials bad_ray bad_lights some absent_of solved_of front_of judged_of meet_of triangle_at counts stops_light counted_of met_at met_by before insert_of with_meet hits_of pass_of transmittance_of meet_refusal values_of_test meet_values wrong_scratch transmittance_refusal light_blur_of square_at mean_at mean_in around along wrong_blur_lists light_blur_refusal smallest_edge_of density_of count_of side_from side_of share_of point_of cell_on index_within cell_of sample_cell sampled_in touches occupied_in occupied_entry occupied_of active_in active_entry active_of marked_count packed words_of wrong_masks masks_refusal clamped clamped_cell between_of coordinate_in cells_from cells_of blend_of blended_of bad_light_cells light_at_of Ieee.of_bits Ieee.of_fields Ieee.odd Ieee.to_bits Ieee.neg Ieee.le Ieee.lt Ieee.eq Ieee.is_nan Ieee.add Ieee.sub Ieee.mul Ieee.div Ieee.of_int Ieee.to_unsigned Ieee.round Ieee.sum Ieee.units Ieee.size Ieee.span Ieee.climb not_accepted
+unfolding computed meet_answer passing sampled masked blur_answer looked triangle_q points_q down_from stacked sheets up_to_corner first_of unless_refused fold tab any magnitude_of larger_of smaller_of toward root_of add_v sub_v scale_v dot_v cross_v length_v edges_of within up_to outside_v bad_axes bad_corners bad_edges wrong_share wrong_scene too_many bad_points bad_triangle bad_kinds bad_from bad_uses bad_materials bad_ray bad_lights some absent_of solved_of front_of judged_of meet_of triangle_at counts stops_light counted_of met_at met_by before insert_of with_meet hits_of pass_of transmittance_of meet_refusal values_of_test meet_values wrong_scratch transmittance_refusal light_blur_of square_at mean_at mean_in around along wrong_blur_lists light_blur_refusal smallest_edge_of density_of count_of side_from side_of share_of point_of cell_on index_within cell_of sample_cell sampled_in touches occupied_in occupied_entry occupied_of active_in active_entry active_of marked_count packed words_of wrong_masks masks_refusal clamped clamped_cell between_of cells_from cells_of blend_of blended_of bad_light_cells light_at_of Ieee.of_bits Ieee.of_fields Ieee.odd Ieee.to_bits Ieee.neg Ieee.le Ieee.lt Ieee.eq Ieee.is_nan Ieee.add Ieee.sub Ieee.mul Ieee.div Ieee.of_int Ieee.to_unsigned Ieee.round Ieee.sum Ieee.units Ieee.size Ieee.span Ieee.climb not_accepted
 computed_figures = refl
 
 bake_figures : answers bakes ≡ givens bakes

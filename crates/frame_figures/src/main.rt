@@ -1,8 +1,7 @@
 // Frames in a hall of 2×3×4 voxels of edge 1, from the corner (0, 0, 0). The light of voxel i is i, so that between the cells it is x + 2y + 6z; number k
-// of the sixteen is 32k more; in the mode of centres each coordinate is less by a half and at least 0. Each line has the first refusal and its place, then four times each answer afterwards, where 28 stands for "as it was".
+// of the sixteen is 32k more. Each line has the first refusal and its place, then four times each answer afterwards, where 28 stands for "as it was".
 use frames::FirstRefusal;
 use grid::{Axes, Corners};
-use lookup::Mode;
 use vectors::Vec3;
 
 fn hall() -> Axes {
@@ -70,8 +69,8 @@ fn print_same(same: bool) {
 }
 
 // Whether the single call gives this light at a position.
-fn same_light(light: &[f32; 24], x: f32, y: f32, z: f32, mode: Mode, answer: f32) -> bool {
-    let r = lookup::light_at(hall(), corners(3.0), light, Vec3 { x, y, z }, mode);
+fn same_light(light: &[f32; 24], x: f32, y: f32, z: f32, answer: f32) -> bool {
+    let r = lookup::light_at(hall(), corners(3.0), light, Vec3 { x, y, z });
     (r.refusal == 0) & (r.light == answer)
 }
 
@@ -81,11 +80,10 @@ fn same_sixteen(
     x: f32,
     y: f32,
     z: f32,
-    mode: Mode,
     answers: &[f32; 64],
     at: usize,
 ) -> bool {
-    let r = lookup::coefficients_at(hall(), corners(3.0), volume, Vec3 { x, y, z }, mode);
+    let r = lookup::coefficients_at(hall(), corners(3.0), volume, Vec3 { x, y, z });
     let numbers = r.numbers;
     (r.refusal == 0) & same_numbers(&numbers, answers, at)
 }
@@ -104,13 +102,8 @@ fn same_numbers(numbers: &[f32; 16], answers: &[f32; 64], at: usize) -> bool {
     true
 }
 
-fn frame_sixteens(
-    volume: &[f32; 384],
-    all: &[f32; 12],
-    mode: Mode,
-    answers: &mut [f32; 64],
-) -> FirstRefusal {
-    frames::frame_coefficients(hall(), corners(3.0), volume, all, answers, mode)
+fn frame_sixteens(volume: &[f32; 384], all: &[f32; 12], answers: &mut [f32; 64]) -> FirstRefusal {
+    frames::frame_coefficients(hall(), corners(3.0), volume, all, answers)
 }
 
 fn fill_volume(volume: &mut [f32; 384]) {
@@ -122,41 +115,34 @@ fn fill_volume(volume: &mut [f32; 384]) {
 }
 
 // The frame of lights, and what it leaves.
-fn show(
-    axes: Axes,
-    corners: Corners,
-    light: &[f32],
-    positions: &[f32],
-    mode: Mode,
-    answers: &mut [f32],
-) {
-    let r = frames::frame_lights(axes, corners, light, positions, answers, mode);
+fn show(axes: Axes, corners: Corners, light: &[f32], positions: &[f32], answers: &mut [f32]) {
+    let r = frames::frame_lights(axes, corners, light, positions, answers);
     print_first(r.refusal, r.place);
     print_answers(answers);
     io::write_all(1, b"\n");
 }
 
 // Accepted; at the end of the line, whether each is the single call's.
-fn good(mode: Mode) {
+fn good() {
     let light = lights(0.0, 23.0);
     let all = positions(1.5, 3.0);
     let mut answers = [7.0f32; 4];
-    let r = frames::frame_lights(hall(), corners(3.0), &light, &all, &mut answers, mode);
+    let r = frames::frame_lights(hall(), corners(3.0), &light, &all, &mut answers);
     print_first(r.refusal, r.place);
     print_answers(&answers);
-    let a = same_light(&light, all[0], all[1], all[2], mode, answers[0]);
-    let b = same_light(&light, all[3], all[4], all[5], mode, answers[1]);
-    let c = same_light(&light, all[6], all[7], all[8], mode, answers[2]);
-    let d = same_light(&light, all[9], all[10], all[11], mode, answers[3]);
+    let a = same_light(&light, all[0], all[1], all[2], answers[0]);
+    let b = same_light(&light, all[3], all[4], all[5], answers[1]);
+    let c = same_light(&light, all[6], all[7], all[8], answers[2]);
+    let d = same_light(&light, all[9], all[10], all[11], answers[3]);
     print_same(a & b & c & d);
 }
 
 // With the first and the last light, and two numbers of the positions, as asked.
-fn spoilt(first: f32, last: f32, y: f32, z: f32, mode: Mode) {
+fn spoilt(first: f32, last: f32, y: f32, z: f32) {
     let light = lights(first, last);
     let all = positions(y, z);
     let mut answers = [7.0f32; 4];
-    show(hall(), corners(3.0), &light, &all, mode, &mut answers);
+    show(hall(), corners(3.0), &light, &all, &mut answers);
 }
 
 // Eleven numbers for four positions.
@@ -164,14 +150,7 @@ fn number_short() {
     let light = lights(0.0, 23.0);
     let all = [0.5f32; 11];
     let mut answers = [7.0f32; 4];
-    show(
-        hall(),
-        corners(3.0),
-        &light,
-        &all,
-        Mode::Corner,
-        &mut answers,
-    );
+    show(hall(), corners(3.0), &light, &all, &mut answers);
 }
 
 // Three positions for four answers.
@@ -179,14 +158,7 @@ fn position_short() {
     let light = lights(0.0, 23.0);
     let all = [0.5f32; 9];
     let mut answers = [7.0f32; 4];
-    show(
-        hall(),
-        corners(3.0),
-        &light,
-        &all,
-        Mode::Corner,
-        &mut answers,
-    );
+    show(hall(), corners(3.0), &light, &all, &mut answers);
 }
 
 // A light too few.
@@ -194,14 +166,7 @@ fn light_short(axes: Axes, high: f32) {
     let light = [1.0f32; 23];
     let all = positions(1.5, 3.0);
     let mut answers = [7.0f32; 4];
-    show(
-        axes,
-        corners(high),
-        &light,
-        &all,
-        Mode::Corner,
-        &mut answers,
-    );
+    show(axes, corners(high), &light, &all, &mut answers);
 }
 
 // No position and no answer.
@@ -209,25 +174,18 @@ fn empty() {
     let light = lights(0.0, 23.0);
     let all = positions(1.5, 3.0);
     let mut answers = [7.0f32; 4];
-    show(
-        hall(),
-        corners(3.0),
-        &light,
-        &all[0..0],
-        Mode::Corner,
-        &mut answers[0..0],
-    );
+    show(hall(), corners(3.0), &light, &all[0..0], &mut answers[0..0]);
 }
 
 // The first and the last number of each position's sixteen and, where the frame is accepted, whether all are the single call's; last is the volume's last
 // number.
-fn sixteens(last: f32, mode: Mode) {
+fn sixteens(last: f32) {
     let mut volume = [0.0f32; 384];
     fill_volume(&mut volume);
     volume[383] = last;
     let all = positions(1.5, 3.0);
     let mut answers = [7.0f32; 64];
-    let r = frame_sixteens(&volume, &all, mode, &mut answers);
+    let r = frame_sixteens(&volume, &all, &mut answers);
     print_first(r.refusal, r.place);
     print_fourths(answers[0]);
     print_fourths(answers[15]);
@@ -241,20 +199,20 @@ fn sixteens(last: f32, mode: Mode) {
         io::write_all(1, b"\n");
         return;
     }
-    let a = same_sixteen(&volume, all[0], all[1], all[2], mode, &answers, 0);
-    let b = same_sixteen(&volume, all[3], all[4], all[5], mode, &answers, 16);
-    let c = same_sixteen(&volume, all[6], all[7], all[8], mode, &answers, 32);
-    let d = same_sixteen(&volume, all[9], all[10], all[11], mode, &answers, 48);
+    let a = same_sixteen(&volume, all[0], all[1], all[2], &answers, 0);
+    let b = same_sixteen(&volume, all[3], all[4], all[5], &answers, 16);
+    let c = same_sixteen(&volume, all[6], all[7], all[8], &answers, 32);
+    let d = same_sixteen(&volume, all[9], all[10], all[11], &answers, 48);
     print_same(a & b & c & d);
 }
 
 fn main() {
     let none = 0.0 / 0.0;
-    good(Mode::Corner);
-    spoilt(0.0, none, 1.5, 3.0, Mode::Corner);
-    spoilt(0.0, none, 4097.0, 3.0, Mode::Corner);
-    spoilt(0.0, none, 1.5, 4097.0, Mode::Corner);
-    spoilt(none, 23.0, 4097.0, 3.0, Mode::Corner);
+    good();
+    spoilt(0.0, none, 1.5, 3.0);
+    spoilt(0.0, none, 4097.0, 3.0);
+    spoilt(0.0, none, 1.5, 4097.0);
+    spoilt(none, 23.0, 4097.0, 3.0);
     number_short();
     position_short();
     light_short(hall(), 3.0);
@@ -268,12 +226,6 @@ fn main() {
         0.0,
     );
     empty();
-    sixteens(503.0, Mode::Corner);
-    sixteens(none, Mode::Corner);
-    good(Mode::Centre);
-    spoilt(0.0, none, 1.5, 3.0, Mode::Centre);
-    spoilt(none, 23.0, 1.5, 3.0, Mode::Centre);
-    spoilt(0.0, none, 4097.0, 3.0, Mode::Centre);
-    sixteens(503.0, Mode::Centre);
-    sixteens(none, Mode::Centre);
+    sixteens(503.0);
+    sixteens(none);
 }

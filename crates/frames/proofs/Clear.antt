@@ -26,7 +26,6 @@ use Rattle.limits.specs.LimitsLaws.{axes_row}
 use Rattle.lookup.specs.declared.Cells.{Cells}
 use Rattle.lookup.specs.declared.LightAt.{LightAt}
 use Rattle.lookup.specs.declared.CoefficientsAt.{CoefficientsAt}
-use Rattle.lookup.specs.declared.Mode.{Mode}
 use Rattle.lookup.specs.Place.{Inside, cells_of, cells_read, blended_of}
 use Rattle.lookup.specs.PlaceLaws.{some_read, cells_read_inside, blended_same}
 use Rattle.lookup.specs.Lookup.{bad_light_cells, light_refusal, light_blend, light_at_of, bad_volume_cells, coefficient_refusal, coefficient_blend, coefficients_at_of, no_numbers}
@@ -59,11 +58,11 @@ none_read n f c h e =
     some_read f c
     ∙ rw (e _ h.c000, e _ h.c100, e _ h.c010, e _ h.c110, e _ h.c001, e _ h.c101, e _ h.c011, e _ h.c111) refl
 
-pub clear_lights : (mode : Mode) (a : Axes) (c : Corners) (l : List Float) (clear : Bool) (p : Vec3) → LightGridGood a c l clear → clear ≡ true → bad_light_cells l (cells_of mode a c p) ≡ false
+pub clear_lights : (a : Axes) (c : Corners) (l : List Float) (clear : Bool) (p : Vec3) → LightGridGood a c l clear → clear ≡ true → bad_light_cells l (cells_of a c p) ≡ false
 unfolding bad_light_cells bad_lights
-clear_lights mode a c l clear p g t =
+clear_lights a c l clear p g t =
     let n : length l ≡ voxels a = eqb-true _ _ (not-false _ g.list) in
-    none_read (voxels a) _ (cells_of mode a c p) (cells_read_inside mode a c p ((axes_row a).0 g.axes))
+    none_read (voxels a) _ (cells_of a c p) (cells_read_inside a c p ((axes_row a).0 g.axes))
     (λ i h. none_out (outside light_limit) l nan (g.whole t) i (omega arith))
 
 whole_cell : (l : List Float) (i : ℕ) → bad_coefficients l ≡ false → i < length l / 16 → bad_coefficients (voxel_part 16 i l) ≡ false
@@ -76,11 +75,11 @@ whole_cell l i e h =
     let g : get_or (voxel_part 16 i l) j nan ≡ get_or l (i * 16 + j) nan = rw (get_or-take 16 (drop (i * 16) l) j nan m, get_or-drop (i * 16) l j nan) refl in
     rw g (none_out (outside coefficient_limit) l nan e (i * 16 + j) (omega arith)))
 
-pub clear_volume : (mode : Mode) (a : Axes) (c : Corners) (l : List Float) (clear : Bool) (p : Vec3) → CoefficientGridGood a c l clear → clear ≡ true → bad_volume_cells l (cells_of mode a c p) ≡ false
+pub clear_volume : (a : Axes) (c : Corners) (l : List Float) (clear : Bool) (p : Vec3) → CoefficientGridGood a c l clear → clear ≡ true → bad_volume_cells l (cells_of a c p) ≡ false
 unfolding bad_volume_cells
-clear_volume mode a c l clear p g t =
+clear_volume a c l clear p g t =
     let n : length l ≡ voxels a * 16 = eqb-true _ _ (not-false _ g.list) in
-    none_read (voxels a) _ (cells_of mode a c p) (cells_read_inside mode a c p ((axes_row a).0 g.axes))
+    none_read (voxels a) _ (cells_of a c p) (cells_read_inside a c p ((axes_row a).0 g.axes))
     (λ i h. whole_cell l i (g.whole t) (omega arith))
 
 -- ---- a walk from the left, k places of count done, of which none is refused
@@ -100,49 +99,49 @@ module _ (number : ℕ → ℕ) (count k r : ℕ) (whole : FirstRefusal) (rest :
 pub one_light_a_cell : (l : List Float) (c : Cells) → blended_of c (λ i. get_or l (i * 1 + 0) nan) ≡ light_blend l c
 one_light_a_cell l c = blended_same c _ _ (λ i. let e : i * 1 + 0 ≡ i = omega arith in rw e)
 
-pub light_there : (mode : Mode) (a : Axes) (c : Corners) (l : List Float) (p : Vec3) → light_refusal mode a c l p ≡ 0 → light_blend l (cells_of mode a c p) ≡ (light_at_of mode a c l p).light
+pub light_there : (a : Axes) (c : Corners) (l : List Float) (p : Vec3) → light_refusal a c l p ≡ 0 → light_blend l (cells_of a c p) ≡ (light_at_of a c l p).light
 unfolding light_at_of
-light_there mode a c l p e = given (light_refusal mode a c l p) (light_blend l (cells_of mode a c p)) zero32 e
+light_there a c l p e = given (light_refusal a c l p) (light_blend l (cells_of a c p)) zero32 e
 
 pub length_blend : (l : List Float) (c : Cells) → length (coefficient_blend l c) ≡ 16
 unfolding coefficient_blend
 length_blend l c = length_tab _ 16 0
 
-pub coefficients_there : (mode : Mode) (a : Axes) (c : Corners) (l : List Float) (p : Vec3) → coefficient_refusal mode a c l p ≡ 0 → coefficient_blend l (cells_of mode a c p) ≡ (coefficients_at_of mode a c l p).numbers
+pub coefficients_there : (a : Axes) (c : Corners) (l : List Float) (p : Vec3) → coefficient_refusal a c l p ≡ 0 → coefficient_blend l (cells_of a c p) ≡ (coefficients_at_of a c l p).numbers
 unfolding coefficients_at_of
-coefficients_there mode a c l p e = given (coefficient_refusal mode a c l p) (coefficient_blend l (cells_of mode a c p)) no_numbers e
+coefficients_there a c l p e = given (coefficient_refusal a c l p) (coefficient_blend l (cells_of a c p)) no_numbers e
 
-pub light_start : (mode : Mode) (a : Axes) (c : Corners) (l positions : List Float) (n : ℕ) → length positions ≡ n * 3
-    → tab (λ (k : ℕ). (light_at_of mode a c l (position_at positions k)).light) (n - 0) 0 ≡ light_frame_of mode a c l positions
+pub light_start : (a : Axes) (c : Corners) (l positions : List Float) (n : ℕ) → length positions ≡ n * 3
+    → tab (λ (k : ℕ). (light_at_of a c l (position_at positions k)).light) (n - 0) 0 ≡ light_frame_of a c l positions
 unfolding light_frame_of
-light_start mode a c l positions n h = let e : n - 0 ≡ length positions / 3 = omega arith in rw e refl
+light_start a c l positions n h = let e : n - 0 ≡ length positions / 3 = omega arith in rw e refl
 
 -- ---- the single lookup's answer from its parts
 
-module _ (mode : Mode) (a : Axes) (c : Corners) (l : List Float) (p : Vec3) where
-  pub light_refused : (k : ℕ) → (k ≡ 0 → ⊥) → k ≡ light_refusal mode a c l p → ◌≡◌ {A = LightAt} (record { refusal = k; light = zero32 }) (light_at_of mode a c l p)
+module _ (a : Axes) (c : Corners) (l : List Float) (p : Vec3) where
+  pub light_refused : (k : ℕ) → (k ≡ 0 → ⊥) → k ≡ light_refusal a c l p → ◌≡◌ {A = LightAt} (record { refusal = k; light = zero32 }) (light_at_of a c l p)
   unfolding light_at_of
   light_refused k n e = rw (sym e) (ap₂ (λ (r : ℕ) (x : Float). record { refusal = r; light = x }) refl (kept k _ zero32 n))
 
-  pub light_found : (x : Float) → 0 ≡ light_refusal mode a c l p → x ≡ light_blend l (cells_of mode a c p) → ◌≡◌ {A = LightAt} (record { refusal = 0; light = x }) (light_at_of mode a c l p)
+  pub light_found : (x : Float) → 0 ≡ light_refusal a c l p → x ≡ light_blend l (cells_of a c p) → ◌≡◌ {A = LightAt} (record { refusal = 0; light = x }) (light_at_of a c l p)
   unfolding light_at_of
   light_found x e f = rw (sym e) (ap₂ (λ (r : ℕ) (y : Float). record { refusal = r; light = y }) refl (f ∙ given 0 _ zero32 refl))
 
-  pub coefficients_refused : (k : ℕ) → (k ≡ 0 → ⊥) → k ≡ coefficient_refusal mode a c l p → ◌≡◌ {A = CoefficientsAt} (record { refusal = k; numbers = no_numbers }) (coefficients_at_of mode a c l p)
+  pub coefficients_refused : (k : ℕ) → (k ≡ 0 → ⊥) → k ≡ coefficient_refusal a c l p → ◌≡◌ {A = CoefficientsAt} (record { refusal = k; numbers = no_numbers }) (coefficients_at_of a c l p)
   unfolding coefficients_at_of
   coefficients_refused k n e = rw (sym e) (ap₂ (λ (r : ℕ) (x : List Float). record { refusal = r; numbers = x }) refl (kept k _ no_numbers n))
 
-  pub coefficients_found : (x : List Float) → 0 ≡ coefficient_refusal mode a c l p → x ≡ coefficient_blend l (cells_of mode a c p) → ◌≡◌ {A = CoefficientsAt} (record { refusal = 0; numbers = x }) (coefficients_at_of mode a c l p)
+  pub coefficients_found : (x : List Float) → 0 ≡ coefficient_refusal a c l p → x ≡ coefficient_blend l (cells_of a c p) → ◌≡◌ {A = CoefficientsAt} (record { refusal = 0; numbers = x }) (coefficients_at_of a c l p)
   unfolding coefficients_at_of
   coefficients_found x e f = rw (sym e) (ap₂ (λ (r : ℕ) (y : List Float). record { refusal = r; numbers = y }) refl (f ∙ given 0 _ no_numbers refl))
 
-pub light_number : (mode : Mode) (a : Axes) (c : Corners) (l : List Float) (p : Vec3) → (light_at_of mode a c l p).refusal ≡ light_refusal mode a c l p
+pub light_number : (a : Axes) (c : Corners) (l : List Float) (p : Vec3) → (light_at_of a c l p).refusal ≡ light_refusal a c l p
 unfolding light_at_of
-light_number mode a c l p = refl
+light_number a c l p = refl
 
-pub coefficient_number : (mode : Mode) (a : Axes) (c : Corners) (l : List Float) (p : Vec3) → (coefficients_at_of mode a c l p).refusal ≡ coefficient_refusal mode a c l p
+pub coefficient_number : (a : Axes) (c : Corners) (l : List Float) (p : Vec3) → (coefficients_at_of a c l p).refusal ≡ coefficient_refusal a c l p
 unfolding coefficients_at_of
-coefficient_number mode a c l p = refl
+coefficient_number a c l p = refl
 
 -- ---- what holds of a frame that is not refused
 
@@ -159,11 +158,11 @@ both_passed rows number count e = go (eqb (first_of rows) 0) refl
         let n = eqb-false _ _ f in
         absurd (n (ap (λ (x : FirstRefusal). x.refusal) (kept (first_of rows) (least_refused number count 0) (refused_at (first_of rows) 0) n) ∙ e))
 
-pub lights_accepted : (mode : Mode) (a : Axes) (c : Corners) (l positions : List Float) (answers : ℕ) → (light_frame_refusal mode a c l positions answers).refusal ≡ 0
-    → LightsAccepted mode a c l positions answers
+pub lights_accepted : (a : Axes) (c : Corners) (l positions : List Float) (answers : ℕ) → (light_frame_refusal a c l positions answers).refusal ≡ 0
+    → LightsAccepted a c l positions answers
 unfolding light_frame_refusal
-lights_accepted mode a c l positions answers e =
-    let b = both_passed (frame_rows 1 a c (length l) (length positions) answers) (light_refusal_at mode a c l positions) (length positions / 3) e in
+lights_accepted a c l positions answers e =
+    let b = both_passed (frame_rows 1 a c (length l) (length positions) answers) (light_refusal_at a c l positions) (length positions / 3) e in
     let r = frame_rows_passed 1 a c (length l) (length positions) answers b.0 in
     let n : length l ≡ voxels a * 1 = eqb-true _ _ (not-false _ r.2) in
     let f = (frame_row 1 (length positions) answers (omega arith)).0 r.3 in
@@ -173,14 +172,14 @@ lights_accepted mode a c l positions answers e =
       axes = (axes_row a).0 r.0;
       list = n ∙ mul-one (voxels a);
       triples = omega arith;
-      none = λ k h. (least_none (light_refusal_at mode a c l positions) (length positions / 3) 0).0 b.1 k (omega arith) (omega arith);
+      none = λ k h. (least_none (light_refusal_at a c l positions) (length positions / 3) 0).0 b.1 k (omega arith) (omega arith);
     }
 
-pub coefficients_accepted : (mode : Mode) (a : Axes) (c : Corners) (l positions : List Float) (answers : ℕ) → (coefficient_frame_refusal mode a c l positions answers).refusal ≡ 0
-    → CoefficientsAccepted mode a c l positions answers
+pub coefficients_accepted : (a : Axes) (c : Corners) (l positions : List Float) (answers : ℕ) → (coefficient_frame_refusal a c l positions answers).refusal ≡ 0
+    → CoefficientsAccepted a c l positions answers
 unfolding coefficient_frame_refusal
-coefficients_accepted mode a c l positions answers e =
-    let b = both_passed (frame_rows 16 a c (length l) (length positions) answers) (coefficient_refusal_at mode a c l positions) (length positions / 3) e in
+coefficients_accepted a c l positions answers e =
+    let b = both_passed (frame_rows 16 a c (length l) (length positions) answers) (coefficient_refusal_at a c l positions) (length positions / 3) e in
     let r = frame_rows_passed 16 a c (length l) (length positions) answers b.0 in
     let f = (frame_row 16 (length positions) answers (omega arith)).0 r.3 in
     record {
@@ -188,5 +187,5 @@ coefficients_accepted mode a c l positions answers e =
       list = eqb-true _ _ (not-false _ r.2);
       triples = f.0;
       sixteens = f.1;
-      none = λ k h. (least_none (coefficient_refusal_at mode a c l positions) (length positions / 3) 0).0 b.1 k (omega arith) (omega arith);
+      none = λ k h. (least_none (coefficient_refusal_at a c l positions) (length positions / 3) 0).0 b.1 k (omega arith) (omega arith);
     }

@@ -8,11 +8,10 @@ use Rattle.grid.specs.declared.Axes.{Axes}
 use Rattle.grid.specs.declared.Corners.{Corners}
 use Rattle.grid.specs.Grid.{voxels}
 use Rattle.limits.specs.Limits.{bad_axes, bad_grid, wrong_length, bad_position}
-use Rattle.lookup.specs.declared.Mode.{Mode}
 use Rattle.lookup.specs.Place.{cells_of}
 use Rattle.lookup.specs.Lookup.{bad_light_cells, bad_volume_cells}
 use Rattle.frames.specs.declared.FirstRefusal.{FirstRefusal}
-use Rattle.frames.specs.Frames.{position_count, position_at, refused_at, least_refused, first_refusal_of, frame_rows, light_refusal_at, light_frame_refusal, coefficient_refusal_at, coefficient_frame_refusal, LightsFramed, CoefficientsFramed}
+use Rattle.frames.specs.Frames.{position_count, position_at, wrong_frame, refused_at, least_refused, first_refusal_of, frame_rows, light_refusal_at, light_frame_refusal, coefficient_refusal_at, coefficient_frame_refusal, LightsFramed, CoefficientsFramed}
 use Rattle.frames.specs.FramesLaws.{LeastAt, least_out, least_is, least_zeros, least_none, frame_rows_passed}
 
 -- An answer by rows that concern no position, and then by the single lookup's number at each of `count` places.
@@ -102,14 +101,14 @@ high_rows x y z true d e f g n = rw (e, f, g) (omega arith)
 high_rows x y z false true e f g n = rw (e, f, g) (omega arith)
 high_rows x y z false false e f g n = absurd (n (rw (e, f, g) refl))
 
-pub lights_framed_refused_by : (mode : Mode) (a : Axes) (c : Corners) (light positions answers : List Float) (r : FirstRefusal) (answers' : List Float)
-    → LightsFramed mode a c light positions answers r answers'
-    → FrameRefusedBy (frame_rows 1 a c (length light) (length positions) (length answers)) (light_refusal_at mode a c light positions) (position_count (length positions)) r
+pub lights_framed_refused_by : (a : Axes) (c : Corners) (light positions answers : List Float) (r : FirstRefusal) (answers' : List Float)
+    → LightsFramed a c light positions answers r answers'
+    → FrameRefusedBy (frame_rows 1 a c (length light) (length positions) (length answers)) (light_refusal_at a c light positions) (position_count (length positions)) r
 unfolding light_frame_refusal
-lights_framed_refused_by mode a c light positions answers r answers' h =
+lights_framed_refused_by a c light positions answers r answers' h =
     frame_refused_by
     (frame_rows 1 a c (length light) (length positions) (length answers))
-    (light_refusal_at mode a c light positions)
+    (light_refusal_at a c light positions)
     (position_count (length positions))
     (omega arith, (omega arith, (omega arith, tt)))
     r
@@ -117,22 +116,22 @@ lights_framed_refused_by mode a c light positions answers r answers' h =
     (λ z k.
     let p = frame_rows_passed 1 a c (length light) (length positions) (length answers) z in
     let list = sym (ap (λ (n : ℕ). wrong_length (length light) n) (mul-one (voxels a))) ∙ p.2 in
-    high_rows (bad_axes a) (bad_grid c a) (wrong_length (length light) (voxels a)) (bad_position (position_at positions k)) (bad_light_cells light (cells_of mode a c (position_at positions k))) p.0 p.1 list)
+    high_rows (bad_axes a) (bad_grid c a) (wrong_length (length light) (voxels a)) (bad_position (position_at positions k)) (bad_light_cells light (cells_of a c (position_at positions k))) p.0 p.1 list)
     h.answer
 
-pub coefficients_framed_refused_by : (mode : Mode) (a : Axes) (c : Corners) (volume positions answers : List Float) (r : FirstRefusal) (answers' : List Float)
-    → CoefficientsFramed mode a c volume positions answers r answers'
-    → FrameRefusedBy (frame_rows 16 a c (length volume) (length positions) (length answers)) (coefficient_refusal_at mode a c volume positions) (position_count (length positions)) r
+pub coefficients_framed_refused_by : (a : Axes) (c : Corners) (volume positions answers : List Float) (r : FirstRefusal) (answers' : List Float)
+    → CoefficientsFramed a c volume positions answers r answers'
+    → FrameRefusedBy (frame_rows 16 a c (length volume) (length positions) (length answers)) (coefficient_refusal_at a c volume positions) (position_count (length positions)) r
 unfolding coefficient_frame_refusal
-coefficients_framed_refused_by mode a c volume positions answers r answers' h =
+coefficients_framed_refused_by a c volume positions answers r answers' h =
     frame_refused_by
     (frame_rows 16 a c (length volume) (length positions) (length answers))
-    (coefficient_refusal_at mode a c volume positions)
+    (coefficient_refusal_at a c volume positions)
     (position_count (length positions))
     (omega arith, (omega arith, (omega arith, tt)))
     r
     (low_rows _ _ _)
     (λ z k.
     let p = frame_rows_passed 16 a c (length volume) (length positions) (length answers) z in
-    high_rows (bad_axes a) (bad_grid c a) (wrong_length (length volume) (voxels a * 16)) (bad_position (position_at positions k)) (bad_volume_cells volume (cells_of mode a c (position_at positions k))) p.0 p.1 p.2)
+    high_rows (bad_axes a) (bad_grid c a) (wrong_length (length volume) (voxels a * 16)) (bad_position (position_at positions k)) (bad_volume_cells volume (cells_of a c (position_at positions k))) p.0 p.1 p.2)
     h.answer

@@ -1,7 +1,8 @@
 -- A camera frame of positions, three numbers each: the light, or the four coefficients, at each of them, "equal one by one to the single lookup".
 -- Rows 1, 2 and 3 concern no position: they are tested once, whatever the positions, and come with place 0. Then "the first such refusal is given with
 -- its place": the least place at which the single lookup refuses, and its number. On a refusal "nothing is written". Assumes nothing.
-use Rattle.std.specs.Prelude.{◌≡◌, Bool, cond, ◌||◌, List, [], ◌∷◌, ℕ, zero, suc, ◌+◌, ◌*◌, ◌/◌, ◌%◌, eqb, length, Float}
+use Rattle.std.specs.Prelude.{◌≡◌, Bool, cond, ◌||◌, List, [], ◌∷◌, ℕ, zero, suc, ◌+◌, ◌*◌, ◌/◌, ◌%◌, eqb, length, get_or, Float}
+use Rattle.std.specs.Float.{nan}
 use Rattle.names.specs.Refusals.{Row, row, first_of, unless_refused}
 use Rattle.lists.specs.Fold.{tab}
 use Rattle.lists.specs.Laid.{laid}
@@ -11,7 +12,6 @@ use Rattle.grid.specs.declared.Axes.{Axes}
 use Rattle.grid.specs.declared.Corners.{Corners}
 use Rattle.grid.specs.Grid.{voxels}
 use Rattle.limits.specs.Limits.{bad_axes, bad_grid, wrong_length, wrong_share}
-use Rattle.lookup.specs.declared.Mode.{Mode}
 use Rattle.lookup.specs.Lookup.{light_refusal, light_at_of, coefficient_refusal, coefficients_at_of}
 use Rattle.frames.specs.declared.FirstRefusal.{FirstRefusal}
 
@@ -50,36 +50,36 @@ frame_rows each a c list positions answers =
 -- ---- light
 
 -- what the single lookup refuses at place k
-abbrev pub light_refusal_at : Mode → Axes → Corners → List Float → List Float → ℕ → ℕ
-light_refusal_at mode a c light positions k = light_refusal mode a c light (position_at positions k)
+abbrev pub light_refusal_at : Axes → Corners → List Float → List Float → ℕ → ℕ
+light_refusal_at a c light positions k = light_refusal a c light (position_at positions k)
 
-unfoldable pub light_frame_refusal : Mode → Axes → Corners → List Float → List Float → ℕ → FirstRefusal
-light_frame_refusal mode a c light positions answers =
-    first_refusal_of (frame_rows 1 a c (length light) (length positions) answers) (light_refusal_at mode a c light positions) (position_count (length positions))
+unfoldable pub light_frame_refusal : Axes → Corners → List Float → List Float → ℕ → FirstRefusal
+light_frame_refusal a c light positions answers =
+    first_refusal_of (frame_rows 1 a c (length light) (length positions) answers) (light_refusal_at a c light positions) (position_count (length positions))
 
 -- the single lookup's light at each position
-unfoldable pub light_frame_of : Mode → Axes → Corners → List Float → List Float → List Float
-light_frame_of mode a c light positions = tab (λ (k : ℕ). (light_at_of mode a c light (position_at positions k)).light) (position_count (length positions)) 0
+unfoldable pub light_frame_of : Axes → Corners → List Float → List Float → List Float
+light_frame_of a c light positions = tab (λ (k : ℕ). (light_at_of a c light (position_at positions k)).light) (position_count (length positions)) 0
 
 -- ---- the four coefficients, sixteen numbers a position
 
-abbrev pub coefficient_refusal_at : Mode → Axes → Corners → List Float → List Float → ℕ → ℕ
-coefficient_refusal_at mode a c volume positions k = coefficient_refusal mode a c volume (position_at positions k)
+abbrev pub coefficient_refusal_at : Axes → Corners → List Float → List Float → ℕ → ℕ
+coefficient_refusal_at a c volume positions k = coefficient_refusal a c volume (position_at positions k)
 
-unfoldable pub coefficient_frame_refusal : Mode → Axes → Corners → List Float → List Float → ℕ → FirstRefusal
-coefficient_frame_refusal mode a c volume positions answers =
-    first_refusal_of (frame_rows 16 a c (length volume) (length positions) answers) (coefficient_refusal_at mode a c volume positions) (position_count (length positions))
+unfoldable pub coefficient_frame_refusal : Axes → Corners → List Float → List Float → ℕ → FirstRefusal
+coefficient_frame_refusal a c volume positions answers =
+    first_refusal_of (frame_rows 16 a c (length volume) (length positions) answers) (coefficient_refusal_at a c volume positions) (position_count (length positions))
 
 -- the single lookup's sixteen numbers at each position, one after another
-unfoldable pub coefficient_frame_of : Mode → Axes → Corners → List Float → List Float → List Float
-coefficient_frame_of mode a c volume positions = laid (λ (k : ℕ). (coefficients_at_of mode a c volume (position_at positions k)).numbers) (position_count (length positions)) 0
+unfoldable pub coefficient_frame_of : Axes → Corners → List Float → List Float → List Float
+coefficient_frame_of a c volume positions = laid (λ (k : ℕ). (coefficients_at_of a c volume (position_at positions k)).numbers) (position_count (length positions)) 0
 
 -- ---- the contracts
 
-pub record LightsFramed (mode : Mode) (a : Axes) (c : Corners) (light positions answers : List Float) (r : FirstRefusal) (answers' : List Float) : Type 0 where
-  pub answer : r ≡ light_frame_refusal mode a c light positions (length answers)
-  pub answers_after : answers' ≡ unless_refused r.refusal (light_frame_of mode a c light positions) answers
+pub record LightsFramed (a : Axes) (c : Corners) (light positions answers : List Float) (r : FirstRefusal) (answers' : List Float) : Type 0 where
+  pub answer : r ≡ light_frame_refusal a c light positions (length answers)
+  pub answers_after : answers' ≡ unless_refused r.refusal (light_frame_of a c light positions) answers
 
-pub record CoefficientsFramed (mode : Mode) (a : Axes) (c : Corners) (volume positions answers : List Float) (r : FirstRefusal) (answers' : List Float) : Type 0 where
-  pub answer : r ≡ coefficient_frame_refusal mode a c volume positions (length answers)
-  pub answers_after : answers' ≡ unless_refused r.refusal (coefficient_frame_of mode a c volume positions) answers
+pub record CoefficientsFramed (a : Axes) (c : Corners) (volume positions answers : List Float) (r : FirstRefusal) (answers' : List Float) : Type 0 where
+  pub answer : r ≡ coefficient_frame_refusal a c volume positions (length answers)
+  pub answers_after : answers' ≡ unless_refused r.refusal (coefficient_frame_of a c volume positions) answers

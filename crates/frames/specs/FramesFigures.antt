@@ -3,11 +3,10 @@
 -- And frames that are refused, each with its place. (At other positions crate `frame_figures` runs the compiled calls.)
 use Rattle.std.specs.Prelude.{◌≡◌, refl, List, [], ◌∷◌, ◌++◌, ℕ, ◌+◌, ◌*◌, ◌/◌, ◌%◌, Float}
 use Rattle.std.specs.Float.{nan}
-use Rattle.std.specs.Float.Ieee.{is_nan, of_bits, neg, add, sub, mul, div, lt, le, eq, of_int, to_unsigned}
-use Rattle.names.specs.Bits.{lit, zero32, half32, one32, two32}
+use Rattle.std.specs.Float.Ieee.{of_bits, neg, add, sub, mul, div, lt, le, eq, of_int, to_unsigned}
+use Rattle.names.specs.Bits.{lit, zero32, one32, two32}
 use Rattle.names.specs.Refusals.{first_of, unless_refused}
 use Rattle.lists.specs.Fold.{tab}
-use Rattle.floats.specs.Choice.{larger_of, smaller_of}
 use Rattle.floats.specs.Whole.{toward}
 use Rattle.vectors.specs.Vectors.{vec}
 use Rattle.grid.specs.declared.Axes.{Axes}
@@ -16,8 +15,7 @@ use Rattle.grid.specs.Grid.{float_of, edges_of}
 use Rattle.lists.specs.Some.{some}
 use Rattle.lists.specs.Laid.{laid}
 use Rattle.limits.specs.Limits.{within, outside_v, bad_axes, bad_corners, bad_edges, bad_coefficients, wrong_share}
-use Rattle.lookup.specs.declared.Mode.TheVariants.{Corner, Centre}
-use Rattle.lookup.specs.Place.{clamped, clamped_cell, between_of, coordinate_in, cells_from, cells_of, blend_of, blended_of}
+use Rattle.lookup.specs.Place.{clamped, clamped_cell, between_of, cells_from, cells_of, blend_of, blended_of}
 use Rattle.lookup.specs.Lookup.{bad_light_cells, light_at_of, bad_volume_cells, coefficient_blend, coefficients_at_of}
 use Rattle.frames.specs.Frames.{wrong_frame, refused_at, least_refused, light_frame_refusal, light_frame_of, coefficient_frame_refusal, coefficient_frame_of}
 
@@ -37,41 +35,33 @@ spoilt = tab float_of 23 0 ++ (nan ∷ [])
 abbrev three_positions : List Float
 three_positions = one32 ∷ zero32 ∷ zero32 ∷ zero32 ∷ two32 ∷ zero32 ∷ one32 ∷ one32 ∷ float_of 3 ∷ []
 
-pub frame_accepted : light_frame_refusal Corner hall hall_corners lights three_positions 3 ≡ refused_at 0 0
-unfolding tab light_frame_refusal least_refused wrong_frame wrong_share bad_light_cells cells_of cells_from coordinate_in between_of clamped_cell clamped blended_of blend_of edges_of bad_axes bad_corners bad_edges outside_v within some first_of unless_refused toward of_bits neg add sub mul div lt le eq of_int to_unsigned
+pub frame_accepted : light_frame_refusal hall hall_corners lights three_positions 3 ≡ refused_at 0 0
+unfolding tab light_frame_refusal least_refused wrong_frame wrong_share bad_light_cells cells_of cells_from between_of clamped_cell clamped blended_of blend_of edges_of bad_axes bad_corners bad_edges outside_v within some first_of unless_refused toward of_bits neg add sub mul div lt le eq of_int to_unsigned
 frame_accepted = refl
 
-pub frame_figure : light_frame_of Corner hall hall_corners lights three_positions ≡ float_of 1 ∷ float_of 4 ∷ float_of 21 ∷ []
-unfolding tab light_frame_of light_at_of bad_light_cells cells_of cells_from coordinate_in between_of clamped_cell clamped blended_of blend_of edges_of bad_axes bad_corners bad_edges outside_v within some first_of unless_refused toward of_bits neg add sub mul div lt le eq of_int to_unsigned
+pub frame_figure : light_frame_of hall hall_corners lights three_positions ≡ float_of 1 ∷ float_of 4 ∷ float_of 21 ∷ []
+unfolding tab light_frame_of light_at_of bad_light_cells cells_of cells_from between_of clamped_cell clamped blended_of blend_of edges_of bad_axes bad_corners bad_edges outside_v within some first_of unless_refused toward of_bits neg add sub mul div lt le eq of_int to_unsigned
 frame_figure = refl
 
--- at the three voxels' centres, in the other mode, the same
-abbrev three_centres : List Float
-three_centres = lit 0x3fc00000 ∷ half32 ∷ half32 ∷ half32 ∷ lit 0x40200000 ∷ half32 ∷ lit 0x3fc00000 ∷ lit 0x3fc00000 ∷ lit 0x40600000 ∷ []
-
-pub centre_frame_figure : light_frame_of Centre hall hall_corners lights three_centres ≡ float_of 1 ∷ float_of 4 ∷ float_of 21 ∷ []
-unfolding tab light_frame_of light_at_of bad_light_cells cells_of cells_from coordinate_in between_of clamped_cell clamped blended_of blend_of edges_of bad_axes bad_corners bad_edges outside_v within some first_of unless_refused toward larger_of smaller_of is_nan of_bits neg add sub mul div lt le eq of_int to_unsigned
-centre_frame_figure = refl
-
 -- an axis of 0 at place 0; a flat grid; an answer too many; the third position past 4,096; with a light that is none, the third position, which reads it
-pub frame_refusals : light_frame_refusal Corner (record { width = 0; height = 3; depth = 4 }) hall_corners lights three_positions 3
-    ∷ light_frame_refusal Corner hall (record { min = vec zero32 zero32 zero32; max = vec zero32 one32 one32 }) lights three_positions 3
-    ∷ light_frame_refusal Corner hall hall_corners lights three_positions 4
-    ∷ light_frame_refusal Corner hall hall_corners spoilt (one32 ∷ zero32 ∷ zero32 ∷ zero32 ∷ two32 ∷ zero32 ∷ lit 0x45800001 ∷ one32 ∷ float_of 3 ∷ []) 3
-    ∷ light_frame_refusal Corner hall hall_corners spoilt three_positions 3
+pub frame_refusals : light_frame_refusal (record { width = 0; height = 3; depth = 4 }) hall_corners lights three_positions 3
+    ∷ light_frame_refusal hall (record { min = vec zero32 zero32 zero32; max = vec zero32 one32 one32 }) lights three_positions 3
+    ∷ light_frame_refusal hall hall_corners lights three_positions 4
+    ∷ light_frame_refusal hall hall_corners spoilt (one32 ∷ zero32 ∷ zero32 ∷ zero32 ∷ two32 ∷ zero32 ∷ lit 0x45800001 ∷ one32 ∷ float_of 3 ∷ []) 3
+    ∷ light_frame_refusal hall hall_corners spoilt three_positions 3
     ∷ []
     ≡ refused_at 1 0 ∷ refused_at 2 0 ∷ refused_at 3 0 ∷ refused_at 11 2 ∷ refused_at 13 2 ∷ []
-unfolding tab light_frame_refusal least_refused wrong_frame wrong_share bad_light_cells cells_of cells_from coordinate_in between_of clamped_cell clamped blended_of blend_of edges_of bad_axes bad_corners bad_edges outside_v within some first_of unless_refused toward of_bits neg add sub mul div lt le eq of_int to_unsigned
+unfolding tab light_frame_refusal least_refused wrong_frame wrong_share bad_light_cells cells_of cells_from between_of clamped_cell clamped blended_of blend_of edges_of bad_axes bad_corners bad_edges outside_v within some first_of unless_refused toward of_bits neg add sub mul div lt le eq of_int to_unsigned
 frame_refusals = refl
 
 -- number k of voxel i is 32k + i: the sixteen numbers at voxel 21's corner
 abbrev numbers : List Float
 numbers = tab (λ (i : ℕ). float_of (i % 16 * 32 + i / 16)) 384 0
 
-pub coefficients_accepted_there : coefficient_frame_refusal Corner hall hall_corners numbers (one32 ∷ one32 ∷ float_of 3 ∷ []) 16 ≡ refused_at 0 0
-unfolding tab coefficient_frame_refusal least_refused wrong_frame wrong_share bad_volume_cells bad_coefficients cells_of cells_from coordinate_in between_of clamped_cell clamped blended_of blend_of edges_of bad_axes bad_corners bad_edges outside_v within some first_of unless_refused toward of_bits neg add sub mul div lt le eq of_int to_unsigned
+pub coefficients_accepted_there : coefficient_frame_refusal hall hall_corners numbers (one32 ∷ one32 ∷ float_of 3 ∷ []) 16 ≡ refused_at 0 0
+unfolding tab coefficient_frame_refusal least_refused wrong_frame wrong_share bad_volume_cells bad_coefficients cells_of cells_from between_of clamped_cell clamped blended_of blend_of edges_of bad_axes bad_corners bad_edges outside_v within some first_of unless_refused toward of_bits neg add sub mul div lt le eq of_int to_unsigned
 coefficients_accepted_there = refl
 
-pub coefficient_frame_figure : coefficient_frame_of Corner hall hall_corners numbers (one32 ∷ one32 ∷ float_of 3 ∷ []) ≡ tab (λ (k : ℕ). float_of (k * 32 + 21)) 16 0
-unfolding tab laid coefficient_frame_of coefficients_at_of coefficient_blend bad_volume_cells bad_coefficients cells_of cells_from coordinate_in between_of clamped_cell clamped blended_of blend_of edges_of bad_axes bad_corners bad_edges outside_v within some first_of unless_refused toward of_bits neg add sub mul div lt le eq of_int to_unsigned
+pub coefficient_frame_figure : coefficient_frame_of hall hall_corners numbers (one32 ∷ one32 ∷ float_of 3 ∷ []) ≡ tab (λ (k : ℕ). float_of (k * 32 + 21)) 16 0
+unfolding tab laid coefficient_frame_of coefficients_at_of coefficient_blend bad_volume_cells bad_coefficients cells_of cells_from between_of clamped_cell clamped blended_of blend_of edges_of bad_axes bad_corners bad_edges outside_v within some first_of unless_refused toward of_bits neg add sub mul div lt le eq of_int to_unsigned
 coefficient_frame_figure = refl

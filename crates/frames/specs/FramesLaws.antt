@@ -17,7 +17,6 @@ use Rattle.grid.specs.Grid.{voxels}
 use Rattle.limits.specs.Limits.{bad_axes, bad_grid, wrong_length, wrong_share, bad_position}
 use Rattle.limits.specs.LimitsLaws.{either, share_row}
 use Rattle.vectors.specs.declared.Vec3.{Vec3}
-use Rattle.lookup.specs.declared.Mode.{Mode}
 use Rattle.lookup.specs.Place.{cells_of}
 use Rattle.lookup.specs.Lookup.{light_at_of, bad_light_cells, coefficients_at_of, coefficient_blend, coefficient_refusal, bad_volume_cells}
 use Rattle.frames.specs.declared.FirstRefusal.{FirstRefusal}
@@ -163,123 +162,123 @@ singles false false false false rest (suc n) e h = refl
 
 -- ---- light
 
-module _ (mode : Mode) (a : Axes) (c : Corners) (light positions : List Float) (answers : ℕ) (fits : wrong_frame 1 (length positions) answers ≡ false) (some : 0 < position_count (length positions)) where
-  pub light_frame_singles : light_frame_refusal mode a c light positions answers ≡ least_refused (light_refusal_at mode a c light positions) (position_count (length positions)) 0
+module _ (a : Axes) (c : Corners) (light positions : List Float) (answers : ℕ) (fits : wrong_frame 1 (length positions) answers ≡ false) (some : 0 < position_count (length positions)) where
+  pub light_frame_singles : light_frame_refusal a c light positions answers ≡ least_refused (light_refusal_at a c light positions) (position_count (length positions)) 0
   unfolding light_frame_refusal
   light_frame_singles =
       rw (mul-one (voxels a))
       (singles (bad_axes a) (bad_grid c a) (wrong_length (length light) (voxels a)) _
-      (λ k. row 11 (bad_position (position_at positions k)) ∷ row 13 (bad_light_cells light (cells_of mode a c (position_at positions k))) ∷ [])
+      (λ k. row 11 (bad_position (position_at positions k)) ∷ row 13 (bad_light_cells light (cells_of a c (position_at positions k))) ∷ [])
       _ fits some)
 
   -- accepted exactly when every position is accepted alone
-  pub light_frame_accepted : ((light_frame_refusal mode a c light positions answers).refusal ≡ 0)
-      ↔ ((k : ℕ) → k < position_count (length positions) → light_refusal_at mode a c light positions k ≡ 0)
+  pub light_frame_accepted : ((light_frame_refusal a c light positions answers).refusal ≡ 0)
+      ↔ ((k : ℕ) → k < position_count (length positions) → light_refusal_at a c light positions k ≡ 0)
   light_frame_accepted =
       let s = ap (λ (x : FirstRefusal). x.refusal) light_frame_singles in
-      let l = least_none (light_refusal_at mode a c light positions) (position_count (length positions)) 0 in
+      let l = least_none (light_refusal_at a c light positions) (position_count (length positions)) 0 in
       (λ e k h. l.0 (sym s ∙ e) k (omega arith) (omega arith), λ n. s ∙ l.1 (λ j p q. n j (omega arith)))
 
   -- refused r at place p exactly when the single lookup at p refuses r and at none before refuses
   pub light_frame_refused : (r p : ℕ) → 0 < r
-      → (light_frame_refusal mode a c light positions answers ≡ refused_at r p) ↔ LeastAt (light_refusal_at mode a c light positions) (position_count (length positions)) 0 r p
+      → (light_frame_refusal a c light positions answers ≡ refused_at r p) ↔ LeastAt (light_refusal_at a c light positions) (position_count (length positions)) 0 r p
   light_frame_refused r p h =
-      let l = least_is (light_refusal_at mode a c light positions) (position_count (length positions)) 0 r p h in
+      let l = least_is (light_refusal_at a c light positions) (position_count (length positions)) 0 r p h in
       (λ e. l.0 (sym light_frame_singles ∙ e), λ m. light_frame_singles ∙ l.1 m)
 
 -- each number written is the single lookup's
-pub light_frame_each : (mode : Mode) (a : Axes) (c : Corners) (light positions : List Float) (k : ℕ) → k < position_count (length positions)
-    → get_or (light_frame_of mode a c light positions) k nan ≡ (light_at_of mode a c light (position_at positions k)).light
+pub light_frame_each : (a : Axes) (c : Corners) (light positions : List Float) (k : ℕ) → k < position_count (length positions)
+    → get_or (light_frame_of a c light positions) k nan ≡ (light_at_of a c light (position_at positions k)).light
 unfolding light_frame_of
-light_frame_each mode a c light positions k h = get_or_tab _ _ 0 k nan h ∙ ap (λ (j : ℕ). (light_at_of mode a c light (position_at positions j)).light) (zero-add k)
+light_frame_each a c light positions k h = get_or_tab _ _ 0 k nan h ∙ ap (λ (j : ℕ). (light_at_of a c light (position_at positions j)).light) (zero-add k)
 
-light_nothing_refused : (mode : Mode) (a : Axes) (c : Corners) (light : List Float) → bad_axes a ≡ false → bad_grid c a ≡ false → length light ≡ voxels a
-    → light_frame_refusal mode a c light [] 0 ≡ refused_at 0 0
+light_nothing_refused : (a : Axes) (c : Corners) (light : List Float) → bad_axes a ≡ false → bad_grid c a ≡ false → length light ≡ voxels a
+    → light_frame_refusal a c light [] 0 ≡ refused_at 0 0
 unfolding light_frame_refusal wrong_frame wrong_share first_of unless_refused least_refused
-light_nothing_refused mode a c light p q n = rw (p, q, eq-eqb (length light) (voxels a * 1) (n ∙ sym (mul-one _))) refl
+light_nothing_refused a c light p q n = rw (p, q, eq-eqb (length light) (voxels a * 1) (n ∙ sym (mul-one _))) refl
 
-light_nothing_written : (mode : Mode) (a : Axes) (c : Corners) (light : List Float) → unless_refused 0 (light_frame_of mode a c light []) [] ≡ []
+light_nothing_written : (a : Axes) (c : Corners) (light : List Float) → unless_refused 0 (light_frame_of a c light []) [] ≡ []
 unfolding light_frame_of unless_refused tab
-light_nothing_written mode a c light = refl
+light_nothing_written a c light = refl
 
 -- no position: accepted where the grid and the light are good, and nothing is written
-pub light_frame_empty : (mode : Mode) (a : Axes) (c : Corners) (light : List Float) (r : FirstRefusal) (answers' : List Float)
+pub light_frame_empty : (a : Axes) (c : Corners) (light : List Float) (r : FirstRefusal) (answers' : List Float)
     → bad_axes a ≡ false → bad_grid c a ≡ false → length light ≡ voxels a
-    → LightsFramed mode a c light [] [] r answers' → (r ≡ refused_at 0 0) × (answers' ≡ [])
-light_frame_empty mode a c light r answers' p q n h =
-    let e : r ≡ refused_at 0 0 = h.answer ∙ light_nothing_refused mode a c light p q n in
-    (e, h.answers_after ∙ ap (λ (x : FirstRefusal). unless_refused x.refusal (light_frame_of mode a c light []) []) e ∙ light_nothing_written mode a c light)
+    → LightsFramed a c light [] [] r answers' → (r ≡ refused_at 0 0) × (answers' ≡ [])
+light_frame_empty a c light r answers' p q n h =
+    let e : r ≡ refused_at 0 0 = h.answer ∙ light_nothing_refused a c light p q n in
+    (e, h.answers_after ∙ ap (λ (x : FirstRefusal). unless_refused x.refusal (light_frame_of a c light []) []) e ∙ light_nothing_written a c light)
 
 pub record SameFrame (r s : FirstRefusal) (answers₁ answers₂ : List Float) : Type 0 where
   pub same_first : r ≡ s
   pub same_answers : answers₁ ≡ answers₂
 
-pub lights_framed_once : {mode : Mode} {a : Axes} {c : Corners} {light positions answers : List Float} {r s : FirstRefusal} {l m : List Float}
-    → LightsFramed mode a c light positions answers r l → LightsFramed mode a c light positions answers s m → SameFrame r s l m
+pub lights_framed_once : {a : Axes} {c : Corners} {light positions answers : List Float} {r s : FirstRefusal} {l m : List Float}
+    → LightsFramed a c light positions answers r l → LightsFramed a c light positions answers s m → SameFrame r s l m
 lights_framed_once h k =
     let e = h.answer ∙ sym k.answer in
     record { same_first = e; same_answers = h.answers_after ∙ rw e (sym k.answers_after) }
 
 -- ---- the four coefficients
 
-module _ (mode : Mode) (a : Axes) (c : Corners) (volume positions : List Float) (answers : ℕ) (fits : wrong_frame 16 (length positions) answers ≡ false) (some : 0 < position_count (length positions)) where
-  pub coefficient_frame_singles : coefficient_frame_refusal mode a c volume positions answers ≡ least_refused (coefficient_refusal_at mode a c volume positions) (position_count (length positions)) 0
+module _ (a : Axes) (c : Corners) (volume positions : List Float) (answers : ℕ) (fits : wrong_frame 16 (length positions) answers ≡ false) (some : 0 < position_count (length positions)) where
+  pub coefficient_frame_singles : coefficient_frame_refusal a c volume positions answers ≡ least_refused (coefficient_refusal_at a c volume positions) (position_count (length positions)) 0
   unfolding coefficient_frame_refusal
   coefficient_frame_singles =
       singles (bad_axes a) (bad_grid c a) (wrong_length (length volume) (voxels a * 16)) _
-      (λ k. row 11 (bad_position (position_at positions k)) ∷ row 13 (bad_volume_cells volume (cells_of mode a c (position_at positions k))) ∷ [])
+      (λ k. row 11 (bad_position (position_at positions k)) ∷ row 13 (bad_volume_cells volume (cells_of a c (position_at positions k))) ∷ [])
       _ fits some
 
   -- accepted exactly when every position is accepted alone
-  pub coefficient_frame_accepted : ((coefficient_frame_refusal mode a c volume positions answers).refusal ≡ 0)
-      ↔ ((k : ℕ) → k < position_count (length positions) → coefficient_refusal_at mode a c volume positions k ≡ 0)
+  pub coefficient_frame_accepted : ((coefficient_frame_refusal a c volume positions answers).refusal ≡ 0)
+      ↔ ((k : ℕ) → k < position_count (length positions) → coefficient_refusal_at a c volume positions k ≡ 0)
   coefficient_frame_accepted =
       let s = ap (λ (x : FirstRefusal). x.refusal) coefficient_frame_singles in
-      let l = least_none (coefficient_refusal_at mode a c volume positions) (position_count (length positions)) 0 in
+      let l = least_none (coefficient_refusal_at a c volume positions) (position_count (length positions)) 0 in
       (λ e k h. l.0 (sym s ∙ e) k (omega arith) (omega arith), λ n. s ∙ l.1 (λ j p q. n j (omega arith)))
 
   -- refused r at place p exactly when the single lookup at p refuses r and at none before refuses
   pub coefficient_frame_refused : (r p : ℕ) → 0 < r
-      → (coefficient_frame_refusal mode a c volume positions answers ≡ refused_at r p) ↔ LeastAt (coefficient_refusal_at mode a c volume positions) (position_count (length positions)) 0 r p
+      → (coefficient_frame_refusal a c volume positions answers ≡ refused_at r p) ↔ LeastAt (coefficient_refusal_at a c volume positions) (position_count (length positions)) 0 r p
   coefficient_frame_refused r p h =
-      let l = least_is (coefficient_refusal_at mode a c volume positions) (position_count (length positions)) 0 r p h in
+      let l = least_is (coefficient_refusal_at a c volume positions) (position_count (length positions)) 0 r p h in
       (λ e. l.0 (sym coefficient_frame_singles ∙ e), λ m. coefficient_frame_singles ∙ l.1 m)
 
 -- sixteen numbers, refused or not
-pub length_numbers : (mode : Mode) (a : Axes) (c : Corners) (volume : List Float) (p : Vec3) → length (coefficients_at_of mode a c volume p).numbers ≡ 16
+pub length_numbers : (a : Axes) (c : Corners) (volume : List Float) (p : Vec3) → length (coefficients_at_of a c volume p).numbers ≡ 16
 unfolding coefficients_at_of coefficient_blend unless_refused
-length_numbers mode a c volume p = go (eqb (coefficient_refusal mode a c volume p) 0)
+length_numbers a c volume p = go (eqb (coefficient_refusal a c volume p) 0)
   where
-    go : (b : Bool) → length (cond b (coefficient_blend volume (cells_of mode a c p)) (replicate 16 zero32)) ≡ 16
+    go : (b : Bool) → length (cond b (coefficient_blend volume (cells_of a c p)) (replicate 16 zero32)) ≡ 16
     go true = length_tab _ 16 0
     go false = refl
 
 -- the sixteen numbers written for a position are the single lookup's
-pub coefficient_frame_each : (mode : Mode) (a : Axes) (c : Corners) (volume positions : List Float) (k : ℕ) → k < position_count (length positions)
-    → voxel_part 16 k (coefficient_frame_of mode a c volume positions) ≡ (coefficients_at_of mode a c volume (position_at positions k)).numbers
+pub coefficient_frame_each : (a : Axes) (c : Corners) (volume positions : List Float) (k : ℕ) → k < position_count (length positions)
+    → voxel_part 16 k (coefficient_frame_of a c volume positions) ≡ (coefficients_at_of a c volume (position_at positions k)).numbers
 unfolding coefficient_frame_of
-coefficient_frame_each mode a c volume positions k h =
-    part_of_laid 16 (λ (j : ℕ). (coefficients_at_of mode a c volume (position_at positions j)).numbers) (λ j. length_numbers mode a c volume _) k _ h
+coefficient_frame_each a c volume positions k h =
+    part_of_laid 16 (λ (j : ℕ). (coefficients_at_of a c volume (position_at positions j)).numbers) (λ j. length_numbers a c volume _) k _ h
 
-coefficient_nothing_refused : (mode : Mode) (a : Axes) (c : Corners) (volume : List Float) → bad_axes a ≡ false → bad_grid c a ≡ false → length volume ≡ voxels a * 16
-    → coefficient_frame_refusal mode a c volume [] 0 ≡ refused_at 0 0
+coefficient_nothing_refused : (a : Axes) (c : Corners) (volume : List Float) → bad_axes a ≡ false → bad_grid c a ≡ false → length volume ≡ voxels a * 16
+    → coefficient_frame_refusal a c volume [] 0 ≡ refused_at 0 0
 unfolding coefficient_frame_refusal wrong_frame wrong_share first_of unless_refused least_refused
-coefficient_nothing_refused mode a c volume p q n = rw (p, q, eq-eqb (length volume) (voxels a * 16) (n)) refl
+coefficient_nothing_refused a c volume p q n = rw (p, q, eq-eqb (length volume) (voxels a * 16) (n)) refl
 
-coefficient_nothing_written : (mode : Mode) (a : Axes) (c : Corners) (volume : List Float) → unless_refused 0 (coefficient_frame_of mode a c volume []) [] ≡ []
+coefficient_nothing_written : (a : Axes) (c : Corners) (volume : List Float) → unless_refused 0 (coefficient_frame_of a c volume []) [] ≡ []
 unfolding coefficient_frame_of unless_refused laid
-coefficient_nothing_written mode a c volume = refl
+coefficient_nothing_written a c volume = refl
 
 -- no position: accepted where the grid and the volume are good, and nothing is written
-pub coefficient_frame_empty : (mode : Mode) (a : Axes) (c : Corners) (volume : List Float) (r : FirstRefusal) (answers' : List Float)
+pub coefficient_frame_empty : (a : Axes) (c : Corners) (volume : List Float) (r : FirstRefusal) (answers' : List Float)
     → bad_axes a ≡ false → bad_grid c a ≡ false → length volume ≡ voxels a * 16
-    → CoefficientsFramed mode a c volume [] [] r answers' → (r ≡ refused_at 0 0) × (answers' ≡ [])
-coefficient_frame_empty mode a c volume r answers' p q n h =
-    let e : r ≡ refused_at 0 0 = h.answer ∙ coefficient_nothing_refused mode a c volume p q n in
-    (e, h.answers_after ∙ ap (λ (x : FirstRefusal). unless_refused x.refusal (coefficient_frame_of mode a c volume []) []) e ∙ coefficient_nothing_written mode a c volume)
+    → CoefficientsFramed a c volume [] [] r answers' → (r ≡ refused_at 0 0) × (answers' ≡ [])
+coefficient_frame_empty a c volume r answers' p q n h =
+    let e : r ≡ refused_at 0 0 = h.answer ∙ coefficient_nothing_refused a c volume p q n in
+    (e, h.answers_after ∙ ap (λ (x : FirstRefusal). unless_refused x.refusal (coefficient_frame_of a c volume []) []) e ∙ coefficient_nothing_written a c volume)
 
-pub coefficients_framed_once : {mode : Mode} {a : Axes} {c : Corners} {volume positions answers : List Float} {r s : FirstRefusal} {l m : List Float}
-    → CoefficientsFramed mode a c volume positions answers r l → CoefficientsFramed mode a c volume positions answers s m → SameFrame r s l m
+pub coefficients_framed_once : {a : Axes} {c : Corners} {volume positions answers : List Float} {r s : FirstRefusal} {l m : List Float}
+    → CoefficientsFramed a c volume positions answers r l → CoefficientsFramed a c volume positions answers s m → SameFrame r s l m
 coefficients_framed_once h k =
     let e = h.answer ∙ sym k.answer in
     record { same_first = e; same_answers = h.answers_after ∙ rw e (sym k.answers_after) }

@@ -5,7 +5,6 @@ use Rattle.grid.specs.declared.Axes.{Axes}
 use Rattle.grid.specs.declared.Corners.{Corners}
 use Rattle.grid.specs.Grid.{voxels, AxesWithin}
 use Rattle.limits.specs.Limits.{bad_axes, bad_grid, bad_lights, bad_coefficients, wrong_length}
-use Rattle.lookup.specs.declared.Mode.{Mode}
 use Rattle.frames.specs.declared.FirstRefusal.{FirstRefusal}
 use Rattle.frames.specs.Frames.{position_count, least_refused, light_refusal_at, light_frame_of, coefficient_refusal_at, coefficient_frame_of}
 
@@ -21,28 +20,28 @@ pub record CoefficientGridGood (a : Axes) (c : Corners) (volume : List Float) (c
   pub list : wrong_length (length volume) (voxels a * 16) ≡ false
   pub whole : clear ≡ true → bad_coefficients volume ≡ false
 
-pub record LightsAccepted (mode : Mode) (a : Axes) (c : Corners) (light positions : List Float) (answers : ℕ) : Type 0 where
+pub record LightsAccepted (a : Axes) (c : Corners) (light positions : List Float) (answers : ℕ) : Type 0 where
   pub axes : AxesWithin a
   pub list : length light ≡ voxels a
   pub triples : length positions ≡ answers * 3
-  pub none : (k : ℕ) → k < answers → light_refusal_at mode a c light positions k ≡ 0
+  pub none : (k : ℕ) → k < answers → light_refusal_at a c light positions k ≡ 0
 
 -- sixteen numbers of the answer for each position
-pub record CoefficientsAccepted (mode : Mode) (a : Axes) (c : Corners) (volume positions : List Float) (answers : ℕ) : Type 0 where
+pub record CoefficientsAccepted (a : Axes) (c : Corners) (volume positions : List Float) (answers : ℕ) : Type 0 where
   pub axes : AxesWithin a
   pub list : length volume ≡ voxels a * 16
   pub triples : length positions ≡ length positions / 3 * 3
   pub sixteens : answers ≡ length positions / 3 * 16
-  pub none : (k : ℕ) → k < length positions / 3 → coefficient_refusal_at mode a c volume positions k ≡ 0
+  pub none : (k : ℕ) → k < length positions / 3 → coefficient_refusal_at a c volume positions k ≡ 0
 
 -- ---- what is kept while the positions are judged
 
 -- the first position refused; where there is none, the room has the light at each
-pub record LightsKept (mode : Mode) (a : Axes) (c : Corners) (light positions : List Float) (r : FirstRefusal) (room : List Float) : Type 0 where
-  pub first : r ≡ least_refused (light_refusal_at mode a c light positions) (position_count (length positions)) 0
-  pub kept : r.refusal ≡ 0 → room ≡ light_frame_of mode a c light positions
+pub record LightsKept (a : Axes) (c : Corners) (light positions : List Float) (r : FirstRefusal) (room : List Float) : Type 0 where
+  pub first : r ≡ least_refused (light_refusal_at a c light positions) (position_count (length positions)) 0
+  pub kept : r.refusal ≡ 0 → room ≡ light_frame_of a c light positions
 
 -- the same of the sixteen numbers at each
-pub record CoefficientsKept (mode : Mode) (a : Axes) (c : Corners) (volume positions : List Float) (r : FirstRefusal) (room : List Float) : Type 0 where
-  pub first : r ≡ least_refused (coefficient_refusal_at mode a c volume positions) (position_count (length positions)) 0
-  pub kept : r.refusal ≡ 0 → room ≡ coefficient_frame_of mode a c volume positions
+pub record CoefficientsKept (a : Axes) (c : Corners) (volume positions : List Float) (r : FirstRefusal) (room : List Float) : Type 0 where
+  pub first : r ≡ least_refused (coefficient_refusal_at a c volume positions) (position_count (length positions)) 0
+  pub kept : r.refusal ≡ 0 → room ≡ coefficient_frame_of a c volume positions

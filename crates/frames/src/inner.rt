@@ -11,7 +11,7 @@ ghost use Rattle.frames.specs.Passes.{LightGridGood, LightsAccepted, LightsKept,
 
 use super::FirstRefusal;
 use grid::{Axes, Corners};
-use lookup::{CoefficientsAt, LightAt, Mode};
+use lookup::{CoefficientsAt, LightAt};
 use vectors::Vec3;
 
 // ---- light
@@ -24,10 +24,9 @@ pub fn few_lights(
     positions: &[f32],
     answers: &mut [f32],
     room: &mut [f32],
-    mode: Mode,
 ) -> FirstRefusal
     requires { length room.old ≡ length answers.old }
-    ensures { LightsFramed mode axes corners light.now positions.now answers.old result answers.new }
+    ensures { LightsFramed axes corners light.now positions.now answers.old result answers.new }
 {
     let refusal = rows_refusal(
         1,
@@ -40,7 +39,7 @@ pub fn few_lights(
     if refusal != 0 {
         return FirstRefusal { refusal, place: 0 };
     }
-    let first = keep_lights(axes, corners, light, positions, room, mode);
+    let first = keep_lights(axes, corners, light, positions, room);
     if first.refusal == 0 {
         means::inner::copy(room, answers);
         return first;
@@ -55,14 +54,13 @@ fn keep_lights(
     light: &[f32],
     positions: &[f32],
     room: &mut [f32],
-    mode: Mode,
 ) -> FirstRefusal
     requires { LightGridGood axes corners light.now false × (length positions.now ≡ length room.old * 3) }
-    ensures { LightsKept mode axes corners light.now positions.now result room.new }
+    ensures { LightsKept axes corners light.now positions.now result room.new }
 {
     let mut k = 0;
     while k < room.len() {
-        let r = light_in_grid(axes, corners, light, position(positions, k), mode);
+        let r = light_in_grid(axes, corners, light, position(positions, k));
         if r.refusal != 0 {
             return FirstRefusal {
                 refusal: r.refusal,
@@ -79,9 +77,9 @@ fn keep_lights(
 }
 
 // The single lookup in a good grid.
-fn light_in_grid(axes: Axes, corners: Corners, light: &[f32], p: Vec3, mode: Mode) -> LightAt
+fn light_in_grid(axes: Axes, corners: Corners, light: &[f32], p: Vec3) -> LightAt
     requires { LightGridGood axes corners light.now false }
-    ensures { result ≡ light_at_of mode axes corners light.now p }
+    ensures { result ≡ light_at_of axes corners light.now p }
 {
     if limits::inner::bad_position(p) {
         return LightAt {
@@ -89,7 +87,7 @@ fn light_in_grid(axes: Axes, corners: Corners, light: &[f32], p: Vec3, mode: Mod
             light: 0.0,
         };
     }
-    let c = lookup::inner::cells(axes, corners, p, mode);
+    let c = lookup::inner::cells(axes, corners, p);
     if lookup::inner::bad_light_cells(light, c) {
         return LightAt {
             refusal: 13,
@@ -109,13 +107,12 @@ pub fn many_lights(
     light: &[f32],
     positions: &[f32],
     answers: &mut [f32],
-    mode: Mode,
 ) -> FirstRefusal
-    ensures { LightsFramed mode axes corners light.now positions.now answers.old result answers.new }
+    ensures { LightsFramed axes corners light.now positions.now answers.old result answers.new }
 {
-    let judged = light_refusal(axes, corners, light, positions, answers.len(), mode);
+    let judged = light_refusal(axes, corners, light, positions, answers.len());
     if judged.refusal == 0 {
-        fill_lights(axes, corners, light, positions, answers, mode);
+        fill_lights(axes, corners, light, positions, answers);
         return judged;
     }
     judged
@@ -128,16 +125,15 @@ fn light_refusal(
     light: &[f32],
     positions: &[f32],
     answers: usize,
-    mode: Mode,
 ) -> FirstRefusal
-    ensures { result ≡ light_frame_refusal mode axes corners light.now positions.now answers }
+    ensures { result ≡ light_frame_refusal axes corners light.now positions.now answers }
 {
     let refusal = rows_refusal(1, axes, corners, light.len(), positions.len(), answers);
     if refusal != 0 {
         return FirstRefusal { refusal, place: 0 };
     }
     let clear = lights_clear(light, positions.len() / 3);
-    first_bad_light(axes, corners, light, positions, clear, mode)
+    first_bad_light(axes, corners, light, positions, clear)
 }
 
 // Whether every light of the list was read and none is refused. The list is read where that costs less than to find the cells around each position:
@@ -158,15 +154,14 @@ fn first_bad_light(
     light: &[f32],
     positions: &[f32],
     clear: bool,
-    mode: Mode,
 ) -> FirstRefusal
     requires { LightGridGood axes corners light.now clear }
-    ensures { result ≡ least_refused (light_refusal_at mode axes corners light.now positions.now) (position_count (length positions.now)) 0 }
+    ensures { result ≡ least_refused (light_refusal_at axes corners light.now positions.now) (position_count (length positions.now)) 0 }
 {
     let count = positions.len() / 3;
     let mut k = 0;
     while k < count {
-        let refusal = bad_light_at(axes, corners, light, position(positions, k), clear, mode);
+        let refusal = bad_light_at(axes, corners, light, position(positions, k), clear);
         if refusal != 0 {
             return FirstRefusal { refusal, place: k };
         }
@@ -179,16 +174,9 @@ fn first_bad_light(
 }
 
 // What the single lookup refuses at a position of a good grid: 11, 13 or 0. Where all lights are good the cells need not be looked for.
-fn bad_light_at(
-    axes: Axes,
-    corners: Corners,
-    light: &[f32],
-    p: Vec3,
-    clear: bool,
-    mode: Mode,
-) -> u32
+fn bad_light_at(axes: Axes, corners: Corners, light: &[f32], p: Vec3, clear: bool) -> u32
     requires { LightGridGood axes corners light.now clear }
-    ensures { result ≡ light_refusal mode axes corners light.now p }
+    ensures { result ≡ light_refusal axes corners light.now p }
 {
     if limits::inner::bad_position(p) {
         return 11;
@@ -196,36 +184,29 @@ fn bad_light_at(
     if clear {
         return 0;
     }
-    if lookup::inner::bad_light_cells(light, lookup::inner::cells(axes, corners, p, mode)) {
+    if lookup::inner::bad_light_cells(light, lookup::inner::cells(axes, corners, p)) {
         return 13;
     }
     0
 }
 
 // The light at each position, none of which is refused.
-fn fill_lights(
-    axes: Axes,
-    corners: Corners,
-    light: &[f32],
-    positions: &[f32],
-    answers: &mut [f32],
-    mode: Mode,
-)
-    requires { LightsAccepted mode axes corners light.now positions.now (length answers.old) }
-    ensures { answers.new ≡ light_frame_of mode axes corners light.now positions.now }
+fn fill_lights(axes: Axes, corners: Corners, light: &[f32], positions: &[f32], answers: &mut [f32])
+    requires { LightsAccepted axes corners light.now positions.now (length answers.old) }
+    ensures { answers.new ≡ light_frame_of axes corners light.now positions.now }
 {
     let mut k = 0;
     while k < answers.len() {
-        answers[k] = light_between(axes, corners, light, position(positions, k), mode);
+        answers[k] = light_between(axes, corners, light, position(positions, k));
         k += 1;
     }
 }
 
-fn light_between(axes: Axes, corners: Corners, light: &[f32], p: Vec3, mode: Mode) -> f32
+fn light_between(axes: Axes, corners: Corners, light: &[f32], p: Vec3) -> f32
     requires { AxesWithin axes × (length light.now ≡ voxels axes) }
-    ensures { result ≡ light_blend light.now (cells_of mode axes corners p) }
+    ensures { result ≡ light_blend light.now (cells_of axes corners p) }
 {
-    lookup::inner::blended(light, 1, 0, lookup::inner::cells(axes, corners, p, mode))
+    lookup::inner::blended(light, 1, 0, lookup::inner::cells(axes, corners, p))
 }
 
 // ---- the four coefficients
@@ -238,10 +219,9 @@ pub fn few_coefficients(
     positions: &[f32],
     answers: &mut [f32],
     room: &mut [f32],
-    mode: Mode,
 ) -> FirstRefusal
     requires { length room.old ≡ length answers.old }
-    ensures { CoefficientsFramed mode axes corners volume.now positions.now answers.old result answers.new }
+    ensures { CoefficientsFramed axes corners volume.now positions.now answers.old result answers.new }
 {
     let refusal = rows_refusal(
         16,
@@ -254,7 +234,7 @@ pub fn few_coefficients(
     if refusal != 0 {
         return FirstRefusal { refusal, place: 0 };
     }
-    let kept = keep_coefficients(axes, corners, volume, positions, room, mode);
+    let kept = keep_coefficients(axes, corners, volume, positions, room);
     if kept.refusal == 0 {
         means::inner::copy(room, answers);
         return kept;
@@ -269,15 +249,14 @@ fn keep_coefficients(
     volume: &[f32],
     positions: &[f32],
     room: &mut [f32],
-    mode: Mode,
 ) -> FirstRefusal
     requires { CoefficientGridGood axes corners volume.now false × (length room.old ≡ position_count (length positions.now) * 16) }
-    ensures { CoefficientsKept mode axes corners volume.now positions.now result room.new }
+    ensures { CoefficientsKept axes corners volume.now positions.now result room.new }
 {
     let count = positions.len() / 3;
     let mut k = 0;
     while k < count {
-        let r = coefficients_in_grid(axes, corners, volume, position(positions, k), mode);
+        let r = coefficients_in_grid(axes, corners, volume, position(positions, k));
         if r.refusal != 0 {
             return FirstRefusal {
                 refusal: r.refusal,
@@ -295,15 +274,9 @@ fn keep_coefficients(
 }
 
 // The single lookup in a good grid.
-fn coefficients_in_grid(
-    axes: Axes,
-    corners: Corners,
-    volume: &[f32],
-    p: Vec3,
-    mode: Mode,
-) -> CoefficientsAt
+fn coefficients_in_grid(axes: Axes, corners: Corners, volume: &[f32], p: Vec3) -> CoefficientsAt
     requires { CoefficientGridGood axes corners volume.now false }
-    ensures { result ≡ coefficients_at_of mode axes corners volume.now p }
+    ensures { result ≡ coefficients_at_of axes corners volume.now p }
 {
     if limits::inner::bad_position(p) {
         return CoefficientsAt {
@@ -311,7 +284,7 @@ fn coefficients_in_grid(
             numbers: [0.0; 16],
         };
     }
-    let c = lookup::inner::cells(axes, corners, p, mode);
+    let c = lookup::inner::cells(axes, corners, p);
     if lookup::inner::bad_volume_cells(volume, c) {
         return CoefficientsAt {
             refusal: 13,
@@ -331,13 +304,12 @@ pub fn many_coefficients(
     volume: &[f32],
     positions: &[f32],
     answers: &mut [f32],
-    mode: Mode,
 ) -> FirstRefusal
-    ensures { CoefficientsFramed mode axes corners volume.now positions.now answers.old result answers.new }
+    ensures { CoefficientsFramed axes corners volume.now positions.now answers.old result answers.new }
 {
-    let r = coefficient_refusal(axes, corners, volume, positions, answers.len(), mode);
+    let r = coefficient_refusal(axes, corners, volume, positions, answers.len());
     if r.refusal == 0 {
-        fill_coefficients(axes, corners, volume, positions, answers, mode);
+        fill_coefficients(axes, corners, volume, positions, answers);
         return r;
     }
     r
@@ -350,16 +322,15 @@ fn coefficient_refusal(
     volume: &[f32],
     positions: &[f32],
     answers: usize,
-    mode: Mode,
 ) -> FirstRefusal
-    ensures { result ≡ coefficient_frame_refusal mode axes corners volume.now positions.now answers }
+    ensures { result ≡ coefficient_frame_refusal axes corners volume.now positions.now answers }
 {
     let refusal = rows_refusal(16, axes, corners, volume.len(), positions.len(), answers);
     if refusal != 0 {
         return FirstRefusal { refusal, place: 0 };
     }
     let clear = coefficients_clear(volume, positions.len() / 3);
-    first_bad_coefficient(axes, corners, volume, positions, clear, mode)
+    first_bad_coefficient(axes, corners, volume, positions, clear)
 }
 
 // Whether every number of the volume was read and none is refused. It is read where that costs less than to find and test the cells around each position:
@@ -380,15 +351,14 @@ fn first_bad_coefficient(
     volume: &[f32],
     positions: &[f32],
     clear: bool,
-    mode: Mode,
 ) -> FirstRefusal
     requires { CoefficientGridGood axes corners volume.now clear }
-    ensures { result ≡ least_refused (coefficient_refusal_at mode axes corners volume.now positions.now) (position_count (length positions.now)) 0 }
+    ensures { result ≡ least_refused (coefficient_refusal_at axes corners volume.now positions.now) (position_count (length positions.now)) 0 }
 {
     let count = positions.len() / 3;
     let mut k = 0;
     while k < count {
-        let number = bad_coefficient_at(axes, corners, volume, position(positions, k), clear, mode);
+        let number = bad_coefficient_at(axes, corners, volume, position(positions, k), clear);
         if number != 0 {
             return FirstRefusal {
                 refusal: number,
@@ -404,16 +374,9 @@ fn first_bad_coefficient(
 }
 
 // What the single lookup refuses at a position of a good grid: 11, 13 or 0. Where all numbers are good the cells need not be looked for.
-fn bad_coefficient_at(
-    axes: Axes,
-    corners: Corners,
-    volume: &[f32],
-    p: Vec3,
-    clear: bool,
-    mode: Mode,
-) -> u32
+fn bad_coefficient_at(axes: Axes, corners: Corners, volume: &[f32], p: Vec3, clear: bool) -> u32
     requires { CoefficientGridGood axes corners volume.now clear }
-    ensures { result ≡ coefficient_refusal mode axes corners volume.now p }
+    ensures { result ≡ coefficient_refusal axes corners volume.now p }
 {
     if limits::inner::bad_position(p) {
         return 11;
@@ -421,7 +384,7 @@ fn bad_coefficient_at(
     if clear {
         return 0;
     }
-    if lookup::inner::bad_volume_cells(volume, lookup::inner::cells(axes, corners, p, mode)) {
+    if lookup::inner::bad_volume_cells(volume, lookup::inner::cells(axes, corners, p)) {
         return 13;
     }
     0
@@ -434,15 +397,14 @@ fn fill_coefficients(
     volume: &[f32],
     positions: &[f32],
     answers: &mut [f32],
-    mode: Mode,
 )
-    requires { CoefficientsAccepted mode axes corners volume.now positions.now (length answers.old) }
-    ensures { answers.new ≡ coefficient_frame_of mode axes corners volume.now positions.now }
+    requires { CoefficientsAccepted axes corners volume.now positions.now (length answers.old) }
+    ensures { answers.new ≡ coefficient_frame_of axes corners volume.now positions.now }
 {
     let count = positions.len() / 3;
     let mut k = 0;
     while k < count {
-        let c = lookup::inner::cells(axes, corners, position(positions, k), mode);
+        let c = lookup::inner::cells(axes, corners, position(positions, k));
         let numbers = lookup::inner::coefficients_blended(volume, c);
         let at = k * 16;
         k += 1;

@@ -2,7 +2,6 @@
 ghost use Rattle.frames.specs.Frames.{LightsFramed, CoefficientsFramed};
 
 use grid::{Axes, Corners};
-use lookup::Mode;
 
 mod inner;
 
@@ -22,37 +21,20 @@ pub fn frame_lights(
     light: &[f32],
     positions: &[f32],
     answers: &mut [f32],
-    mode: Mode,
 ) -> FirstRefusal
-    ensures { LightsFramed mode axes corners light.now positions.now answers.old result answers.new }
+    ensures { LightsFramed axes corners light.now positions.now answers.old result answers.new }
 {
     // what a room holds at first is never read; a small one is filled sooner
     let n = answers.len();
     if n <= 16 {
         let mut room = [1.0; 16];
-        return inner::few_lights(
-            axes,
-            corners,
-            light,
-            positions,
-            answers,
-            &mut room[..n],
-            mode,
-        );
+        return inner::few_lights(axes, corners, light, positions, answers, &mut room[..n]);
     }
     if n <= 1024 {
         let mut room = [1.0; 1024];
-        return inner::few_lights(
-            axes,
-            corners,
-            light,
-            positions,
-            answers,
-            &mut room[..n],
-            mode,
-        );
+        return inner::few_lights(axes, corners, light, positions, answers, &mut room[..n]);
     }
-    inner::many_lights(axes, corners, light, positions, answers, mode)
+    inner::many_lights(axes, corners, light, positions, answers)
 }
 
 // The four coefficients at each of the positions, three numbers each, in answers, sixteen numbers each. Refused: 1, 2, 3, and what
@@ -63,34 +45,17 @@ pub fn frame_coefficients(
     volume: &[f32],
     positions: &[f32],
     answers: &mut [f32],
-    mode: Mode,
 ) -> FirstRefusal
-    ensures { CoefficientsFramed mode axes corners volume.now positions.now answers.old result answers.new }
+    ensures { CoefficientsFramed axes corners volume.now positions.now answers.old result answers.new }
 {
     let n = answers.len();
     if n <= 256 {
         let mut room = [1.0; 256];
-        return inner::few_coefficients(
-            axes,
-            corners,
-            volume,
-            positions,
-            answers,
-            &mut room[..n],
-            mode,
-        );
+        return inner::few_coefficients(axes, corners, volume, positions, answers, &mut room[..n]);
     }
     if n <= 4096 {
         let mut room = [1.0; 4096];
-        return inner::few_coefficients(
-            axes,
-            corners,
-            volume,
-            positions,
-            answers,
-            &mut room[..n],
-            mode,
-        );
+        return inner::few_coefficients(axes, corners, volume, positions, answers, &mut room[..n]);
     }
-    inner::many_coefficients(axes, corners, volume, positions, answers, mode)
+    inner::many_coefficients(axes, corners, volume, positions, answers)
 }

@@ -10,25 +10,24 @@ use Rattle.grid.specs.declared.Corners.{Corners}
 use Rattle.lookup.specs.declared.LightAt.{LightAt}
 use Rattle.lookup.specs.declared.CoefficientsAt.{CoefficientsAt}
 use Rattle.lookup.specs.declared.Cells.{Cells}
-use Rattle.lookup.specs.declared.Mode.{Mode}
 use Rattle.lookup.specs.Place.{cells_of, blended_of}
 use Rattle.lookup.specs.PlaceLaws.{blended_same}
 use Rattle.lookup.specs.Lookup.{light_refusal, light_blend, light_at_of, coefficient_refusal, coefficient_blend, no_numbers, coefficients_at_of, part_refusal, part_of}
 
-module _ (mode : Mode) (a : Axes) (c : Corners) (l : List Float) (p : Vec3) where
-  pub light_refused : (k : ℕ) → (k ≡ 0 → ⊥) → k ≡ light_refusal mode a c l p → ◌≡◌ {A = LightAt} (record { refusal = k; light = zero32 }) (light_at_of mode a c l p)
+module _ (a : Axes) (c : Corners) (l : List Float) (p : Vec3) where
+  pub light_refused : (k : ℕ) → (k ≡ 0 → ⊥) → k ≡ light_refusal a c l p → ◌≡◌ {A = LightAt} (record { refusal = k; light = zero32 }) (light_at_of a c l p)
   unfolding light_at_of
   light_refused k n e = rw (sym e) (ap₂ (λ (r : ℕ) (x : Float). record { refusal = r; light = x }) refl (kept k _ zero32 n))
 
-  pub light_found : (x : Float) → 0 ≡ light_refusal mode a c l p → x ≡ light_blend l (cells_of mode a c p) → ◌≡◌ {A = LightAt} (record { refusal = 0; light = x }) (light_at_of mode a c l p)
+  pub light_found : (x : Float) → 0 ≡ light_refusal a c l p → x ≡ light_blend l (cells_of a c p) → ◌≡◌ {A = LightAt} (record { refusal = 0; light = x }) (light_at_of a c l p)
   unfolding light_at_of
   light_found x e f = rw (sym e) (ap₂ (λ (r : ℕ) (y : Float). record { refusal = r; light = y }) refl (f ∙ given 0 _ zero32 refl))
 
-  pub coefficients_refused : (k : ℕ) → (k ≡ 0 → ⊥) → k ≡ coefficient_refusal mode a c l p → ◌≡◌ {A = CoefficientsAt} (record { refusal = k; numbers = no_numbers }) (coefficients_at_of mode a c l p)
+  pub coefficients_refused : (k : ℕ) → (k ≡ 0 → ⊥) → k ≡ coefficient_refusal a c l p → ◌≡◌ {A = CoefficientsAt} (record { refusal = k; numbers = no_numbers }) (coefficients_at_of a c l p)
   unfolding coefficients_at_of
   coefficients_refused k n e = rw (sym e) (ap₂ (λ (r : ℕ) (x : List Float). record { refusal = r; numbers = x }) refl (kept k _ no_numbers n))
 
-  pub coefficients_found : (x : List Float) → 0 ≡ coefficient_refusal mode a c l p → x ≡ coefficient_blend l (cells_of mode a c p) → ◌≡◌ {A = CoefficientsAt} (record { refusal = 0; numbers = x }) (coefficients_at_of mode a c l p)
+  pub coefficients_found : (x : List Float) → 0 ≡ coefficient_refusal a c l p → x ≡ coefficient_blend l (cells_of a c p) → ◌≡◌ {A = CoefficientsAt} (record { refusal = 0; numbers = x }) (coefficients_at_of a c l p)
   unfolding coefficients_at_of
   coefficients_found x e f = rw (sym e) (ap₂ (λ (r : ℕ) (y : List Float). record { refusal = r; numbers = y }) refl (f ∙ given 0 _ no_numbers refl))
 

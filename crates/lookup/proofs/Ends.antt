@@ -6,13 +6,13 @@ use lib.Ieee as Ieee
 use lib.Ieee.{Float, nan, inf, fin, up, down, lt, to_unsigned}
 use lib.Ieee.Fits.{down_pos}
 
-pub below_zero_lem : (x : Float) → lt (fin true 1 (pos 0)) x ≡ false → 0 ≡ to_unsigned 64 x
+pub below_zero : (x : Float) → lt (fin true 1 (pos 0)) x ≡ false → 0 ≡ to_unsigned 64 x
 unfolding lt to_unsigned
-below_zero_lem nan h = refl
-below_zero_lem (inf true) h = refl
-below_zero_lem (inf false) h = absurd (false≢true (sym h))
-below_zero_lem (fin true m e) h = refl
-below_zero_lem (fin false m e) h =
+below_zero nan h = refl
+below_zero (inf true) h = refl
+below_zero (inf false) h = absurd (false≢true (sym h))
+below_zero (fin true m e) h = refl
+below_zero (fin false m e) h =
     let p : 1 * up (pos 0) * down e + m * up e * down (pos 0) ≤ 0 = ltb-false 0 _ h in absurd (omega (arith, down_pos e))
 
 pub past_end : (x : Float) → lt (fin true 1 (pos 0)) x ≡ true → lt x (fin false 1 (pos 64)) ≡ false → 18446744073709551615 ≡ to_unsigned 64 x

@@ -1,10 +1,9 @@
--- Where the coordinate along each axis comes out whole the answer is that cell's value, in either mode: the same number, but
--- that a zero may lose its sign, as −0·1 + 0 is +0. The next cells are multiplied by 0, so they have to be finite, as row 13 asks of the cells read.
+-- At a cell's lower corner, where the coordinate along each axis comes out whole, the answer is that cell's value: the same number, but
+-- that a zero may lose its sign, as −0·1 + 0 is +0. The next cells are multiplied by 0, so they have to be finite, as row 13 asks.
 use Rattle.std.specs.Prelude.{◌≡◌, ℕ, zero, suc, ◌+◌, ◌-◌, ◌*◌, ◌%◌, ◌^◌, ◌<◌, ◌≤◌, Bool, true, false, ◌&&◌, T, leb, List, get_or, ℤ, pos, negsuc, ◌≢◌, nat_eq, nat_le, nat_lt, slice_index_or, Float}
 use Rattle.std.proofs.Math.Path.{refl}
 use Rattle.std.proofs.Common.{sym, ap, ◌∙◌, subst, mul-one, one-mul, zero-mul, mul-zero, add-zero, mul_assoc, sub-add_cancel, sub-le, lt_of_lt_of_le, lt_of_le_of_lt, mul-pos, mul-le-mul_left, mul-lt-mul_of_pos_right, zero-lt-suc, pow-suc, not-le_of_lt, arith, pow-add, pow_pos, pow_mono, leb-true, leb-false, eq-eqb, lt-ltb, le-ltb, eqb→eq, ltb→lt, leb→le}
 use Rattle.std.proofs.lemmas.Bool.{false≢true}
-use mathlib.Core.List.{Memᴰ}
 use Rattle.std.proofs.Math.Nat.{sub-zero, eq_of_mul-eq-mul_right}
 use Rattle.std.proofs.Math.Pow.{pow-lt}
 use Rattle.std.specs.Float.Ieee as Ieee
@@ -20,11 +19,10 @@ use Rattle.floats.specs.Whole.{floor_of, toward}
 use Rattle.vectors.specs.declared.Vec3.{Vec3}
 use Rattle.grid.specs.declared.Axes.{Axes}
 use Rattle.grid.specs.declared.Corners.{Corners}
-use Rattle.grid.specs.Grid.{index_of, float_of, edges_of, AxesWithin}
+use Rattle.grid.specs.Grid.{voxels, index_of, float_of, edges_of, AxesWithin}
 use Rattle.lookup.specs.declared.Cells.{Cells}
-use Rattle.lookup.specs.declared.Mode.{Mode}
-use Rattle.lookup.specs.Place.{clamped, clamped_cell, between_of, coordinate_of, coordinate_in, cells_from, cells_of, cells_read, blend_of, blended_of}
-use Rattle.lookup.specs.PlaceLaws.{clamped_same}
+use Rattle.lookup.specs.Place.{clamped, clamped_cell, between_of, coordinate_of, Inside, cells_from, cells_of, blend_of, blended_of}
+use Rattle.lookup.specs.PlaceLaws.{clamped_same, cells_read_inside}
 use Rattle.lookup.specs.Lookup.{light_blend, number_blend}
 
 -- ---- a float that fits is written in one way
@@ -215,29 +213,23 @@ blend_at_zero a b p q =
 
 -- ---- between eight cells, with three fractions of +0
 
--- what is plain at each cell read
-abbrev pub PlainAt : (ℕ → Float) → Cells → Type 0
-PlainAt f c = (i : ℕ) → Memᴰ i (cells_read c) → Plain (f i)
-
-pub blended_at_zero : (c : Cells) (f : ℕ → Float) → PlainAt f c → c.x ≡ zero32 → c.y ≡ zero32 → c.z ≡ zero32 → Kept (f c.c000) (blended_of c f)
+pub blended_at_zero : (n : ℕ) (c : Cells) (f : ℕ → Float)
+    → Inside n c
+    → ((i : ℕ) → i < n → Plain (f i))
+    → c.x ≡ zero32
+    → c.y ≡ zero32
+    → c.z ≡ zero32
+    → Kept (f c.c000) (blended_of c f)
 unfolding blended_of
-blended_at_zero c f p ex ey ez =
-    let p000 = p c.c000 (Memᴰ.head refl) in
-    let p100 = p c.c100 (Memᴰ.tail (Memᴰ.head refl)) in
-    let p010 = p c.c010 (Memᴰ.tail (Memᴰ.tail (Memᴰ.head refl))) in
-    let p110 = p c.c110 (Memᴰ.tail (Memᴰ.tail (Memᴰ.tail (Memᴰ.head refl)))) in
-    let p001 = p c.c001 (Memᴰ.tail (Memᴰ.tail (Memᴰ.tail (Memᴰ.tail (Memᴰ.head refl))))) in
-    let p101 = p c.c101 (Memᴰ.tail (Memᴰ.tail (Memᴰ.tail (Memᴰ.tail (Memᴰ.tail (Memᴰ.head refl)))))) in
-    let p011 = p c.c011 (Memᴰ.tail (Memᴰ.tail (Memᴰ.tail (Memᴰ.tail (Memᴰ.tail (Memᴰ.tail (Memᴰ.head refl))))))) in
-    let p111 = p c.c111 (Memᴰ.tail (Memᴰ.tail (Memᴰ.tail (Memᴰ.tail (Memᴰ.tail (Memᴰ.tail (Memᴰ.tail (Memᴰ.head refl)))))))) in
-    let a = blend_at_zero (f c.c000) (f c.c100) p000 p100 in
-    let b = blend_at_zero (f c.c010) (f c.c110) p010 p110 in
-    let d = blend_at_zero (f c.c001) (f c.c101) p001 p101 in
-    let e = blend_at_zero (f c.c011) (f c.c111) p011 p111 in
-    let pa = kept_plain p000 a in
-    let pd = kept_plain p001 d in
-    let low = blend_at_zero _ _ pa (kept_plain p010 b) in
-    let high = blend_at_zero _ _ pd (kept_plain p011 e) in
+blended_at_zero n c f h p ex ey ez =
+    let a = blend_at_zero (f c.c000) (f c.c100) (p _ h.c000) (p _ h.c100) in
+    let b = blend_at_zero (f c.c010) (f c.c110) (p _ h.c010) (p _ h.c110) in
+    let d = blend_at_zero (f c.c001) (f c.c101) (p _ h.c001) (p _ h.c101) in
+    let e = blend_at_zero (f c.c011) (f c.c111) (p _ h.c011) (p _ h.c111) in
+    let pa = kept_plain (p _ h.c000) a in
+    let pd = kept_plain (p _ h.c001) d in
+    let low = blend_at_zero _ _ pa (kept_plain (p _ h.c010) b) in
+    let high = blend_at_zero _ _ pd (kept_plain (p _ h.c011) e) in
     let all = blend_at_zero _ _ (kept_plain pa low) (kept_plain pd high) in
     rw (ex, ey, ez) (kept_trans a (kept_trans low all))
 
@@ -269,41 +261,32 @@ whole_between n k h l =
     let m : k < axis_limit = omega arith in
     rw (each (λ (j : ℕ). floor_of (float_of j)) float_of axis_limit k nan floors m, each (λ (j : ℕ). to_unsigned 64 (float_of j)) (λ (j : ℕ). j) axis_limit k 0 wholes m, each (λ (j : ℕ). Ieee.sub binary32 (float_of j) (float_of j)) (λ (j : ℕ). zero32) axis_limit k nan nothings m, clamped_same n k h)
 
--- ---- where the three coordinates come out whole, those of voxel (x, y, z): its lower corner or, in the other mode, its centre
+-- ---- the lower corner of voxel (x, y, z), where the three coordinates come out whole
 
-module _ (mode : Mode) (a : Axes) (c : Corners) (p : Vec3) (x y z : ℕ) (w : AxesWithin a) (hx : x < a.width) (hy : y < a.height) (hz : z < a.depth)
-    (ex : coordinate_in mode a.width (coordinate_of c.min.x (edges_of c a).x p.x) ≡ float_of x)
-    (ey : coordinate_in mode a.height (coordinate_of c.min.y (edges_of c a).y p.y) ≡ float_of y)
-    (ez : coordinate_in mode a.depth (coordinate_of c.min.z (edges_of c a).z p.z) ≡ float_of z) where
-  whole_cells : cells_of mode a c p
+module _ (a : Axes) (c : Corners) (p : Vec3) (x y z : ℕ) (w : AxesWithin a) (hx : x < a.width) (hy : y < a.height) (hz : z < a.depth)
+    (ex : coordinate_of c.min.x (edges_of c a).x p.x ≡ float_of x)
+    (ey : coordinate_of c.min.y (edges_of c a).y p.y ≡ float_of y)
+    (ez : coordinate_of c.min.z (edges_of c a).z p.z ≡ float_of z) where
+  corner_cells : cells_of a c p
       ≡ cells_from a (record { cell = x; next = clamped a.width (x + 1); fraction = zero32 })
       (record { cell = y; next = clamped a.height (y + 1); fraction = zero32 })
       (record { cell = z; next = clamped a.depth (z + 1); fraction = zero32 })
   unfolding cells_of
-  whole_cells =
+  corner_cells =
       rw (ex, ey, ez, whole_between a.width x hx w.widest, whole_between a.height y hy w.highest, whole_between a.depth z hz w.deepest)
 
-  at_whole : (f : ℕ → Float) → PlainAt f (cells_of mode a c p) → Kept (f (index_of a x y z)) (blended_of (cells_of mode a c p) f)
+  at_corner : (f : ℕ → Float) → ((i : ℕ) → i < voxels a → Plain (f i)) → Kept (f (index_of a x y z)) (blended_of (cells_of a c p) f)
   unfolding cells_from
-  at_whole f h = let q = rw whole_cells at h in rw whole_cells (blended_at_zero _ f q refl refl refl)
-
-  equal_at_whole : (f : ℕ → Float) → PlainAt f (cells_of mode a c p) → eq (blended_of (cells_of mode a c p) f) (f (index_of a x y z)) ≡ true
-  unfolding cells_from
-  equal_at_whole f h = let q = rw whole_cells at h in kept_equal (q (index_of a x y z) (Memᴰ.head refl)) (at_whole f h)
+  at_corner f h =
+      let i = rw corner_cells at (cells_read_inside a c p w) in
+      rw corner_cells (blended_at_zero (voxels a) _ f i h refl refl refl)
 
   -- the light of that voxel
-  pub light_at_whole : (light : List Float) → PlainAt (λ i. get_or light i nan) (cells_of mode a c p) → Kept (slice_index_or light (index_of a x y z) nan) (light_blend light (cells_of mode a c p))
-  light_at_whole light h = at_whole (λ (i : ℕ). get_or light i nan) h
+  pub light_at_corner : (light : List Float) → ((i : ℕ) → i < voxels a → Plain (slice_index_or light i nan)) → Kept (slice_index_or light (index_of a x y z) nan) (light_blend light (cells_of a c p))
+  light_at_corner light h = at_corner (λ (i : ℕ). get_or light i nan) h
 
   -- each of the sixteen numbers of that voxel
-  pub number_at_whole : (volume : List Float) (k : ℕ) → PlainAt (λ i. get_or volume (i * 16 + k) nan) (cells_of mode a c p)
-      → Kept (slice_index_or volume (index_of a x y z * 16 + k) nan) (number_blend volume (cells_of mode a c p) k)
-  number_at_whole volume k h = at_whole (λ (i : ℕ). get_or volume (i * 16 + k) nan) h
-
-  -- the same number, as IEEE compares
-  pub light_equal_at_whole : (light : List Float) → PlainAt (λ i. get_or light i nan) (cells_of mode a c p) → eq (light_blend light (cells_of mode a c p)) (slice_index_or light (index_of a x y z) nan) ≡ true
-  light_equal_at_whole light h = equal_at_whole (λ (i : ℕ). get_or light i nan) h
-
-  pub number_equal_at_whole : (volume : List Float) (k : ℕ) → PlainAt (λ i. get_or volume (i * 16 + k) nan) (cells_of mode a c p)
-      → eq (number_blend volume (cells_of mode a c p) k) (slice_index_or volume (index_of a x y z * 16 + k) nan) ≡ true
-  number_equal_at_whole volume k h = equal_at_whole (λ (i : ℕ). get_or volume (i * 16 + k) nan) h
+  pub number_at_corner : (volume : List Float) (k : ℕ)
+      → ((i : ℕ) → i < voxels a → Plain (slice_index_or volume (i * 16 + k) nan))
+      → Kept (slice_index_or volume (index_of a x y z * 16 + k) nan) (number_blend volume (cells_of a c p) k)
+  number_at_corner volume k h = at_corner (λ (i : ℕ). get_or volume (i * 16 + k) nan) h

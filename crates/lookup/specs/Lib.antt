@@ -4,5 +4,4 @@ pub mod Lookup
 pub mod PlaceLaws
 pub mod LookupLaws
 pub mod BlendLaws
-pub mod CentreLaws
 pub mod LookupFigures

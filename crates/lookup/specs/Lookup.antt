@@ -1,5 +1,5 @@
 -- The public lookups: what each answers, and what it refuses. Tested are 1, 2, 3, 11 and then 13, of the eight cells read and no
--- others; for one voxel's part 1, 3 and 11. Each lookup takes a mode, which says where a cell's value stands. On a refusal every number of the answer is zero, and a part is empty. Assumes nothing.
+-- others; for one voxel's part 1, 3 and 11. On a refusal every number of the answer is zero, and a part is empty. Assumes nothing.
 use Rattle.std.specs.Prelude.{◌≡◌, ℕ, ◌+◌, ◌*◌, Bool, cond, ◌||◌, List, [], ◌∷◌, length, get_or, replicate, slice_index_or, Float}
 use Rattle.std.proofs.Common.{sym, ◌∙◌}
 use Rattle.std.specs.Float.{nan}
@@ -17,7 +17,6 @@ use Rattle.limits.specs.Limits.{outside, bad_axes, bad_grid, wrong_length, bad_p
 use Rattle.lookup.specs.declared.LightAt.{LightAt}
 use Rattle.lookup.specs.declared.CoefficientsAt.{CoefficientsAt}
 use Rattle.lookup.specs.declared.Cells.{Cells}
-use Rattle.lookup.specs.declared.Mode.{Mode}
 use Rattle.lookup.specs.Place.{cells_of, cells_read, blended_of}
 
 -- ---- light at a position
@@ -26,27 +25,27 @@ use Rattle.lookup.specs.Place.{cells_of, cells_read, blended_of}
 unfoldable pub bad_light_cells : List Float → Cells → Bool
 bad_light_cells light c = some (λ (i : ℕ). outside light_limit (slice_index_or light i nan)) (cells_read c)
 
-abbrev pub light_rows : Mode → Axes → Corners → List Float → Vec3 → List Row
-light_rows m a c light p =
+abbrev pub light_rows : Axes → Corners → List Float → Vec3 → List Row
+light_rows a c light p =
     row 1 (bad_axes a)
     ∷ row 2 (bad_grid c a)
     ∷ row 3 (wrong_length (length light) (voxels a))
     ∷ row 11 (bad_position p)
-    ∷ row 13 (bad_light_cells light (cells_of m a c p))
+    ∷ row 13 (bad_light_cells light (cells_of a c p))
     ∷ []
 
-abbrev pub light_refusal : Mode → Axes → Corners → List Float → Vec3 → ℕ
-light_refusal m a c light p = first_of (light_rows m a c light p)
+abbrev pub light_refusal : Axes → Corners → List Float → Vec3 → ℕ
+light_refusal a c light p = first_of (light_rows a c light p)
 
 -- what stands between the eight lights
 abbrev pub light_blend : List Float → Cells → Float
 light_blend light c = blended_of c (λ (i : ℕ). get_or light i nan)
 
-unfoldable pub light_at_of : Mode → Axes → Corners → List Float → Vec3 → LightAt
-light_at_of m a c light p =
+unfoldable pub light_at_of : Axes → Corners → List Float → Vec3 → LightAt
+light_at_of a c light p =
     record {
-      refusal = light_refusal m a c light p;
-      light = unless_refused (light_refusal m a c light p) (light_blend light (cells_of m a c p)) zero32;
+      refusal = light_refusal a c light p;
+      light = unless_refused (light_refusal a c light p) (light_blend light (cells_of a c p)) zero32;
     }
 
 -- ---- the four coefficients at a position, sixteen numbers
@@ -55,17 +54,17 @@ light_at_of m a c light p =
 unfoldable pub bad_volume_cells : List Float → Cells → Bool
 bad_volume_cells volume c = some (λ (i : ℕ). bad_coefficients (voxel_part 16 i volume)) (cells_read c)
 
-abbrev pub coefficient_rows : Mode → Axes → Corners → List Float → Vec3 → List Row
-coefficient_rows m a c volume p =
+abbrev pub coefficient_rows : Axes → Corners → List Float → Vec3 → List Row
+coefficient_rows a c volume p =
     row 1 (bad_axes a)
     ∷ row 2 (bad_grid c a)
     ∷ row 3 (wrong_length (length volume) (voxels a * 16))
     ∷ row 11 (bad_position p)
-    ∷ row 13 (bad_volume_cells volume (cells_of m a c p))
+    ∷ row 13 (bad_volume_cells volume (cells_of a c p))
     ∷ []
 
-abbrev pub coefficient_refusal : Mode → Axes → Corners → List Float → Vec3 → ℕ
-coefficient_refusal m a c volume p = first_of (coefficient_rows m a c volume p)
+abbrev pub coefficient_refusal : Axes → Corners → List Float → Vec3 → ℕ
+coefficient_refusal a c volume p = first_of (coefficient_rows a c volume p)
 
 -- what stands between the eight numbers at place k of sixteen
 abbrev pub number_blend : List Float → Cells → ℕ → Float
@@ -77,11 +76,11 @@ coefficient_blend volume c = tab (number_blend volume c) 16 0
 abbrev pub no_numbers : List Float
 no_numbers = replicate 16 zero32
 
-unfoldable pub coefficients_at_of : Mode → Axes → Corners → List Float → Vec3 → CoefficientsAt
-coefficients_at_of m a c volume p =
+unfoldable pub coefficients_at_of : Axes → Corners → List Float → Vec3 → CoefficientsAt
+coefficients_at_of a c volume p =
     record {
-      refusal = coefficient_refusal m a c volume p;
-      numbers = unless_refused (coefficient_refusal m a c volume p) (coefficient_blend volume (cells_of m a c p)) no_numbers;
+      refusal = coefficient_refusal a c volume p;
+      numbers = unless_refused (coefficient_refusal a c volume p) (coefficient_blend volume (cells_of a c p)) no_numbers;
     }
 
 -- ---- one voxel's part, of the volume or, where `unblurred` is true, of scratch
@@ -102,11 +101,11 @@ part_of a volume scratch index unblurred =
 
 -- ---- the contracts
 
-pub record LightLookedUp (m : Mode) (a : Axes) (c : Corners) (light : List Float) (p : Vec3) (r : LightAt) : Type 0 where
-  pub answer : r ≡ light_at_of m a c light p
+pub record LightLookedUp (a : Axes) (c : Corners) (light : List Float) (p : Vec3) (r : LightAt) : Type 0 where
+  pub answer : r ≡ light_at_of a c light p
 
-pub record CoefficientsLookedUp (m : Mode) (a : Axes) (c : Corners) (volume : List Float) (p : Vec3) (r : CoefficientsAt) : Type 0 where
-  pub answer : r ≡ coefficients_at_of m a c volume p
+pub record CoefficientsLookedUp (a : Axes) (c : Corners) (volume : List Float) (p : Vec3) (r : CoefficientsAt) : Type 0 where
+  pub answer : r ≡ coefficients_at_of a c volume p
 
 pub record PartLent (a : Axes) (volume scratch : List Float) (index : ℕ) (unblurred : Bool) (r : List Float) : Type 0 where
   pub part : r ≡ part_of a volume scratch index unblurred
@@ -116,10 +115,10 @@ pub record PartJudged (a : Axes) (volume scratch : List Float) (index : ℕ) (un
 
 -- two results that satisfy one are equal
 
-pub one_light : {m : Mode} {a : Axes} {c : Corners} {light : List Float} {p : Vec3} {r s : LightAt} → LightLookedUp m a c light p r → LightLookedUp m a c light p s → r ≡ s
+pub one_light : {a : Axes} {c : Corners} {light : List Float} {p : Vec3} {r s : LightAt} → LightLookedUp a c light p r → LightLookedUp a c light p s → r ≡ s
 one_light h k = h.answer ∙ sym k.answer
 
-pub one_coefficients : {m : Mode} {a : Axes} {c : Corners} {volume : List Float} {p : Vec3} {r s : CoefficientsAt} → CoefficientsLookedUp m a c volume p r → CoefficientsLookedUp m a c volume p s → r ≡ s
+pub one_coefficients : {a : Axes} {c : Corners} {volume : List Float} {p : Vec3} {r s : CoefficientsAt} → CoefficientsLookedUp a c volume p r → CoefficientsLookedUp a c volume p s → r ≡ s
 one_coefficients h k = h.answer ∙ sym k.answer
 
 pub one_part : {a : Axes} {volume scratch : List Float} {index : ℕ} {unblurred : Bool} {r s : List Float} → PartLent a volume scratch index unblurred r → PartLent a volume scratch index unblurred s → r ≡ s

@@ -2,11 +2,10 @@
 -- 0 to 1, y=z=0, light 0, 1: x=−.25 gives .75, .5 gives .5, 1.75 gives 1. They are also inputs that are accepted.
 use Rattle.std.specs.Prelude.{◌≡◌, ℕ, Bool, true, false, List, [], ◌∷◌, ◌++◌, map, replicate, refl, Float}
 use Rattle.std.specs.Float.{nan}
-use Rattle.std.specs.Float.Ieee.{is_nan, of_bits, neg, add, sub, mul, div, lt, le, eq, of_int, to_unsigned}
+use Rattle.std.specs.Float.Ieee.{of_bits, neg, add, sub, mul, div, lt, le, eq, of_int, to_unsigned}
 use Rattle.names.specs.Bits.{lit, zero32, one32, two32, half32}
 use Rattle.names.specs.Refusals.{first_of, unless_refused}
 use Rattle.lists.specs.Fold.{tab}
-use Rattle.floats.specs.Choice.{larger_of, smaller_of}
 use Rattle.floats.specs.Whole.{toward}
 use Rattle.vectors.specs.Vectors.{vec}
 use Rattle.grid.specs.declared.Axes.{Axes}
@@ -16,9 +15,7 @@ use Rattle.lists.specs.Some.{some}
 use Rattle.limits.specs.Limits.{within, outside_v, bad_axes, bad_corners, bad_edges, bad_coefficients}
 use Rattle.lookup.specs.declared.LightAt.{LightAt}
 use Rattle.lookup.specs.declared.CoefficientsAt.{CoefficientsAt}
-use Rattle.lookup.specs.declared.Mode.{Mode}
-use Rattle.lookup.specs.declared.Mode.TheVariants.{Corner, Centre}
-use Rattle.lookup.specs.Place.{clamped, clamped_cell, between_of, coordinate_in, cells_from, cells_of, blend_of, blended_of}
+use Rattle.lookup.specs.Place.{clamped, clamped_cell, between_of, cells_from, cells_of, blend_of, blended_of}
 use Rattle.lookup.specs.Lookup.{bad_light_cells, light_at_of, bad_volume_cells, coefficient_blend, coefficients_at_of, part_of}
 
 abbrev figure_axes : Axes
@@ -28,53 +25,34 @@ abbrev figure_corners : Corners
 figure_corners = record { min = vec zero32 zero32 zero32; max = vec two32 one32 one32 }
 
 abbrev light_figure : ℕ → LightAt
-light_figure x = light_at_of Corner figure_axes figure_corners (zero32 ∷ one32 ∷ []) (vec (lit x) zero32 zero32)
+light_figure x = light_at_of figure_axes figure_corners (zero32 ∷ one32 ∷ []) (vec (lit x) zero32 zero32)
 
 abbrev found : ℕ → LightAt
 found bits = record { refusal = 0; light = lit bits }
 
 pub light_figures_lem : map light_figure (0xbe800000 ∷ 0x3f000000 ∷ 0x3fe00000 ∷ []) ≡ found 0x3f400000 ∷ found 0x3f000000 ∷ found 0x3f800000 ∷ []
-unfolding light_at_of bad_light_cells cells_of cells_from coordinate_in between_of clamped_cell clamped blended_of blend_of edges_of bad_axes bad_corners bad_edges outside_v within some first_of unless_refused toward of_bits neg add sub mul div lt le eq of_int to_unsigned
+unfolding light_at_of bad_light_cells cells_of cells_from between_of clamped_cell clamped blended_of blend_of edges_of bad_axes bad_corners bad_edges outside_v within some first_of unless_refused toward of_bits neg add sub mul div lt le eq of_int to_unsigned
 light_figures_lem = refl
 
 -- just below the grid, at x=−1e-9, the fraction rounds to 1 and the next cell answers alone
 pub just_below : light_figure 0xb089705f ≡ found 0x3f800000
-unfolding light_at_of bad_light_cells cells_of cells_from coordinate_in between_of clamped_cell clamped blended_of blend_of edges_of bad_axes bad_corners bad_edges outside_v within some first_of unless_refused toward of_bits neg add sub mul div lt le eq of_int to_unsigned
+unfolding light_at_of bad_light_cells cells_of cells_from between_of clamped_cell clamped blended_of blend_of edges_of bad_axes bad_corners bad_edges outside_v within some first_of unless_refused toward of_bits neg add sub mul div lt le eq of_int to_unsigned
 just_below = refl
-
--- C-15's figures, the same lights at the cells' centres: x=.5 gives cell 0, 1 the half, 1.5 cell 1, −3 cell 0, 5 cell 1; and so does each of the sixteen numbers below
-abbrev centre_figure : ℕ → LightAt
-centre_figure x = light_at_of Centre figure_axes figure_corners (zero32 ∷ one32 ∷ []) (vec (lit x) zero32 zero32)
-
-pub centre_figures : map centre_figure (0x3f000000 ∷ 0x3f800000 ∷ 0x3fc00000 ∷ 0xc0400000 ∷ 0x40a00000 ∷ []) ≡ map found (0 ∷ 0x3f000000 ∷ 0x3f800000 ∷ 0 ∷ 0x3f800000 ∷ [])
-unfolding light_at_of bad_light_cells cells_of cells_from coordinate_in between_of clamped_cell clamped blended_of blend_of edges_of bad_axes bad_corners bad_edges outside_v within some first_of unless_refused toward larger_of smaller_of is_nan of_bits neg add sub mul div lt le eq of_int to_unsigned
-centre_figures = refl
 
 -- 13 is given for the cells read and no others: of three lights the last is NaN, and only the second position reads it
 abbrev three_lights : ℕ → LightAt
 three_lights x =
-    light_at_of Corner (record { width = 3; height = 1; depth = 1 }) (record { min = vec zero32 zero32 zero32; max = vec (lit 0x40400000) one32 one32 })
+    light_at_of (record { width = 3; height = 1; depth = 1 }) (record { min = vec zero32 zero32 zero32; max = vec (lit 0x40400000) one32 one32 })
     (zero32 ∷ one32 ∷ nan ∷ [])
     (vec (lit x) zero32 zero32)
 
 pub read_only : map three_lights (0x3f000000 ∷ 0x3fc00000 ∷ []) ≡ found 0x3f000000 ∷ record { refusal = 13; light = zero32 } ∷ []
-unfolding light_at_of bad_light_cells cells_of cells_from coordinate_in between_of clamped_cell clamped blended_of blend_of edges_of bad_axes bad_corners bad_edges outside_v within some first_of unless_refused toward of_bits neg add sub mul div lt le eq of_int to_unsigned
+unfolding light_at_of bad_light_cells cells_of cells_from between_of clamped_cell clamped blended_of blend_of edges_of bad_axes bad_corners bad_edges outside_v within some first_of unless_refused toward of_bits neg add sub mul div lt le eq of_int to_unsigned
 read_only = refl
-
--- and of those that the mode reads: of four lights the third is NaN; x=1.25 reads it in the corner's mode alone, x=3.125 in the centre's alone
-abbrev third_bad : Mode → ℕ → ℕ
-third_bad mode x =
-    (light_at_of mode (record { width = 4; height = 1; depth = 1 }) (record { min = vec zero32 zero32 zero32; max = vec (lit 0x40800000) one32 one32 })
-    (zero32 ∷ one32 ∷ nan ∷ one32 ∷ [])
-    (vec (lit x) zero32 zero32)).refusal
-
-pub read_by_mode : map (third_bad Corner) (0x3fa00000 ∷ 0x40480000 ∷ []) ++ map (third_bad Centre) (0x3fa00000 ∷ 0x40480000 ∷ []) ≡ 13 ∷ 0 ∷ 0 ∷ 13 ∷ []
-unfolding light_at_of bad_light_cells cells_of cells_from coordinate_in between_of clamped_cell clamped blended_of blend_of edges_of bad_axes bad_corners bad_edges outside_v within some first_of unless_refused toward larger_of smaller_of is_nan of_bits neg add sub mul div lt le eq of_int to_unsigned
-read_by_mode = refl
 
 -- the other refusals, lowest first: an axis of 129 (with a light list that is wrong too), a flat grid, a light too many, a position past 4,096
 abbrev refused_light : Axes → Corners → List Float → ℕ → ℕ
-refused_light a c light x = (light_at_of Corner a c light (vec (lit x) zero32 zero32)).refusal
+refused_light a c light x = (light_at_of a c light (vec (lit x) zero32 zero32)).refusal
 
 pub light_refusals : refused_light (record { width = 129; height = 1; depth = 1 }) figure_corners [] 0
     ∷ refused_light figure_axes (record { min = vec zero32 zero32 zero32; max = vec zero32 one32 one32 }) [] 0
@@ -82,30 +60,20 @@ pub light_refusals : refused_light (record { width = 129; height = 1; depth = 1 
     ∷ refused_light figure_axes figure_corners (zero32 ∷ nan ∷ []) 0x45800001
     ∷ []
     ≡ 1 ∷ 2 ∷ 3 ∷ 11 ∷ []
-unfolding light_at_of bad_light_cells cells_of cells_from coordinate_in between_of clamped_cell clamped blended_of blend_of edges_of bad_axes bad_corners bad_edges outside_v within some first_of unless_refused toward of_bits neg add sub mul div lt le eq of_int to_unsigned
+unfolding light_at_of bad_light_cells cells_of cells_from between_of clamped_cell clamped blended_of blend_of edges_of bad_axes bad_corners bad_edges outside_v within some first_of unless_refused toward of_bits neg add sub mul div lt le eq of_int to_unsigned
 light_refusals = refl
 
 -- the four coefficients, all 0 in one voxel and all 1 in the other: each of the sixteen numbers is the light's figure
 abbrev coefficient_figure : ℕ → CoefficientsAt
-coefficient_figure x = coefficients_at_of Corner figure_axes figure_corners (replicate 16 zero32 ++ replicate 16 one32) (vec (lit x) zero32 zero32)
+coefficient_figure x = coefficients_at_of figure_axes figure_corners (replicate 16 zero32 ++ replicate 16 one32) (vec (lit x) zero32 zero32)
 
 pub coefficient_figures : map coefficient_figure (0xbe800000 ∷ 0x3f000000 ∷ 0x3fe00000 ∷ [])
     ≡ record { refusal = 0; numbers = replicate 16 (lit 0x3f400000) }
     ∷ record { refusal = 0; numbers = replicate 16 (lit 0x3f000000) }
     ∷ record { refusal = 0; numbers = replicate 16 (lit 0x3f800000) }
     ∷ []
-unfolding coefficients_at_of coefficient_blend bad_volume_cells bad_coefficients tab cells_of cells_from coordinate_in between_of clamped_cell clamped blended_of blend_of edges_of bad_axes bad_corners bad_edges outside_v within some first_of unless_refused toward of_bits neg add sub mul div lt le eq of_int to_unsigned
+unfolding coefficients_at_of coefficient_blend bad_volume_cells bad_coefficients tab cells_of cells_from between_of clamped_cell clamped blended_of blend_of edges_of bad_axes bad_corners bad_edges outside_v within some first_of unless_refused toward of_bits neg add sub mul div lt le eq of_int to_unsigned
 coefficient_figures = refl
-
-abbrev centred_coefficients : ℕ → CoefficientsAt
-centred_coefficients x = coefficients_at_of Centre figure_axes figure_corners (replicate 16 zero32 ++ replicate 16 one32) (vec (lit x) zero32 zero32)
-
-abbrev alike : ℕ → CoefficientsAt
-alike bits = record { refusal = 0; numbers = replicate 16 (lit bits) }
-
-pub centred_coefficients_lem : map centred_coefficients (0x3f000000 ∷ 0x3f800000 ∷ 0x3fc00000 ∷ 0xc0400000 ∷ 0x40a00000 ∷ []) ≡ map alike (0 ∷ 0x3f000000 ∷ 0x3f800000 ∷ 0 ∷ 0x3f800000 ∷ [])
-unfolding coefficients_at_of coefficient_blend bad_volume_cells bad_coefficients tab cells_of cells_from coordinate_in between_of clamped_cell clamped blended_of blend_of edges_of bad_axes bad_corners bad_edges outside_v within some first_of unless_refused toward larger_of smaller_of is_nan of_bits neg add sub mul div lt le eq of_int to_unsigned
-centred_coefficients_lem = refl
 
 -- voxel 1 of two, of the volume and of scratch; voxel 2 is past the grid
 abbrev part_figure : ℕ → Bool → List Float

@@ -11,7 +11,6 @@ use Rattle.lists.specs.Some.{some}
 use Rattle.lists.specs.Laid.{voxel_part}
 use Rattle.limits.specs.Limits.{outside, bad_coefficients}
 use Rattle.lookup.specs.declared.Cells.{Cells}
-use Rattle.lookup.specs.declared.Mode.{Mode}
 use Rattle.lookup.specs.declared.LightAt.{LightAt}
 use Rattle.lookup.specs.declared.CoefficientsAt.{CoefficientsAt}
 use Rattle.lookup.specs.Place.{cells_of, cells_read, blended_of}
@@ -27,17 +26,17 @@ use Rattle.lookup.specs.Lookup.{bad_light_cells, light_rows, light_at_of, bad_vo
 
 -- ---- the refusals
 
-pub light_refused_by : (mode : Mode) (a : Axes) (c : Corners) (light : List Float) (p : Vec3) (r : LightAt)
-    → LightLookedUp mode a c light p r → RefusedBy (light_rows mode a c light p) r.refusal
+pub light_refused_by : (a : Axes) (c : Corners) (light : List Float) (p : Vec3) (r : LightAt)
+    → LightLookedUp a c light p r → RefusedBy (light_rows a c light p) r.refusal
 unfolding light_at_of
-light_refused_by mode a c light p r h =
-    refused_by (light_rows mode a c light p) r.refusal (omega arith, (omega arith, (omega arith, (omega arith, (omega arith, tt))))) (ap (λ (x : LightAt). x.refusal) h.answer)
+light_refused_by a c light p r h =
+    refused_by (light_rows a c light p) r.refusal (omega arith, (omega arith, (omega arith, (omega arith, (omega arith, tt))))) (ap (λ (x : LightAt). x.refusal) h.answer)
 
-pub coefficients_refused_by : (mode : Mode) (a : Axes) (c : Corners) (volume : List Float) (p : Vec3) (r : CoefficientsAt)
-    → CoefficientsLookedUp mode a c volume p r → RefusedBy (coefficient_rows mode a c volume p) r.refusal
+pub coefficients_refused_by : (a : Axes) (c : Corners) (volume : List Float) (p : Vec3) (r : CoefficientsAt)
+    → CoefficientsLookedUp a c volume p r → RefusedBy (coefficient_rows a c volume p) r.refusal
 unfolding coefficients_at_of
-coefficients_refused_by mode a c volume p r h =
-    refused_by (coefficient_rows mode a c volume p) r.refusal (omega arith, (omega arith, (omega arith, (omega arith, (omega arith, tt))))) (ap (λ (x : CoefficientsAt). x.refusal) h.answer)
+coefficients_refused_by a c volume p r h =
+    refused_by (coefficient_rows a c volume p) r.refusal (omega arith, (omega arith, (omega arith, (omega arith, (omega arith, tt))))) (ap (λ (x : CoefficientsAt). x.refusal) h.answer)
 
 numbered : (a : Axes) (volume scratch : List Float) (index : ℕ) (unblurred : Bool) → Numbered (part_rows a volume scratch index unblurred)
 numbered a volume scratch index unblurred = (omega arith, (omega arith, (omega arith, tt)))
@@ -78,12 +77,12 @@ bad_same : (c : Cells) (l m : List Float) → ((i : ℕ) → Memᴰ i (cells_rea
 unfolding bad_light_cells
 bad_same c l m e = some_same _ _ (cells_read c) (λ i h. ap (outside light_limit) (e i h))
 
-pub light_reads_only : (mode : Mode) (a : Axes) (c : Corners) (l m : List Float) (p : Vec3) → length l ≡ length m
-    → ((i : ℕ) → Memᴰ i (cells_read (cells_of mode a c p)) → slice_index_or l i nan ≡ slice_index_or m i nan)
-    → light_at_of mode a c l p ≡ light_at_of mode a c m p
+pub light_reads_only : (a : Axes) (c : Corners) (l m : List Float) (p : Vec3) → length l ≡ length m
+    → ((i : ℕ) → Memᴰ i (cells_read (cells_of a c p)) → slice_index_or l i nan ≡ slice_index_or m i nan)
+    → light_at_of a c l p ≡ light_at_of a c m p
 unfolding light_at_of
-light_reads_only mode a c l m p e r =
-    rw (e, bad_same (cells_of mode a c p) l m r, blend_same (cells_of mode a c p) (λ (i : ℕ). get_or l i nan) (λ (i : ℕ). get_or m i nan) r)
+light_reads_only a c l m p e r =
+    rw (e, bad_same (cells_of a c p) l m r, blend_same (cells_of a c p) (λ (i : ℕ). get_or l i nan) (λ (i : ℕ). get_or m i nan) r)
 
 bad_volume_same : (c : Cells) (l m : List Float) → ((i : ℕ) → Memᴰ i (cells_read c) → voxel_part 16 i l ≡ voxel_part 16 i m) → bad_volume_cells l c ≡ bad_volume_cells m c
 unfolding bad_volume_cells
@@ -95,12 +94,12 @@ numbers_same c l m e =
     tab_same (number_blend l c) (number_blend m c) 16 0
     (λ k p q. blend_same c (λ (i : ℕ). get_or l (i * 16 + k) nan) (λ (i : ℕ). get_or m (i * 16 + k) nan) (λ i h. in_sixteen l m i k (omega arith) (e i h)))
 
-pub coefficients_read_only : (mode : Mode) (a : Axes) (c : Corners) (l m : List Float) (p : Vec3) → length l ≡ length m
-    → ((i : ℕ) → Memᴰ i (cells_read (cells_of mode a c p)) → voxel_part 16 i l ≡ voxel_part 16 i m)
-    → coefficients_at_of mode a c l p ≡ coefficients_at_of mode a c m p
+pub coefficients_read_only : (a : Axes) (c : Corners) (l m : List Float) (p : Vec3) → length l ≡ length m
+    → ((i : ℕ) → Memᴰ i (cells_read (cells_of a c p)) → voxel_part 16 i l ≡ voxel_part 16 i m)
+    → coefficients_at_of a c l p ≡ coefficients_at_of a c m p
 unfolding coefficients_at_of
-coefficients_read_only mode a c l m p e r =
-    rw (e, bad_volume_same (cells_of mode a c p) l m r, numbers_same (cells_of mode a c p) l m r)
+coefficients_read_only a c l m p e r =
+    rw (e, bad_volume_same (cells_of a c p) l m r, numbers_same (cells_of a c p) l m r)
 
 -- ---- one voxel's part
 

@@ -1,19 +1,16 @@
--- Where a position lies among the cells. Along an axis f = (pos − min) / edge. Where a cell's value stands at its lower corner, f's floor gives the cell,
--- clamped, the next cell is that one's, clamped, and the fraction is f − floor, unclamped. Where it stands at the centre (C-15) the same is done with f less
--- 0.5, clamped to 0..axis−1. Eight cells surround a position; between them the blend goes along x, then y, then z. Assumes nothing.
+-- Where a position lies among the cells. A cell's value stands at its lower corner: along an axis f = (pos − min) / edge, its floor
+-- gives the cell, clamped, the next cell is that one's, clamped, and the fraction is f − floor, unclamped. Eight cells surround a
+-- position; between them the blend goes along x, then y, then z. Assumes nothing.
 use Rattle.std.specs.Prelude.{◌≡◌, ℕ, ◌+◌, ◌-◌, ◌*◌, ◌<◌, cond, List, [], ◌∷◌, nat_lt, Float}
 use Rattle.std.specs.Float.Ieee as Ieee
 use Rattle.std.specs.Float.{binary32}
 use Rattle.std.specs.Float.Ieee.{to_unsigned}
-use Rattle.names.specs.Bits.{zero32, half32, one32}
-use Rattle.floats.specs.Choice.{larger_of, smaller_of}
+use Rattle.names.specs.Bits.{one32}
 use Rattle.floats.specs.Whole.{floor_of}
 use Rattle.vectors.specs.declared.Vec3.{Vec3}
 use Rattle.grid.specs.declared.Axes.{Axes}
 use Rattle.grid.specs.declared.Corners.{Corners}
-use Rattle.grid.specs.Grid.{voxels, index_of, float_of, edges_of}
-use Rattle.lookup.specs.declared.Mode.{Mode}
-use Rattle.lookup.specs.declared.Mode.TheVariants.{Corner, Centre}
+use Rattle.grid.specs.Grid.{voxels, index_of, edges_of}
 use Rattle.lookup.specs.declared.Between.{Between}
 use Rattle.lookup.specs.declared.Cells.{Cells}
 
@@ -42,15 +39,6 @@ pub record Placed (n : ℕ) (f : Float) (b : Between) : Type 0 where
 abbrev pub coordinate_of : Float → Float → Float → Float
 coordinate_of low edge pos = Ieee.div binary32 (Ieee.sub binary32 pos low) edge
 
--- the coordinate among n cells by where a cell's value stands. "coordinate less 0.5, then clamped to 0..axis−1 before floor and fraction"
-unfoldable pub coordinate_in : Mode → ℕ → Float → Float
-coordinate_in Corner n f = f
-coordinate_in Centre n f = smaller_of (larger_of (Ieee.sub binary32 f half32) zero32) (float_of (n - 1))
-
--- from a coordinate to its cell, the next and the fraction, in either mode
-abbrev pub place_in : Mode → ℕ → Float → Between
-place_in m n f = between_of n (coordinate_in m n f)
-
 -- ---- the eight cells around a position
 
 -- the eight cells from three places, and the three fractions: x first, then y, then z
@@ -70,11 +58,11 @@ cells_from a x y z =
       z = z.fraction;
     }
 
-unfoldable pub cells_of : Mode → Axes → Corners → Vec3 → Cells
-cells_of m a c p =
-    cells_from a (place_in m a.width (coordinate_of c.min.x (edges_of c a).x p.x))
-    (place_in m a.height (coordinate_of c.min.y (edges_of c a).y p.y))
-    (place_in m a.depth (coordinate_of c.min.z (edges_of c a).z p.z))
+unfoldable pub cells_of : Axes → Corners → Vec3 → Cells
+cells_of a c p =
+    cells_from a (between_of a.width (coordinate_of c.min.x (edges_of c a).x p.x))
+    (between_of a.height (coordinate_of c.min.y (edges_of c a).y p.y))
+    (between_of a.depth (coordinate_of c.min.z (edges_of c a).z p.z))
 
 -- three places lie within the axes
 pub record Along (a : Axes) (bx by bz : Between) : Type 0 where
@@ -97,8 +85,8 @@ pub record Inside (n : ℕ) (c : Cells) : Type 0 where
   pub c111 : c.c111 < n
 
 -- what the cells of a position are, and that they lie in the grid
-pub record CellsFound (m : Mode) (a : Axes) (c : Corners) (p : Vec3) (r : Cells) : Type 0 where
-  pub same : r ≡ cells_of m a c p
+pub record CellsFound (a : Axes) (c : Corners) (p : Vec3) (r : Cells) : Type 0 where
+  pub same : r ≡ cells_of a c p
   pub inside : Inside (voxels a) r
 
 -- the cells read

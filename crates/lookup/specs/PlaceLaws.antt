@@ -24,7 +24,6 @@ use Rattle.grid.specs.GridLaws.{index_within_lem}
 use Rattle.lists.specs.Some.{some}
 use Rattle.lookup.specs.declared.Between.{Between}
 use Rattle.lookup.specs.declared.Cells.{Cells}
-use Rattle.lookup.specs.declared.Mode.{Mode}
 use Rattle.lookup.specs.Place.{clamped, clamped_cell, between_of, Along, Inside, cells_from, cells_of, cells_read, blended_of, Readable}
 
 -- ---- along one axis
@@ -70,9 +69,9 @@ cells_inside a x y z h =
     }
 
 -- the cells read lie in the grid, whatever the position
-pub cells_read_inside : (m : Mode) (a : Axes) (c : Corners) (p : Vec3) → AxesWithin a → Inside (voxels a) (cells_of m a c p)
+pub cells_read_inside : (a : Axes) (c : Corners) (p : Vec3) → AxesWithin a → Inside (voxels a) (cells_of a c p)
 unfolding cells_of
-cells_read_inside m a c p w =
+cells_read_inside a c p w =
     cells_inside a _ _ _
     (record {
       x = cell_within a.width _ w.width;
@@ -258,7 +257,7 @@ most_of_all a nan v h = v
 most_of_all a (inf s) v h = v
 most_of_all a (fin s m e) v h = false≢true h
 
-pub whole_value : (a : ℕ) → a ≤ 16777216 → HasValue (float_of a) false a 1
+whole_value : (a : ℕ) → a ≤ 16777216 → HasValue (float_of a) false a 1
 unfolding Ieee.of_int
 whole_value a h = round_whole binary32 false a h
 

@@ -6,39 +6,25 @@ ghost use Rattle.names.specs.Numbers.{axis_limit, light_limit};
 ghost use Rattle.lists.specs.Laid.{voxel_part};
 ghost use Rattle.grid.specs.Grid.{AxesWithin};
 ghost use Rattle.limits.specs.Limits.{outside, bad_coefficients};
-ghost use Rattle.lookup.specs.declared.Mode.TheVariants.{Centre};
-ghost use Rattle.lookup.specs.Place.{clamped, coordinate_in, Placed, Along, CellsFound, Inside, Readable, cells_from, blend_of, blended_of};
+ghost use Rattle.lookup.specs.Place.{clamped, Placed, Along, CellsFound, Inside, Readable, cells_from, blend_of, blended_of};
 ghost use Rattle.lookup.specs.Lookup.{bad_light_cells, bad_volume_cells, coefficient_blend};
 
-use super::{Between, Cells, Mode};
+use super::{Between, Cells};
 use grid::{Axes, Corners};
 use vectors::Vec3;
 
 // ---- from a position to its cells
 
 // The eight cells around a position.
-pub fn cells(axes: Axes, corners: Corners, p: Vec3, mode: Mode) -> Cells
+pub fn cells(axes: Axes, corners: Corners, p: Vec3) -> Cells
     requires { AxesWithin axes }
-    ensures { CellsFound mode axes corners p result }
+    ensures { CellsFound axes corners p result }
 {
     let e = grid::inner::edges(corners, axes);
-    let fx = (p.x - corners.min.x) / e.x;
-    let fy = (p.y - corners.min.y) / e.y;
-    let fz = (p.z - corners.min.z) / e.z;
-    match mode {
-        Mode::Corner => {
-            let x = between(axes.width, fx);
-            let y = between(axes.height, fy);
-            let z = between(axes.depth, fz);
-            cells_from(axes, x, y, z)
-        }
-        Mode::Centre => {
-            let x = between_centres(axes.width, fx);
-            let y = between_centres(axes.height, fy);
-            let z = between_centres(axes.depth, fz);
-            cells_from(axes, x, y, z)
-        }
-    }
+    let x = between(axes.width, (p.x - corners.min.x) / e.x);
+    let y = between(axes.height, (p.y - corners.min.y) / e.y);
+    let z = between(axes.depth, (p.z - corners.min.z) / e.z);
+    cells_from(axes, x, y, z)
 }
 
 // The eight cells of three places.
@@ -81,30 +67,6 @@ pub fn between(n: usize, f: f32) -> Between
         }
     }
     floored(n, f)
-}
-
-// The same of a coordinate whose cells have their values at their centres. Outside the outermost centres the outermost cell answers alone.
-fn between_centres(n: usize, f: f32) -> Between
-    requires { (1 ≤ n) × (n ≤ axis_limit) }
-    ensures { Placed n (coordinate_in Centre n f) result }
-{
-    let g = f - 0.5;
-    if g <= 0.0 {
-        return Between {
-            cell: 0,
-            next: clamp_cell(n, 1),
-            fraction: 0.0,
-        };
-    }
-    let last = n - 1;
-    if grid::inner::float(last) <= g {
-        return Between {
-            cell: last,
-            next: last,
-            fraction: 0.0,
-        };
-    }
-    between(n, g)
 }
 
 // From 0 to 2^22 mostly the whole number below f: with 2^23 − 1/2 added, what is left of the fraction is rounded off.

@@ -6,13 +6,6 @@ use vectors::Vec3;
 
 pub mod inner;
 
-// Where a cell's value stands: at its lower corner, as in the Rust, or at its centre, from which the bake fires its rays.
-#[derive(Clone, Copy)]
-pub enum Mode {
-    Corner,
-    Centre,
-}
-
 // The light at a position, or the number of the refusal and 0.
 #[repr(C)]
 #[derive(Clone, Copy)]
@@ -54,8 +47,8 @@ pub struct Cells {
 }
 
 // The light at a position. Refused: 1, 2, 3, 11, and 13 among the eight cells read.
-pub fn light_at(axes: Axes, corners: Corners, light: &[f32], position: Vec3, mode: Mode) -> LightAt
-    ensures { LightLookedUp mode axes corners light.now position result }
+pub fn light_at(axes: Axes, corners: Corners, light: &[f32], position: Vec3) -> LightAt
+    ensures { LightLookedUp axes corners light.now position result }
 {
     if limits::inner::bad_axes(axes) {
         return LightAt {
@@ -81,7 +74,7 @@ pub fn light_at(axes: Axes, corners: Corners, light: &[f32], position: Vec3, mod
             light: 0.0,
         };
     }
-    let c = inner::cells(axes, corners, position, mode);
+    let c = inner::cells(axes, corners, position);
     if inner::bad_light_cells(light, c) {
         return LightAt {
             refusal: 13,
@@ -100,9 +93,8 @@ pub fn coefficients_at(
     corners: Corners,
     volume: &[f32],
     position: Vec3,
-    mode: Mode,
 ) -> CoefficientsAt
-    ensures { CoefficientsLookedUp mode axes corners volume.now position result }
+    ensures { CoefficientsLookedUp axes corners volume.now position result }
 {
     if limits::inner::bad_axes(axes) {
         return CoefficientsAt {
@@ -128,7 +120,7 @@ pub fn coefficients_at(
             numbers: [0.0; 16],
         };
     }
-    let c = inner::cells(axes, corners, position, mode);
+    let c = inner::cells(axes, corners, position);
     if inner::bad_volume_cells(volume, c) {
         return CoefficientsAt {
             refusal: 13,

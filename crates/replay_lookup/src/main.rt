@@ -1,25 +1,24 @@
-// Replays the oracle's recorded answers for the lookups: light and coefficients at a position in either mode, and one voxel's part with its companion.
-use lookup::Mode;
+// Replays the oracle's recorded answers for the lookups: light and coefficients at a position, and one voxel's part with its companion.
 use replay::Tally;
 
-fn light_at(s: &[u8], t: Tally, at: usize, light: &[f32], mode: Mode) -> Tally {
+fn light_at(s: &[u8], t: Tally, at: usize, light: &[f32]) -> Tally {
     let axes = replay_values::axes(s, 1);
     let corners = replay_values::corners(s, 7);
-    let r = lookup::light_at(axes, corners, light, replay_values::vector(s, at), mode);
+    let r = lookup::light_at(axes, corners, light, replay_values::vector(s, at));
     let same = (r.refusal == replay::word(s, replay::further(at, 3)))
         & replay::same_number(s, replay::further(at, 4), r.light);
     replay::held(t, same)
 }
 
 // Positions one after another, five words each.
-fn lights(s: &[u8], t: Tally, light: &[f32], mode: Mode) -> Tally {
+fn lights(s: &[u8], t: Tally, light: &[f32]) -> Tally {
     let from = replay::past(s, 13);
     let n = replay::small(s, from);
     let mut tally = t;
     let mut at = replay::further(from, 1);
     let mut i: usize = 0;
     while i < n {
-        tally = light_at(s, tally, at, light, mode);
+        tally = light_at(s, tally, at, light);
         at = replay::further(at, 5);
         i += 1;
     }
@@ -38,10 +37,10 @@ fn same16(s: &[u8], at: usize, x: &[f32; 16]) -> bool {
     true
 }
 
-fn coefficients_at(s: &[u8], t: Tally, at: usize, volume: &[f32], mode: Mode) -> Tally {
+fn coefficients_at(s: &[u8], t: Tally, at: usize, volume: &[f32]) -> Tally {
     let axes = replay_values::axes(s, 1);
     let corners = replay_values::corners(s, 7);
-    let r = lookup::coefficients_at(axes, corners, volume, replay_values::vector(s, at), mode);
+    let r = lookup::coefficients_at(axes, corners, volume, replay_values::vector(s, at));
     let numbers = r.numbers;
     let same = same16(s, replay::further(at, 4), &numbers);
     replay::held(
@@ -51,14 +50,14 @@ fn coefficients_at(s: &[u8], t: Tally, at: usize, volume: &[f32], mode: Mode) ->
 }
 
 // Positions one after another, twenty words each.
-fn coefficients(s: &[u8], t: Tally, volume: &[f32], mode: Mode) -> Tally {
+fn coefficients(s: &[u8], t: Tally, volume: &[f32]) -> Tally {
     let from = replay::past(s, 13);
     let n = replay::small(s, from);
     let mut tally = t;
     let mut at = replay::further(from, 1);
     let mut i: usize = 0;
     while i < n {
-        tally = coefficients_at(s, tally, at, volume, mode);
+        tally = coefficients_at(s, tally, at, volume);
         at = replay::further(at, 20);
         i += 1;
     }
@@ -83,41 +82,41 @@ fn held_part<'a>(s: &[u8], t: Tally, at: usize, volume: &'a [f32], scratch: &'a 
     replay::held(a, replay::same_floats(s, replay::further(at, 4), lent))
 }
 
-fn lit(s: &[u8], t: Tally, light: &mut [f32], mode: Mode) -> Tally {
+fn lit(s: &[u8], t: Tally, light: &mut [f32]) -> Tally {
     replay::floats(s, 13, light);
-    lights(s, t, light, mode)
+    lights(s, t, light)
 }
 
-fn filled(s: &[u8], t: Tally, volume: &mut [f32], mode: Mode) -> Tally {
+fn filled(s: &[u8], t: Tally, volume: &mut [f32]) -> Tally {
     replay::floats(s, 13, volume);
-    coefficients(s, t, volume, mode)
+    coefficients(s, t, volume)
 }
 
-fn light_record(s: &[u8], t: Tally, mode: Mode) -> Tally {
+fn light_record(s: &[u8], t: Tally) -> Tally {
     let mut light = replay::room_for_wide_light();
     let n = replay::fit(s, 13, 82000);
     let u = replay::held(t, replay::fits(s, 13, 82000));
-    lit(s, u, &mut light[..n], mode)
+    lit(s, u, &mut light[..n])
 }
 
-fn narrow_coefficients(s: &[u8], t: Tally, mode: Mode) -> Tally {
+fn narrow_coefficients(s: &[u8], t: Tally) -> Tally {
     let mut volume = replay::room_for_volume();
     let n = replay::fit(s, 13, 8320);
-    filled(s, t, &mut volume[..n], mode)
+    filled(s, t, &mut volume[..n])
 }
 
-fn wide_coefficients(s: &[u8], t: Tally, mode: Mode) -> Tally {
+fn wide_coefficients(s: &[u8], t: Tally) -> Tally {
     let mut volume = replay::room_for_wide_volume();
     let n = replay::fit(s, 13, 526400);
-    filled(s, t, &mut volume[..n], mode)
+    filled(s, t, &mut volume[..n])
 }
 
-fn coefficient_record(s: &[u8], t: Tally, mode: Mode) -> Tally {
+fn coefficient_record(s: &[u8], t: Tally) -> Tally {
     let u = replay::held(t, replay::fits(s, 13, 526400));
     if replay::fits(s, 13, 8320) {
-        return narrow_coefficients(s, u, mode);
+        return narrow_coefficients(s, u);
     }
-    wide_coefficients(s, u, mode)
+    wide_coefficients(s, u)
 }
 
 fn part_fits(s: &[u8], room: usize) -> bool {
@@ -151,16 +150,10 @@ fn part_record(s: &[u8], t: Tally) -> Tally {
 fn record(s: &[u8], t: Tally) -> Tally {
     let kind = replay::word(s, 0);
     if kind == 8 {
-        return light_record(s, t, Mode::Corner);
-    }
-    if kind == 42 {
-        return light_record(s, t, Mode::Centre);
+        return light_record(s, t);
     }
     if kind == 9 {
-        return coefficient_record(s, t, Mode::Corner);
-    }
-    if kind == 43 {
-        return coefficient_record(s, t, Mode::Centre);
+        return coefficient_record(s, t);
     }
     if kind == 10 {
         return part_record(s, t);

@@ -34,27 +34,27 @@ bad-axes-requires : tie.Need-bad-axes-requires
 bad-axes-requires c κs = search rules
 
 returns : tie.Need-returns
-returns c = record { answer = light_refused _ _ _ _ _ 1 (λ e. omega arith) (row_holds _ _ _ (sym c.before.bad-axes.ensures ∙ c.if1.true)) }
+returns c = record { answer = light_refused _ _ _ _ 1 (λ e. omega arith) (row_holds _ _ _ (sym c.before.bad-axes.ensures ∙ c.if1.true)) }
 
 bad-grid-requires : tie.Need-bad-grid-requires
 bad-grid-requires c κs = (axes_row _).0 (axes_passed c)
 
 returns-2 : tie.Need-returns-2
-returns-2 c = record { answer = light_refused _ _ _ _ _ 2 (λ e. omega arith) (row_passed _ _ _ _ (axes_passed c.before.before) (row_holds _ _ _ (sym c.before.bad-grid.ensures ∙ c.if2.true))) }
+returns-2 c = record { answer = light_refused _ _ _ _ 2 (λ e. omega arith) (row_passed _ _ _ _ (axes_passed c.before.before) (row_holds _ _ _ (sym c.before.bad-grid.ensures ∙ c.if2.true))) }
 
 voxel-count-requires : tie.Need-voxel-count-requires
 voxel-count-requires c κs = (axes_row _).0 (axes_passed c.before.before)
 
 returns-3 : tie.Need-returns-3
 returns-3 c = let k = c.before.before in
-    record { answer = light_refused _ _ _ _ _ 3 (λ e. omega arith) (row_passed _ _ _ _ (axes_passed k.before.before) (row_passed _ _ _ _ (grid_passed k) (row_holds _ _ _ (ap not (ne_eqb _ _ (λ e. c.if3.true (e ∙ sym c.before.voxel-count.ensures))))))) }
+    record { answer = light_refused _ _ _ _ 3 (λ e. omega arith) (row_passed _ _ _ _ (axes_passed k.before.before) (row_passed _ _ _ _ (grid_passed k) (row_holds _ _ _ (ap not (ne_eqb _ _ (λ e. c.if3.true (e ∙ sym c.before.voxel-count.ensures))))))) }
 
 bad-position-requires : tie.Need-bad-position-requires
 bad-position-requires c κs = search rules
 
 returns-4 : tie.Need-returns-4
 returns-4 c = let k = c.before.before in
-    record { answer = light_refused _ _ _ _ _ 11 (λ e. omega arith) (three_passed k _ _ (row_holds _ _ _ (sym c.before.bad-position.ensures ∙ c.if4.true))) }
+    record { answer = light_refused _ _ _ _ 11 (λ e. omega arith) (three_passed k _ _ (row_holds _ _ _ (sym c.before.bad-position.ensures ∙ c.if4.true))) }
 
 cells-requires : tie.Need-cells-requires
 cells-requires c κs = (axes_row _).0 (axes_passed c.before.before.before.before.before.before)
@@ -65,7 +65,7 @@ bad-light-cells-requires c κs = search rules
 returns-5 : tie.Need-returns-5
 returns-5 c =
     let k = c.before.before.before in
-    record { answer = light_refused _ _ _ _ _ 13 (λ e. omega arith) (three_passed k.before.before _ _ (row_passed _ _ _ _ (position_passed k) (row_holds _ _ _ (ap (bad_light_cells _) (sym c.before.before.cells.ensures.same) ∙ sym c.before.bad-light-cells.ensures ∙ c.if5.true)))) }
+    record { answer = light_refused _ _ _ _ 13 (λ e. omega arith) (three_passed k.before.before _ _ (row_passed _ _ _ _ (position_passed k) (row_holds _ _ _ (ap (bad_light_cells _) (sym c.before.before.cells.ensures.same) ∙ sym c.before.bad-light-cells.ensures ∙ c.if5.true)))) }
 
 blended-requires : tie.Need-blended-requires
 blended-requires c κs = search rules
@@ -76,7 +76,7 @@ returns-6 c =
     let k = d.before.before.before in
     let light = k.before.before.before.before.before.before.before.before.before.args.light.now in
     let same = d.before.before.cells.ensures.same in
-    record { answer = light_found _ _ _ _ _ _ (three_passed k.before.before _ _ (row_passed _ _ _ _ (position_passed k) (row_passed _ _ _ _ (ap (bad_light_cells _) (sym same) ∙ sym d.before.bad-light-cells.ensures ∙ d.if5.false) rows_passed))) (c.blended.ensures ∙ lights_one light _ ∙ ap (light_blend light) same) }
+    record { answer = light_found _ _ _ _ _ (three_passed k.before.before _ _ (row_passed _ _ _ _ (position_passed k) (row_passed _ _ _ _ (ap (bad_light_cells _) (sym same) ∙ sym d.before.bad-light-cells.ensures ∙ d.if5.false) rows_passed))) (c.blended.ensures ∙ lights_one light _ ∙ ap (light_blend light) same) }
 
 pub light_at_spec : {M : Type 1} → statement M
 light_at_spec =

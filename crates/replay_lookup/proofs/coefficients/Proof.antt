@@ -5,10 +5,10 @@ use Rattle.replay_lookup.proofs.coefficients.Statement.{statement}
 use Rattle.replay_lookup.proofs.coefficients.Tie as tie
 
 abbrev invariant-loop : tie.invariant-loop
-invariant-loop s volume mode from n tally₀ at₀ i₀ tally at i = i ≤ n
+invariant-loop s volume from n tally₀ at₀ i₀ tally at i = i ≤ n
 
 abbrev decreases-loop : tie.decreases-loop
-decreases-loop s volume mode from n tally₀ at₀ i₀ tally at i = n - i
+decreases-loop s volume from n tally₀ at₀ i₀ tally at i = n - i
 
 past-requires : tie.Need-past-requires invariant-loop decreases-loop
 past-requires c κs = search rules

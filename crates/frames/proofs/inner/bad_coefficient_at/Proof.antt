@@ -17,7 +17,7 @@ returns : tie.Need-returns
 returns c = coefficient_rows_lem _ _ _ _ _ _ c.before.before.before.requires (row_holds _ _ _ (sym c.before.bad-position.ensures ∙ c.if1.true))
 
 returns-2 : tie.Need-returns-2
-returns-2 c = coefficient_rows_lem _ _ _ _ _ _ c.before.before.before.before.requires (row_passed _ _ _ _ (sym c.before.before.bad-position.ensures ∙ c.before.if1.false) (row_passed _ _ _ _ (clear_volume _ _ _ _ _ _ c.before.before.before.before.requires c.if2.true) rows_passed))
+returns-2 c = coefficient_rows_lem _ _ _ _ _ _ c.before.before.before.before.requires (row_passed _ _ _ _ (sym c.before.before.bad-position.ensures ∙ c.before.if1.false) (row_passed _ _ _ _ (clear_volume _ _ _ _ _ c.before.before.before.before.requires c.if2.true) rows_passed))
 
 cells-requires : tie.Need-cells-requires
 cells-requires c κs = (axes_row _).0 c.before.before.before.before.requires.axes

@@ -15,7 +15,7 @@ bad-position-requires : tie.Need-bad-position-requires
 bad-position-requires c κs = search rules
 
 returns : tie.Need-returns
-returns c = coefficients_refused _ _ _ _ _ 11 (λ e. omega arith) (coefficient_rows_lem _ _ _ _ _ _ c.before.before.before.requires (row_holds _ _ _ (sym c.before.bad-position.ensures ∙ c.if1.true)))
+returns c = coefficients_refused _ _ _ _ 11 (λ e. omega arith) (coefficient_rows_lem _ _ _ _ _ _ c.before.before.before.requires (row_holds _ _ _ (sym c.before.bad-position.ensures ∙ c.if1.true)))
 
 cells-requires : tie.Need-cells-requires
 cells-requires c κs = (axes_row _).0 c.before.before.before.requires.axes
@@ -26,7 +26,7 @@ bad-volume-cells-requires c κs = subst (λ (n : ℕ). Inside n c.cells.result) 
 returns-2 : tie.Need-returns-2
 returns-2 c =
     let k = c.before.before.before in
-    coefficients_refused _ _ _ _ _ 13 (λ e. omega arith) (coefficient_rows_lem _ _ _ _ _ _ k.before.before.before.requires (row_passed _ _ _ _ (sym k.before.bad-position.ensures ∙ k.if1.false) (row_holds _ _ _ (ap (bad_volume_cells _) (sym c.before.before.cells.ensures.same) ∙ sym c.before.bad-volume-cells.ensures ∙ c.if2.true))))
+    coefficients_refused _ _ _ _ 13 (λ e. omega arith) (coefficient_rows_lem _ _ _ _ _ _ k.before.before.before.requires (row_passed _ _ _ _ (sym k.before.bad-position.ensures ∙ k.if1.false) (row_holds _ _ _ (ap (bad_volume_cells _) (sym c.before.before.cells.ensures.same) ∙ sym c.before.bad-volume-cells.ensures ∙ c.if2.true))))
 
 coefficients-blended-requires : tie.Need-coefficients-blended-requires
 coefficients-blended-requires c κs =
@@ -39,7 +39,7 @@ returns-3 c =
     let k = d.before.before.before in
     let volume = k.before.before.before.args.volume.now in
     let same = d.before.before.cells.ensures.same in
-    coefficients_found _ _ _ _ _ _ (coefficient_rows_lem _ _ _ _ _ _ k.before.before.before.requires (row_passed _ _ _ _ (sym k.before.bad-position.ensures ∙ k.if1.false) (row_passed _ _ _ _ (ap (bad_volume_cells _) (sym same) ∙ sym d.before.bad-volume-cells.ensures ∙ d.if2.false) rows_passed))) (c.coefficients-blended.ensures ∙ ap (coefficient_blend volume) same)
+    coefficients_found _ _ _ _ _ (coefficient_rows_lem _ _ _ _ _ _ k.before.before.before.requires (row_passed _ _ _ _ (sym k.before.bad-position.ensures ∙ k.if1.false) (row_passed _ _ _ _ (ap (bad_volume_cells _) (sym same) ∙ sym d.before.bad-volume-cells.ensures ∙ d.if2.false) rows_passed))) (c.coefficients-blended.ensures ∙ ap (coefficient_blend volume) same)
 
 pub coefficients_in_grid_spec : {M : Type 1} → statement M
 coefficients_in_grid_spec =

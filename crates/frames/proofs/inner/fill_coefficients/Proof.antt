@@ -17,12 +17,12 @@ use Rattle.frames.proofs.inner.fill_coefficients.Statement.{statement}
 use Rattle.frames.proofs.inner.fill_coefficients.Tie as tie
 
 abbrev invariant-loop : tie.invariant-loop
-invariant-loop axes corners volume positions answers₀ mode count k₀ answers k =
+invariant-loop axes corners volume positions answers₀ count k₀ answers k =
     (count ≡ length positions / 3) × (k ≤ count) × (length answers ≡ length answers₀)
-    × (take (k * 16) answers ≡ laid (λ (j : ℕ). (coefficients_at_of mode axes corners volume (position_at positions j)).numbers) k 0)
+    × (take (k * 16) answers ≡ laid (λ (j : ℕ). (coefficients_at_of axes corners volume (position_at positions j)).numbers) k 0)
 
 abbrev decreases-loop : tie.decreases-loop
-decreases-loop axes corners volume positions answers₀ mode count k₀ answers k = count - k
+decreases-loop axes corners volume positions answers₀ count k₀ answers k = count - k
 
 loop-holds : tie.Need-loop-init invariant-loop decreases-loop
 unfolding laid
@@ -62,13 +62,13 @@ loop-again c =
     let l = c.before.before.before.before.before.before.before.before.before.loop in
     let s = c.before.before.before.before.before.before.before.before.before.before.before.before.before in
     let a = s.args in
-    let f : ℕ → List Float = λ j. (coefficients_at_of a.mode a.axes a.corners a.volume.now (position_at a.positions.now j)).numbers in
+    let f : ℕ → List Float = λ j. (coefficients_at_of a.axes a.corners a.volume.now (position_at a.positions.now j)).numbers in
     let h : l.k < length a.positions.now / 3 = c.before.before.before.before.before.before.before.before.loop-test.true in
     let n : (l.k + 1) * 16 ≡ l.k * 16 + 16 = omega arith in
     let e : c.before.before.before.before.before.coefficients-blended.result ≡ f l.k
     = c.before.before.before.before.before.coefficients-blended.ensures
-    ∙ ap (coefficient_blend a.volume.now) (c.before.before.before.before.before.before.cells.ensures.same ∙ ap (cells_of a.mode a.axes a.corners) c.before.before.before.before.before.before.before.position.ensures)
-    ∙ coefficients_there a.mode a.axes a.corners a.volume.now (position_at a.positions.now l.k) (s.requires.none l.k h) in (
+    ∙ ap (coefficient_blend a.volume.now) (c.before.before.before.before.before.before.cells.ensures.same ∙ ap (cells_of a.axes a.corners) c.before.before.before.before.before.before.before.position.ensures)
+    ∙ coefficients_there a.axes a.corners a.volume.now (position_at a.positions.now l.k) (s.requires.none l.k h) in (
       refl,
       omega arith,
       omega arith,
@@ -85,7 +85,7 @@ returns c =
     let a = c.before.before.before.before.before.args in
     let h : length l.answers ≤ l.k * 16 = omega (arith, c.before.before.before.before.before.requires.sixteens) in
     let e : l.k ≡ length a.positions.now / 3 = omega arith in
-    sym (take_all (l.k * 16) l.answers h) ∙ l.invariant.3 ∙ ap (λ (n : ℕ). laid (λ (j : ℕ). (coefficients_at_of a.mode a.axes a.corners a.volume.now (position_at a.positions.now j)).numbers) n 0) e
+    sym (take_all (l.k * 16) l.answers h) ∙ l.invariant.3 ∙ ap (λ (n : ℕ). laid (λ (j : ℕ). (coefficients_at_of a.axes a.corners a.volume.now (position_at a.positions.now j)).numbers) n 0) e
 
 pub fill_coefficients_spec : {M : Type 1} → statement M
 fill_coefficients_spec =

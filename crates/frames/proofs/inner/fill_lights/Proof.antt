@@ -15,13 +15,13 @@ use Rattle.frames.proofs.inner.fill_lights.Statement.{statement}
 use Rattle.frames.proofs.inner.fill_lights.Tie as tie
 
 abbrev invariant-loop : tie.invariant-loop
-invariant-loop axes corners light positions answers₀ mode k₀ answers k = (k ≤ length answers) × (length answers ≡ length answers₀) × (take k answers ++ tab (λ (j : ℕ). (light_at_of mode axes corners light (position_at positions j)).light) (length answers - k) k ≡ light_frame_of mode axes corners light positions)
+invariant-loop axes corners light positions answers₀ k₀ answers k = (k ≤ length answers) × (length answers ≡ length answers₀) × (take k answers ++ tab (λ (j : ℕ). (light_at_of axes corners light (position_at positions j)).light) (length answers - k) k ≡ light_frame_of axes corners light positions)
 
 abbrev decreases-loop : tie.decreases-loop
-decreases-loop axes corners light positions answers₀ mode k₀ answers k = length answers - k
+decreases-loop axes corners light positions answers₀ k₀ answers k = length answers - k
 
 loop-holds : tie.Need-loop-init invariant-loop decreases-loop
-loop-holds c = (omega arith, refl, light_start _ _ _ _ _ _ c.before.before.before.requires.triples)
+loop-holds c = (omega arith, refl, light_start _ _ _ _ _ c.before.before.before.requires.triples)
 
 position-requires : tie.Need-position-requires invariant-loop decreases-loop
 position-requires c κs = omega (arith, c.before.before.before.before.before.requires.triples, c.before.loop.invariant.1)
@@ -47,14 +47,14 @@ loop-again c =
     let s = c.before.before.before.before.before.before.before in
     let a = s.args in
     let h : l.k < length a.answers.now = omega arith in
-    let e = c.light-between.ensures ∙ ap (λ (p : Vec3). light_blend a.light.now (cells_of a.mode a.axes a.corners p)) c.before.position.ensures ∙ light_there a.mode a.axes a.corners a.light.now (position_at a.positions.now l.k) (s.requires.none l.k h) in
-    simp length-set (omega arith, l.invariant.1, rw e (tab_step (λ (j : ℕ). (light_at_of a.mode a.axes a.corners a.light.now (position_at a.positions.now j)).light) l.answers l.k (omega arith) ∙ l.invariant.2))
+    let e = c.light-between.ensures ∙ ap (λ (p : Vec3). light_blend a.light.now (cells_of a.axes a.corners p)) c.before.position.ensures ∙ light_there a.axes a.corners a.light.now (position_at a.positions.now l.k) (s.requires.none l.k h) in
+    simp length-set (omega arith, l.invariant.1, rw e (tab_step (λ (j : ℕ). (light_at_of a.axes a.corners a.light.now (position_at a.positions.now j)).light) l.answers l.k (omega arith) ∙ l.invariant.2))
 
 same_length : tie.Need-same-length invariant-loop decreases-loop
 same_length c = search rules
 
 returns : tie.Need-returns invariant-loop decreases-loop
-returns c = let a = c.before.before.before.before.before.args in sym (tab_end (λ (j : ℕ). (light_at_of a.mode a.axes a.corners a.light.now (position_at a.positions.now j)).light) c.before.loop.answers c.before.loop.k (omega arith)) ∙ c.before.loop.invariant.2
+returns c = let a = c.before.before.before.before.before.args in sym (tab_end (λ (j : ℕ). (light_at_of a.axes a.corners a.light.now (position_at a.positions.now j)).light) c.before.loop.answers c.before.loop.k (omega arith)) ∙ c.before.loop.invariant.2
 
 pub fill_lights_spec : {M : Type 1} → statement M
 fill_lights_spec =

@@ -11,10 +11,10 @@ use Rattle.frames.proofs.inner.first_bad_light.Statement.{statement}
 use Rattle.frames.proofs.inner.first_bad_light.Tie as tie
 
 abbrev invariant-loop : tie.invariant-loop
-invariant-loop axes corners light positions clear mode count k₀ k = (count ≡ length positions / 3) × (k ≤ count) × (least_refused (light_refusal_at mode axes corners light positions) (count - k) k ≡ least_refused (light_refusal_at mode axes corners light positions) (length positions / 3) 0)
+invariant-loop axes corners light positions clear count k₀ k = (count ≡ length positions / 3) × (k ≤ count) × (least_refused (light_refusal_at axes corners light positions) (count - k) k ≡ least_refused (light_refusal_at axes corners light positions) (length positions / 3) 0)
 
 abbrev decreases-loop : tie.decreases-loop
-decreases-loop axes corners light positions clear mode count k₀ k = count - k
+decreases-loop axes corners light positions clear count k₀ k = count - k
 
 loop-holds : tie.Need-loop-init invariant-loop decreases-loop
 loop-holds c = (refl, omega arith, let e : length c.before.before.args.positions.now / 3 - 0 ≡ length c.before.before.args.positions.now / 3 = omega arith in rw e refl)
@@ -28,7 +28,7 @@ bad-light-at-requires c κs = search rules
 returns : tie.Need-returns invariant-loop decreases-loop
 returns c =
     let a = c.before.before.before.before.before.before.before.args in
-    walk_found (light_refusal_at a.mode a.axes a.corners a.light.now a.positions.now) (length a.positions.now / 3) _ _ _ c.before.before.before.before.loop.invariant.2 c.before.before.before.loop-test.true (c.before.bad-light-at.ensures ∙ ap (light_refusal a.mode a.axes a.corners a.light.now) c.before.before.position.ensures) c.if1.true
+    walk_found (light_refusal_at a.axes a.corners a.light.now a.positions.now) (length a.positions.now / 3) _ _ _ c.before.before.before.before.loop.invariant.2 c.before.before.before.loop-test.true (c.before.bad-light-at.ensures ∙ ap (light_refusal a.axes a.corners a.light.now) c.before.before.position.ensures) c.if1.true
 
 add-k : tie.Need-overflow-add-k invariant-loop decreases-loop
 add-k c = omega arith
@@ -39,12 +39,12 @@ loop-less c = omega arith
 loop-again : tie.Need-loop-preserved invariant-loop decreases-loop
 loop-again c =
     let a = c.before.before.before.before.before.before.before.args in
-    (refl, omega arith, walk_next (light_refusal_at a.mode a.axes a.corners a.light.now a.positions.now) (length a.positions.now / 3) _ _ _ c.before.before.before.before.loop.invariant.2 c.before.before.before.loop-test.true (c.before.bad-light-at.ensures ∙ ap (light_refusal a.mode a.axes a.corners a.light.now) c.before.before.position.ensures) c.if1.false)
+    (refl, omega arith, walk_next (light_refusal_at a.axes a.corners a.light.now a.positions.now) (length a.positions.now / 3) _ _ _ c.before.before.before.before.loop.invariant.2 c.before.before.before.loop-test.true (c.before.bad-light-at.ensures ∙ ap (light_refusal a.axes a.corners a.light.now) c.before.before.position.ensures) c.if1.false)
 
 returns-2 : tie.Need-returns-2 invariant-loop decreases-loop
 returns-2 c =
     let a = c.before.before.before.before.args in
-    walk_end (light_refusal_at a.mode a.axes a.corners a.light.now a.positions.now) (length a.positions.now / 3) _ 0 _ c.before.loop.invariant.2 c.loop-test.false
+    walk_end (light_refusal_at a.axes a.corners a.light.now a.positions.now) (length a.positions.now / 3) _ 0 _ c.before.loop.invariant.2 c.loop-test.false
 
 pub first_bad_light_spec : {M : Type 1} → statement M
 first_bad_light_spec =

@@ -13,7 +13,7 @@ coefficient-refusal-requires c κs = search rules
 fill-coefficients-requires : tie.Need-fill-coefficients-requires
 fill-coefficients-requires c κs =
     let k = c.before in
-    coefficients_accepted _ _ _ _ _ _ (sym (ap (λ (x : FirstRefusal). x.refusal) k.before.before.coefficient-refusal.ensures) ∙ k.if1.true)
+    coefficients_accepted _ _ _ _ _ (sym (ap (λ (x : FirstRefusal). x.refusal) k.before.before.coefficient-refusal.ensures) ∙ k.if1.true)
 
 same_length : tie.Need-same-length
 same_length c = search rules

@@ -13,7 +13,7 @@ light-refusal-requires c κs = search rules
 fill-lights-requires : tie.Need-fill-lights-requires
 fill-lights-requires c κs =
     let k = c.before in
-    lights_accepted _ _ _ _ _ _ (sym (ap (λ (x : FirstRefusal). x.refusal) k.before.before.light-refusal.ensures) ∙ k.if1.true)
+    lights_accepted _ _ _ _ _ (sym (ap (λ (x : FirstRefusal). x.refusal) k.before.before.light-refusal.ensures) ∙ k.if1.true)
 
 same_length : tie.Need-same-length
 same_length c = search rules
