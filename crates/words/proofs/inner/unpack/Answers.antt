@@ -39,7 +39,7 @@ pub overflow_add-i : goal.overflow_add-i
 overflow_add-i c = omega arith
 
 -- eight entries are written, and the list keeps its length
-kept : (c : After-slice_known-in-loop-entries-1) → length c.put_eight.new.0 ≡ length c.loop-entries.entries
+kept : (c : After-slice_known-in-loop-entries-1) → length c.put_eight.new.entries ≡ length c.loop-entries.entries
 kept c =
     let l = c.loop-entries in
     ap length c.put_eight.ensures ∙ length-sets l.entries l.i (eight_bytes c.spread.result)
