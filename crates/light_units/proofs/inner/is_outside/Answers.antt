@@ -3,12 +3,8 @@ use lib.Ieee.{of_bits, le}
 use Rattle.limits.specs.Limits.{up_to}
 use Rattle.light_units.specs.Units.{light_outside}
 use Rattle.std.proofs.Common.{rules}
-use Rattle.light_units.proofs.inner.is_outside.Statement.{statement}
-use Rattle.light_units.proofs.inner.is_outside.Tie as tie
+use Rattle.light_units.proofs.inner.is_outside.Goals as goal
 
-returns : tie.Need-returns
+pub returns : goal.returns
 unfolding le light_outside of_bits up_to
 returns c = search rules
-
-pub is_outside_spec : {M : Type 1} → statement M
-is_outside_spec = tie.close (tie.spec returns)
