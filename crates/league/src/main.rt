@@ -43,7 +43,7 @@ fn turn(league: League, space: &mut [u8]) -> Step
     ensures { LeagueWithin result.league }
 {
     let mut head = [0u8; 4];
-    let got = io::read_full(0, &mut head);
+    let got = console::read_full(rt, &mut head)?;
     let opening = league_report::inner::opening(league.files, &head[..got]);
     match opening {
         Opening::End => {
@@ -64,7 +64,7 @@ fn take_file(league: League, part: &mut [u8]) -> Step
     requires { LeagueWithin league × (league.files < files_limit) }
     ensures { LeagueWithin result.league }
 {
-    let got = io::read_full(0, part);
+    let got = console::read_full(rt, part)?;
     if got < part.len() {
         league_line::inner::print_refusal(18, league.files);
         return end(league);

@@ -32,7 +32,7 @@ fn all_inputs(space: &mut [u8]) {
 // The next input; false where there is none.
 fn one_input(space: &mut [u8]) -> bool {
     let mut head = [0u8; 4];
-    let got = io::read_full(0, &mut head);
+    let got = console::read_full(rt, &mut head)?;
     if got < 4 {
         return false;
     }
@@ -47,7 +47,7 @@ fn one_input(space: &mut [u8]) -> bool {
 
 // Fills `part` with the input, and reports on it; false where it ends within.
 fn take_input(part: &mut [u8]) -> bool {
-    let got = io::read_full(0, part);
+    let got = console::read_full(rt, part)?;
     if got < part.len() {
         return false;
     }

@@ -23,7 +23,7 @@ fn all_files(space: &mut [u8]) {
 // The next file; false where the input ends.
 fn one_file(space: &mut [u8]) -> bool {
     let mut head = [0u8; 4];
-    let got = io::read_full(0, &mut head);
+    let got = console::read_full(rt, &mut head)?;
     if got < 4 {
         return false;
     }
@@ -38,7 +38,7 @@ fn one_file(space: &mut [u8]) -> bool {
 
 // Fills `part` with the file, and answers for it; false where the input ends within.
 fn take_file(part: &mut [u8]) -> bool {
-    let read = io::read_full(0, part);
+    let read = console::read_full(rt, part)?;
     if read < part.len() {
         return false;
     }
@@ -60,12 +60,12 @@ fn again(bytes: &[u8]) {
     let needed = volume::volume_bytes(head.axes);
     let long = needed.bytes;
     if long < 96 {
-        io::write_all(1, b"no length\n");
+        rt.write_all(b"no length\n")?;
         return;
     }
     let n = (long - 96) / 70;
     if MOST < n {
-        io::write_all(1, b"too many\n");
+        rt.write_all(b"too many\n")?;
         return;
     }
     let words = (n + 63) / 64;
@@ -94,7 +94,7 @@ fn rewrite(
 ) {
     let head = volume::read_volume(bytes, light, volume, occupied, active);
     if head.refusal != 0 {
-        io::write_all(1, b"not read\n");
+        rt.write_all(b"not read\n")?;
         return;
     }
     if volume::write_volume(
@@ -107,7 +107,7 @@ fn rewrite(
         out,
     ) != 0
     {
-        io::write_all(1, b"not written\n");
+        rt.write_all(b"not written\n")?;
         return;
     }
     print_bytes(out);
@@ -116,10 +116,10 @@ fn rewrite(
 fn print_bytes(s: &[u8]) {
     let mut i: usize = 0;
     while i < s.len() {
-        io::print_hex(1, wide(s[i]), 2);
+        console::print_hex(rt, wide(s[i]), 2)?;
         i += 1;
     }
-    io::write_all(1, b"\n");
+    rt.write_all(b"\n")?;
 }
 
 fn wide(b: u8) -> u64
