@@ -6,21 +6,22 @@ ghost use Rattle.league_report.specs.Report.{Line};
 ghost use Rattle.league_line.specs.Text.{decimal_of, spaced, text_of};
 
 use light_figures::LightFigures;
+use std::io;
 
 // `first`, then the figures, single spaces between.
-pub fn print_line(first: u64, figures: LightFigures) {
+pub fn print_line(rt: &impl Print, first: u64, figures: LightFigures) -> io::Result<()> {
     let mut line = [0u8; 448];
     let long = put_figures(&mut line, first, figures);
-    rt.write_all(&line[..long])?;
+    rt.write_all(&line[..long])
 }
 
 // The number, and the place of the file after so many.
-pub fn print_refusal(refusal: u32, files: u64)
+pub fn print_refusal(rt: &impl Print, refusal: u32, files: u64) -> io::Result<()>
     requires { files ≤ files_limit }
 {
     let mut line = [0u8; 64];
     let long = put_refusal(&mut line, refusal as u64, files + 1);
-    rt.write_all(&line[..long])?;
+    rt.write_all(&line[..long])
 }
 
 // ---- lines
