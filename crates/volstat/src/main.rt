@@ -1,4 +1,6 @@
 // Reads one volume file on standard input, and prints its figures or its refusal. One byte more than the limit is enough to refuse.
+#![tactic(auto)]
+
 use std::io;
 
 fn main(rt: HostRuntime) -> io::Result<()> {

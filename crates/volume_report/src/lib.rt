@@ -1,4 +1,6 @@
 // One line of text for a volume file's figures.
+#![tactic(auto)]
+
 use std::io;
 use volume::Figures;
 
