@@ -2,14 +2,13 @@
 -- the same hits, and both merged are the whole in order (`halves_in_order`).
 use mathlib.Core.Path.{◌≡◌, refl, sym, ap, ◌∙◌}
 use mathlib.Core.List.{List}
-use Prim.Native.Nat.{ℕ, ◌/◌, ◌≤◌, ◌<◌}
+use Prim.Native.Nat.{ℕ, ◌/◌, ◌≤◌}
 use native.Mathlib.Omega.{arith}
 use lib.ListN.{length, take, drop, length-drop}
-use lib.Seq.{length-take-le, length_front}
+use lib.Seq.{length-take-le}
 use lib.Ieee.{Float}
 use Rattle.hits.specs.Hits.{paired}
 use Rattle.hits.specs.Merge.{Numbers}
-use borrow.Author.Rules.{rules}
 use Rattle.hits.proofs.Lists.{second_lent_lem, back_length, numbers_halves, halves_in_order}
 use Rattle.hits.proofs.inner.+by_halves.Goals as goal
 

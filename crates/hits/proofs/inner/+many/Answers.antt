@@ -1,10 +1,7 @@
 -- `hits::inner::many` meets its contract; the measure is how many hits there are. What is past the room is inserted after the rest is in order.
 use mathlib.Core.Path.{sym, ◌∙◌}
-use Prim.Native.Nat.{ℕ, ◌<◌}
 use native.Mathlib.Omega.{arith}
-use lib.ListN.{length}
 use lib.Seq.{length-take-le, length_front}
-use borrow.Author.Rules.{rules}
 use Rattle.hits.proofs.Lists.{numbers_halves, then_inserted}
 use Rattle.hits.proofs.inner.+many.Goals as goal
 

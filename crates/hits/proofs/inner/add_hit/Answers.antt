@@ -3,7 +3,6 @@ use mathlib.Core.Path.{◌≡◌, sym, ◌∙◌}
 use native.Mathlib.Omega.{arith}
 use lib.ListN.{length, take}
 use lib.Seq.{length-take-le}
-use borrow.Author.Rules.{rules}
 use Rattle.hits.proofs.Lists.{rank_within, paired_put}
 use Rattle.hits.proofs.inner.add_hit.Goals as goal
 

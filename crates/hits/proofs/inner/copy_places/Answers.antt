@@ -1,10 +1,10 @@
 -- `hits::inner::copy_places` fills the list: what is written and what is left of the source is the source.
-use mathlib.Core.Path.{◌≡◌, refl, sym, ap, ◌∙◌}
+use mathlib.Core.Path.{refl, sym, ap, ◌∙◌}
 use mathlib.Core.List.{List, ◌++◌, append-nil}
-use Prim.Native.Nat.{ℕ, ◌+◌, ◌≤◌, ◌<◌, ◌-◌}
+use Prim.Native.Nat.{ℕ, ◌<◌}
 use native.Mathlib.Numerals.{add-one}
 use native.Mathlib.Omega.{arith}
-use lib.ListN.{length, take, drop, length-set, drop_of_length-le}
+use lib.ListN.{length, take, length-set, drop_of_length-le}
 use lib.Seq.{take-suc-set, take_all, drop-cons, append_snoc}
 use Rattle.hits.proofs.inner.copy_places.Goals as goal
 

@@ -1,6 +1,5 @@
 -- `hits::inner::in_order` meets its contract: all hits inserted one after the other into none are the hits in order.
 use Rattle.hits.specs.Hits.{paired}
-use borrow.Author.Rules.{rules}
 use Rattle.hits.proofs.inner.in_order.Goals as goal
 
 pub returns-then-distances-le-FEW : goal.returns-then-distances-le-FEW

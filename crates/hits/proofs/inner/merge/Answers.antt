@@ -2,9 +2,9 @@
 -- halves. The head that is taken is the next that is written.
 use mathlib.Core.Path.{◌≡◌, refl, sym, ap, ◌∙◌}
 use mathlib.Core.List.{List, ◌++◌, append-nil}
-use Prim.Native.Nat.{◌+◌, ◌≤◌, ◌<◌, ◌-◌}
+use Prim.Native.Nat.{◌<◌}
 use native.Mathlib.Omega.{arith}
-use lib.ListN.{length, take, drop, length-set}
+use lib.ListN.{length, take, length-set}
 use lib.Seq.{take_all}
 use Rattle.hits.specs.Hits.{Struck, paired}
 use Rattle.hits.specs.Merge.{merge_of}
@@ -22,17 +22,17 @@ takes_second-requires c = (c.requires.0, omega arith, omega arith, omega arith)
 pub offset_bounds-distances-j : goal.offset_bounds-distances-j
 offset_bounds-distances-j c =
     let second_left : c.loop-k.j < length c.args.distances.now =
-        let s = c in
-        let at = c.loop-k in
-        second_within s.args.distances.now s.args.places.now s.args.half s.requires.0 s.requires.1 at.i at.j at.invariant.2 (sym c.takes_second.ensures ∙ c.if-takes_second.true) in
+    let s = c in
+    let at = c.loop-k in
+    second_within s.args.distances.now s.args.places.now s.args.half s.requires.0 s.requires.1 at.i at.j at.invariant.2 (sym c.takes_second.ensures ∙ c.if-takes_second.true) in
     omega (arith, second_left)
 
 pub bounds-distances-j : goal.bounds-distances-j
 bounds-distances-j c =
     let second_left : c.loop-k.j < length c.args.distances.now =
-        let s = c in
-        let at = c.loop-k in
-        second_within s.args.distances.now s.args.places.now s.args.half s.requires.0 s.requires.1 at.i at.j at.invariant.2 (sym c.takes_second.ensures ∙ c.if-takes_second.true) in
+    let s = c in
+    let at = c.loop-k in
+    second_within s.args.distances.now s.args.places.now s.args.half s.requires.0 s.requires.1 at.i at.j at.invariant.2 (sym c.takes_second.ensures ∙ c.if-takes_second.true) in
     omega (arith, second_left)
 
 pub offset_bounds-ts-k : goal.offset_bounds-ts-k
@@ -44,17 +44,17 @@ bounds-ts-k c = omega arith
 pub offset_bounds-places-j : goal.offset_bounds-places-j
 offset_bounds-places-j c =
     let second_left : c.loop-k.j < length c.args.distances.now =
-        let s = c in
-        let at = c.loop-k in
-        second_within s.args.distances.now s.args.places.now s.args.half s.requires.0 s.requires.1 at.i at.j at.invariant.2 (sym c.takes_second.ensures ∙ c.if-takes_second.true) in
+    let s = c in
+    let at = c.loop-k in
+    second_within s.args.distances.now s.args.places.now s.args.half s.requires.0 s.requires.1 at.i at.j at.invariant.2 (sym c.takes_second.ensures ∙ c.if-takes_second.true) in
     omega (arith, second_left)
 
 pub bounds-places-j : goal.bounds-places-j
 bounds-places-j c =
     let second_left : c.loop-k.j < length c.args.distances.now =
-        let s = c in
-        let at = c.loop-k in
-        second_within s.args.distances.now s.args.places.now s.args.half s.requires.0 s.requires.1 at.i at.j at.invariant.2 (sym c.takes_second.ensures ∙ c.if-takes_second.true) in
+    let s = c in
+    let at = c.loop-k in
+    second_within s.args.distances.now s.args.places.now s.args.half s.requires.0 s.requires.1 at.i at.j at.invariant.2 (sym c.takes_second.ensures ∙ c.if-takes_second.true) in
     omega (arith, second_left)
 
 pub offset_bounds-is-k : goal.offset_bounds-is-k
@@ -66,9 +66,9 @@ bounds-is-k c = omega arith
 pub overflow_add-j : goal.overflow_add-j
 overflow_add-j c =
     let second_left : c.loop-k.j < length c.args.distances.now =
-        let s = c in
-        let at = c.loop-k in
-        second_within s.args.distances.now s.args.places.now s.args.half s.requires.0 s.requires.1 at.i at.j at.invariant.2 (sym c.takes_second.ensures ∙ c.if-takes_second.true) in
+    let s = c in
+    let at = c.loop-k in
+    second_within s.args.distances.now s.args.places.now s.args.half s.requires.0 s.requires.1 at.i at.j at.invariant.2 (sym c.takes_second.ensures ∙ c.if-takes_second.true) in
     omega (arith, second_left)
 
 pub overflow_add-k : goal.overflow_add-k
@@ -80,9 +80,9 @@ loop-k-smaller-then-takes_second c = omega arith
 pub loop-k-preserved-then-takes_second : goal.loop-k-preserved-then-takes_second
 loop-k-preserved-then-takes_second c =
     let second_left : c.loop-k.j < length c.args.distances.now =
-        let s = c in
-        let at = c.loop-k in
-        second_within s.args.distances.now s.args.places.now s.args.half s.requires.0 s.requires.1 at.i at.j at.invariant.2 (sym c.takes_second.ensures ∙ c.if-takes_second.true) in
+    let s = c in
+    let at = c.loop-k in
+    second_within s.args.distances.now s.args.places.now s.args.half s.requires.0 s.requires.1 at.i at.j at.invariant.2 (sym c.takes_second.ensures ∙ c.if-takes_second.true) in
     let s = c in
     let at = c.loop-k in
     let h = second_left in
@@ -99,17 +99,17 @@ loop-k-preserved-then-takes_second c =
 pub offset_bounds-distances-i : goal.offset_bounds-distances-i
 offset_bounds-distances-i c =
     let first_left : c.loop-k.i < c.args.half =
-        let s = c in
-        let at = c.loop-k in
-        first_within s.args.distances.now s.args.places.now s.args.half s.requires.0 s.requires.1 at.i at.j at.invariant.0 (omega arith) (sym c.takes_second.ensures ∙ c.if-takes_second.false) in
+    let s = c in
+    let at = c.loop-k in
+    first_within s.args.distances.now s.args.places.now s.args.half s.requires.0 s.requires.1 at.i at.j at.invariant.0 (omega arith) (sym c.takes_second.ensures ∙ c.if-takes_second.false) in
     omega (arith, first_left)
 
 pub bounds-distances-i : goal.bounds-distances-i
 bounds-distances-i c =
     let first_left : c.loop-k.i < c.args.half =
-        let s = c in
-        let at = c.loop-k in
-        first_within s.args.distances.now s.args.places.now s.args.half s.requires.0 s.requires.1 at.i at.j at.invariant.0 (omega arith) (sym c.takes_second.ensures ∙ c.if-takes_second.false) in
+    let s = c in
+    let at = c.loop-k in
+    first_within s.args.distances.now s.args.places.now s.args.half s.requires.0 s.requires.1 at.i at.j at.invariant.0 (omega arith) (sym c.takes_second.ensures ∙ c.if-takes_second.false) in
     omega (arith, first_left)
 
 pub offset_bounds-ts-k-else-takes_second : goal.offset_bounds-ts-k-else-takes_second
@@ -121,17 +121,17 @@ bounds-ts-k-else-takes_second c = omega arith
 pub offset_bounds-places-i : goal.offset_bounds-places-i
 offset_bounds-places-i c =
     let first_left : c.loop-k.i < c.args.half =
-        let s = c in
-        let at = c.loop-k in
-        first_within s.args.distances.now s.args.places.now s.args.half s.requires.0 s.requires.1 at.i at.j at.invariant.0 (omega arith) (sym c.takes_second.ensures ∙ c.if-takes_second.false) in
+    let s = c in
+    let at = c.loop-k in
+    first_within s.args.distances.now s.args.places.now s.args.half s.requires.0 s.requires.1 at.i at.j at.invariant.0 (omega arith) (sym c.takes_second.ensures ∙ c.if-takes_second.false) in
     omega (arith, first_left)
 
 pub bounds-places-i : goal.bounds-places-i
 bounds-places-i c =
     let first_left : c.loop-k.i < c.args.half =
-        let s = c in
-        let at = c.loop-k in
-        first_within s.args.distances.now s.args.places.now s.args.half s.requires.0 s.requires.1 at.i at.j at.invariant.0 (omega arith) (sym c.takes_second.ensures ∙ c.if-takes_second.false) in
+    let s = c in
+    let at = c.loop-k in
+    first_within s.args.distances.now s.args.places.now s.args.half s.requires.0 s.requires.1 at.i at.j at.invariant.0 (omega arith) (sym c.takes_second.ensures ∙ c.if-takes_second.false) in
     omega (arith, first_left)
 
 pub offset_bounds-is-k-else-takes_second : goal.offset_bounds-is-k-else-takes_second
@@ -143,9 +143,9 @@ bounds-is-k-else-takes_second c = omega arith
 pub overflow_add-i : goal.overflow_add-i
 overflow_add-i c =
     let first_left : c.loop-k.i < c.args.half =
-        let s = c in
-        let at = c.loop-k in
-        first_within s.args.distances.now s.args.places.now s.args.half s.requires.0 s.requires.1 at.i at.j at.invariant.0 (omega arith) (sym c.takes_second.ensures ∙ c.if-takes_second.false) in
+    let s = c in
+    let at = c.loop-k in
+    first_within s.args.distances.now s.args.places.now s.args.half s.requires.0 s.requires.1 at.i at.j at.invariant.0 (omega arith) (sym c.takes_second.ensures ∙ c.if-takes_second.false) in
     omega (arith, first_left)
 
 pub overflow_add-k-else-takes_second : goal.overflow_add-k-else-takes_second
@@ -157,9 +157,9 @@ loop-k-smaller c = omega arith
 pub loop-k-preserved : goal.loop-k-preserved
 loop-k-preserved c =
     let first_left : c.loop-k.i < c.args.half =
-        let s = c in
-        let at = c.loop-k in
-        first_within s.args.distances.now s.args.places.now s.args.half s.requires.0 s.requires.1 at.i at.j at.invariant.0 (omega arith) (sym c.takes_second.ensures ∙ c.if-takes_second.false) in
+    let s = c in
+    let at = c.loop-k in
+    first_within s.args.distances.now s.args.places.now s.args.half s.requires.0 s.requires.1 at.i at.j at.invariant.0 (omega arith) (sym c.takes_second.ensures ∙ c.if-takes_second.false) in
     let s = c in
     let at = c.loop-k in
     let h = first_left in

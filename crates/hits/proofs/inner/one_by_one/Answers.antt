@@ -1,11 +1,7 @@
 -- `hits::inner::one_by_one` meets its contract. The loop's invariant: the first m, and those from m on inserted one after the other, are what is asked for.
-use mathlib.Core.Path.{◌≡◌, refl, sym, ap, ◌∙◌}
-use mathlib.Core.List.{List}
-use Prim.Native.Nat.{◌+◌, ◌≤◌, ◌-◌}
+use mathlib.Core.Path.{refl, ◌∙◌}
 use native.Mathlib.Omega.{arith}
-use lib.ListN.{length, take, drop}
 use lib.Seq.{take_all}
-use Rattle.hits.specs.Hits.{Struck, paired}
 use Rattle.hits.specs.Merge.{insert_all}
 use Rattle.hits.proofs.Lists.{rest_cons, rest_none}
 use Rattle.hits.proofs.inner.one_by_one.Goals as goal

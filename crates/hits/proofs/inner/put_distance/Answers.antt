@@ -1,12 +1,11 @@
 -- `hits::inner::put_distance` meets its contract. The loop's invariant: what is carried, inserted at k among the first m, gives the list that is
 -- asked for, and what stands past m is as it was.
 use mathlib.Core.Path.{◌≡◌, refl, ◌∙◌}
-use Prim.Native.Nat.{◌+◌, ◌≤◌, ◌-◌}
+use Prim.Native.Nat.{◌+◌}
 use native.Mathlib.Omega.{arith}
-use lib.ListN.{length, take, drop, length-set}
+use lib.ListN.{length-set}
 use lib.Seq.{drop-set-lt}
 use lib.Ieee.{nan}
-use Rattle.hits.specs.Hits.{insert_at}
 use borrow.Author.Rules.{rules}
 use Rattle.hits.proofs.Lists.{put_step, put_last}
 use Rattle.hits.proofs.inner.put_distance.Goals as goal

@@ -1,8 +1,7 @@
 -- `hits::inner::rank` meets its contract. The loop's invariant: the rank is j and the rank among what is left.
 use mathlib.Core.Path.{◌≡◌, ◌∙◌}
-use Prim.Native.Nat.{◌+◌, ◌≤◌, ◌-◌}
 use native.Mathlib.Omega.{arith}
-use lib.ListN.{length, drop, drop_of_length-le}
+use lib.ListN.{drop, drop_of_length-le}
 use Rattle.hits.specs.Hits.{struck, rank_of, paired}
 use borrow.Author.Rules.{rules}
 use Rattle.hits.proofs.Lists.{rank_step}

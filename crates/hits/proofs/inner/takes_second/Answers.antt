@@ -1,8 +1,7 @@
 -- `hits::inner::takes_second` meets its contract: the tests on the way are the definition's cases.
-use mathlib.Core.Path.{◌≡◌, refl}
+use mathlib.Core.Path.{refl}
 use native.Mathlib.Omega.{arith}
 use Rattle.hits.specs.Merge.{takes_second}
-use borrow.Author.Rules.{rules}
 use Rattle.hits.proofs.Lists.{rest_cons, rest_none, first_cons, first_none}
 use Rattle.hits.proofs.inner.takes_second.Goals as goal
 
