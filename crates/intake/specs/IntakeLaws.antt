@@ -3,7 +3,7 @@ use Rattle.std.specs.Prelude.{◌≡◌, refl, Bool, true, false, ◌||◌, ◌�
 use Rattle.std.proofs.Common.{sym, ap₂, ◌∙◌}
 use native.Mathlib.Omega.{arith}
 use borrow.Author.Tests.{ltb-false, le-ltb, eqb-true, not-false}
-use Rattle.names.specs.Numbers.{sky_numbers, lamp_limit, primary_rays}
+use Rattle.names.specs.Numbers.{sky_numbers, lamp_limit}
 use Rattle.names.specs.Refusals.{Row, row, first_of, FirstIs, NoneHolds, none, later, Numbered, first_given, first_found, none_given, none_found}
 use Rattle.names.specs.Scene.{Sound, other_kind, HitsFit}
 use Rattle.lists.specs.Fold.{fold}
