@@ -1,5 +1,7 @@
 // The resumable bake of a volume of spherical harmonics, with hit scratch, between solid walls or through a box tree. Document 01, module 7; lamps by document 02, C-12,
 // progress by C-16, solid walls by C-22, trees by C-20.
+#![tactic(auto)]
+
 ghost use Rattle.std.specs.Prelude.{◌≡◌, cond, ◌+◌, ◌*◌, ◌≤◌, ◌<◌, eqb, length};
 ghost use Rattle.names.specs.Numbers.{voxel_limit};
 ghost use Rattle.names.specs.Scene.{scene_of, scene_for, tree_scene};

@@ -1,4 +1,6 @@
 // The public calls of the two blurs.
+#![tactic(auto)]
+
 ghost use Rattle.std.specs.Prelude.{◌≡◌, ◌≤◌};
 ghost use Rattle.grid.specs.Grid.{AxesWithin};
 ghost use Rattle.blurs.specs.Blurs.{LightBlurred, CoefficientsBlurred, light_blur_refusal, coefficient_blur_refusal, wrong_blur_lists};

@@ -1,5 +1,7 @@
 // What a surface's light is made of, as gi.rs has it and C-12 adds to it: biases, the basis of a normal with its four hemisphere directions, the way to a
 // lamp and its ray, and the light that a surface gives back. Nothing here traces a ray.
+#![tactic(auto)]
+
 use vectors::Vec3;
 
 pub mod inner;

@@ -1,6 +1,6 @@
 -- The NaN and its patterns: x != x finds it, and a pattern that is above the infinity's once the sign is off is one of its.
 use Prim.Native.Nat.{ℕ, ◌*◌, ◌%◌, ◌<◌, ◌≤◌}
-use mathlib.Core.Path.{◌≡◌, refl, sym, ap, subst, ◌∙◌}
+use mathlib.Core.Path.{◌≡◌, refl, sym, subst, ◌∙◌}
 use mathlib.Core.Bool.{Bool, true, false, not, beq}
 use lib.Dec.{T}
 use lib.Ieee.{Float, nan, inf, fin, binary32, of_bits, to_bits, nan_bits, is_nan, eq, ne, div, level, up, down}

@@ -1,14 +1,11 @@
 -- What is written is read back, and what is read is written back.
-use Rattle.std.specs.Prelude.{◌≡◌, refl, List, [], ◌∷◌, ◌++◌, not, ℕ, zero, suc, ◌+◌, ◌*◌, ◌/◌, ◌%◌, ◌<◌, ◌≤◌, T, length, get_or, take, drop, set, Float}
-use Rattle.std.proofs.Common.{sym, ap, ap₂, ◌∙◌, append_assoc, append-nil, add-zero, zero-add, add-one, arith, length-append, drop_of_length-le, drop-cons, take-suc, length-take-le}
+use Rattle.std.specs.Prelude.{◌≡◌, refl, List, [], ◌∷◌, ◌++◌, ℕ, suc, ◌+◌, ◌*◌, ◌/◌, ◌%◌, ◌<◌, length, get_or, take, set, Float}
+use Rattle.std.proofs.Common.{sym, ap, ◌∙◌, append-nil, add-zero, zero-add, add-one, arith, drop_of_length-le, take-suc, length-take-le}
 use Rattle.std.proofs.Math.Nat.{div-div-eq-div-mul}
 use Rattle.std.proofs.lemmas.List.Edits.{sets, sets-eq}
 use Rattle.std.specs.Float.{binary32}
-use Rattle.std.specs.Float.Ieee.{of_bits, to_bits, fits, is_nan}
-use Rattle.std.specs.Float.Ieee.Bits.{of_bits-to_bits, to_bits-lt, to_bits-of_bits}
-use Rattle.names.specs.Bits.{lit}
-use Rattle.lists.specs.Fold.{tab}
-use Rattle.bytes_le.specs.Bytes.{word, u16_at, u32_at, f32_at, floats_at, bytes_at, bytes2, bytes4, encode}
+use Rattle.std.specs.Float.Ieee.{to_bits}
+use Rattle.bytes_le.specs.Bytes.{word, bytes2, bytes4, encode}
 
 -- ---- whole numbers
 

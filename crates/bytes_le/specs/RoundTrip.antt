@@ -1,7 +1,7 @@
 -- A run of numbers that is written is read back, and one that is read is written back, every bit of it. The logic has one NaN, so
 -- the second holds of patterns that are no NaN's.
 use Rattle.std.specs.Prelude.{◌≡◌, refl, Bool, false, not, List, [], ◌∷◌, ◌++◌, ℕ, zero, suc, ◌+◌, ◌*◌, ◌<◌, ◌≤◌, T, length, get_or, take, drop, Float}
-use Rattle.std.proofs.Common.{sym, ap, ap₂, ◌∙◌, subst, append_assoc, arith, add-one, length-append, get_or-append-add, drop-cons}
+use Rattle.std.proofs.Common.{sym, ap, ap₂, ◌∙◌, subst, append_assoc, arith, length-append, get_or-append-add, drop-cons}
 use Rattle.std.proofs.Math.Seq.{get_or-append_seam}
 use Rattle.std.specs.Float.{binary32}
 use Rattle.std.specs.Float.Ieee.{to_bits, fits, is_nan}

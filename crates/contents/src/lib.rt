@@ -1,4 +1,6 @@
 // The head of a volume file, `VGRD`, three u16 axes and a u16 entry count, and its table of contents.
+#![tactic(auto)]
+
 pub mod inner;
 
 // What the kind of an entry stands for.

@@ -1,1 +1,2 @@
 // Definitions only: specs/ has the bake of document 01's module 7, and what is demanded of it when it is spread over calls.
+#![tactic(auto)]

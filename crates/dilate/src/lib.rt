@@ -1,2 +1,4 @@
 // The active mask of an occupied mask. `masks` has the public call.
+#![tactic(auto)]
+
 pub mod inner;

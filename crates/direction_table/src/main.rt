@@ -1,5 +1,7 @@
 // Prints the table of directions as it was recorded from the Rust: a line for each direction, set by set, with the patterns of x, y and
 // z in hexadecimal. The crate's file stdout is the record itself, so the gate compares all 1,728 patterns.
+#![tactic(auto)]
+
 ghost use Rattle.std.specs.Prelude.{◌<◌};
 
 fn space() {

@@ -1,5 +1,7 @@
 // Directions (document 01, module 2): nine sets of 64, one constant table of 1,728 numbers recorded from the Rust, and the set
 // that a voxel uses.
+#![tactic(auto)]
+
 mod recorded;
 
 ghost use Rattle.std.specs.Prelude.{◌≡◌, length};

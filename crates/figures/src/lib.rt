@@ -1,1 +1,2 @@
 // Definitions only: specs/ has document 01's proved figures.
+#![tactic(auto)]

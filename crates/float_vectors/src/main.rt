@@ -1,5 +1,7 @@
 // Holds the six functions of `floats`, on bit patterns, to vectors that Rust's own operations gave (tools/float_vectors.rs): for each function
 // it prints how many vectors standard input has, and how many of them the function answers. The crate's file stdout has both counts.
+#![tactic(auto)]
+
 ghost use Rattle.std.specs.Prelude.{◌+◌, ◌≤◌, ◌<◌, length};
 
 // A function's letter, a space, and three patterns of eight digits, each with a space or a newline after it.

@@ -1,7 +1,7 @@
 -- Floor is the largest whole number not above x, and ceiling the smallest not below it, each with x's sign; and no other f32 is.
 -- Both are x's size over its power of two, cut or raised to a whole number, and numbers compare as their exact sizes do. Assumes nothing.
 use Rattle.std.specs.Prelude.{◌≡◌, refl, ℕ, ◌+◌, ◌*◌, ◌≤◌, ◌<◌, Bool, true, false, ℤ, T, Float}
-use Rattle.std.proofs.Common.{sym, ap, ◌∙◌, subst, lt_of_le_of_lt, lt_of_lt_of_le, lt_of_mul-lt-mul_right, add-mul, arith, ltb-false, le-ltb}
+use Rattle.std.proofs.Common.{sym, ◌∙◌, subst, lt_of_le_of_lt, lt_of_lt_of_le, lt_of_mul-lt-mul_right, add-mul, arith, ltb-false, le-ltb}
 use Rattle.std.specs.Float.{nan, inf, fin, binary32}
 use Rattle.std.specs.Float.Ieee.{up, down, unlike, below, fits, is_nan}
 use Rattle.std.specs.Float.Ieee.Fits.{down_pos, round-fits}

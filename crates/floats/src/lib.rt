@@ -1,5 +1,7 @@
 // Module 1, floats: square root, floor, ceiling, magnitude, larger and smaller, for every f32.
 // Given NaN, or the root a negative but −0, the six on f32 answer NaN. The six on bit patterns answer 0x7fc00000 there, and promise all 32 bits.
+#![tactic(auto)]
+
 ghost use Rattle.std.specs.Prelude.{◌≡◌};
 ghost use Rattle.std.specs.Float.{binary32};
 ghost use Rattle.std.specs.Float.Ieee.{to_bits, of_bits};

@@ -1,5 +1,7 @@
 // Frames in a hall of 2×3×4 voxels of edge 1, from the corner (0, 0, 0). The light of voxel i is i, so that between the cells it is x + 2y + 6z; number k
 // of the sixteen is 32k more. Each line has the first refusal and its place, then four times each answer afterwards, where 28 stands for "as it was".
+#![tactic(auto)]
+
 use frames::FirstRefusal;
 use grid::{Axes, Corners};
 use vectors::Vec3;

@@ -1,4 +1,6 @@
 // A camera frame: the light, or the four coefficients, at each of a list of positions, with the grid's checks made once.
+#![tactic(auto)]
+
 ghost use Rattle.frames.specs.Frames.{LightsFramed, CoefficientsFramed};
 
 use grid::{Axes, Corners};

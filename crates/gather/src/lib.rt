@@ -1,4 +1,6 @@
 // Gather (document 01, module 6): the sixteen numbers of a voxel and the rays that they take.
+#![tactic(auto)]
+
 use harmonics::Coefficients;
 use vectors::Vec3;
 

@@ -1,1 +1,2 @@
 // Laws only: specs/ shows that what gather writes stays within ±2^96.
+#![tactic(auto)]

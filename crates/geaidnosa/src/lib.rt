@@ -1,6 +1,8 @@
 // The public calls for C, and for Rust through C's interface: include/geaidnosa.h says each in one sentence. A list is lent as its pointer and its
 // length, a struct goes by value, and no call keeps a pointer. Each hands on the public call's own contract; where that call answers an enum or a
 // part of a list, specs/Exports.antt says what stands for it. The float functions go by bit patterns, since a NaN's pattern is promised too.
+#![tactic(auto)]
+
 ghost use Rattle.names.specs.Scene.{scene_of, tree_scene};
 ghost use Rattle.std.specs.Prelude.{length, ◌≡◌, false, cond};
 ghost use Rattle.floats.specs.Choice.{magnitude_of, larger_of, smaller_of};

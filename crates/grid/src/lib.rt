@@ -1,4 +1,6 @@
 // A grid of voxels: its axes, its corners, the edges and the centres of its voxels.
+#![tactic(auto)]
+
 use vectors::Vec3;
 
 pub mod inner;

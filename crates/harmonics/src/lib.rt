@@ -1,5 +1,7 @@
 // Spherical harmonics of four coefficients, as gi.rs computes them: every order and bracket is the Rust's, each operation rounded once.
 // Nothing here traces a ray.
+#![tactic(auto)]
+
 use vectors::Vec3;
 
 pub mod inner;

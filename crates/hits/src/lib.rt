@@ -1,3 +1,4 @@
 // The hits of a ray, put in order.
+#![tactic(auto)]
 
 pub mod inner; // inner.rt: hits put in order

@@ -1,2 +1,4 @@
 // What a bake is handed, and which of it is refused.
+#![tactic(auto)]
+
 pub mod inner;

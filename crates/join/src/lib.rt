@@ -1,4 +1,6 @@
 // The public call that joins shares of a bake.
+#![tactic(auto)]
+
 ghost use Rattle.std.specs.Prelude.{◌≡◌, ◌+◌, ◌*◌, ◌≤◌, ◌<◌, length};
 ghost use Rattle.names.specs.Numbers.{voxel_limit};
 ghost use Rattle.lists.specs.Laid.{replaced, voxel_part};

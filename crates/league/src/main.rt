@@ -1,5 +1,7 @@
 // Reads volume files one after another on standard input, each after its length as a u32, and prints the league report: a line for each file and one over all,
 // or a refusal instead of that one.
+#![tactic(auto)]
+
 ghost use Rattle.std.specs.Prelude.{◌≡◌, ◌<◌, length};
 ghost use Rattle.names.specs.Numbers.{length_limit, files_limit};
 ghost use Rattle.league_report.specs.Report.{LeagueWithin};

@@ -1,4 +1,6 @@
 // The league report over many inputs in one run. Standard input holds them one after another, each after its length as a u32; the report of each is printed.
+#![tactic(auto)]
+
 ghost use Rattle.std.specs.Prelude.{◌≡◌, ◌<◌, ◌≤◌, length};
 ghost use Rattle.names.specs.Numbers.{files_limit};
 ghost use Rattle.league_report.specs.Report.{LeagueWithin};

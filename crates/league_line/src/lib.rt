@@ -1,2 +1,4 @@
 // The lines of the league report as text.
+#![tactic(auto)]
+
 pub mod inner;

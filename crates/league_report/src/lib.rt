@@ -1,4 +1,6 @@
 // The league report: what one volume file adds to it, and the steps of the whole.
+#![tactic(auto)]
+
 ghost use Rattle.std.specs.Prelude.{◌≡◌, false, ◌+◌, ◌*◌, ◌<◌, ◌≤◌, length};
 ghost use Rattle.lists.specs.Some.{some};
 ghost use Rattle.bytes_le.specs.Bytes.{floats_at};

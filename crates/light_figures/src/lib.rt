@@ -1,4 +1,6 @@
 // The figures of a list of lights, counted in units of 2^-24.
+#![tactic(auto)]
+
 pub mod inner;
 
 // How many lights there are, their units summed, the lowest and the highest, and how many fall in each of sixteen bands.

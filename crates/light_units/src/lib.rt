@@ -1,2 +1,4 @@
 // A light in units of 2^-24, rounded down.
+#![tactic(auto)]
+
 pub mod inner;

@@ -1,4 +1,6 @@
 // The numbers accepted: what a light, an ambient and a lamp are, and one test for each row of the table of refusals.
+#![tactic(auto)]
+
 use vectors::Vec3;
 
 pub mod inner;

@@ -1,4 +1,6 @@
 // Lookups (module 8): the light and the four coefficients at a position, and one voxel's sixteen numbers as a part of a lent list.
+#![tactic(auto)]
+
 ghost use Rattle.lookup.specs.Lookup.{LightLookedUp, CoefficientsLookedUp, PartLent, PartJudged};
 
 use grid::{Axes, Corners};

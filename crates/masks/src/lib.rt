@@ -1,4 +1,6 @@
 // The occupied and the active mask of a scene's triangles.
+#![tactic(auto)]
+
 ghost use Rattle.std.specs.Prelude.{◌≡◌};
 ghost use Rattle.grid.specs.Grid.{AxesWithin};
 ghost use Rattle.masks.specs.Masks.{wrong_masks, masks_refusal, MasksFilled};

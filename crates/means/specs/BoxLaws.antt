@@ -1,5 +1,5 @@
 -- What the box round a voxel holds: how many voxels, and which.
-use Rattle.std.specs.Prelude.{◌≡◌, refl, Bool, true, false, ◌||◌, List, [], ◌∷◌, ℕ, zero, suc, ◌+◌, ◌-◌, ◌*◌, ◌≤◌, ◌<◌, eqb, pos, Float}
+use Rattle.std.specs.Prelude.{◌≡◌, refl, Bool, true, false, ◌||◌, List, [], ◌∷◌, ℕ, zero, suc, ◌+◌, ◌*◌, ◌≤◌, ◌<◌, eqb, pos, Float}
 use Rattle.std.proofs.Math.Path.{sym}
 use Rattle.std.proofs.Common.{◌∙◌, arith, suc-mul, zero-mul, add-zero, zero-add, eqb-true, eq-eqb}
 use Rattle.std.proofs.Math.Bool.{or-false}
@@ -8,7 +8,7 @@ use Rattle.std.specs.Float.Ieee.{add, div, of_int}
 use Rattle.names.specs.Bits.{zero32}
 use Rattle.lists.specs.Fold.{fold, tab}
 use Rattle.lists.specs.Any.{any, any_in, any_out}
-use Rattle.means.specs.Box.{first_near, past_near, near, along, around, one_more, plus, mean_in, mean_at, mean_of}
+use Rattle.means.specs.Box.{first_near, near, along, around, one_more, plus, mean_in, mean_at, mean_of}
 use Rattle.means.specs.Sums.{span_of, row_sum, plane_sum, box_sum}
 
 -- a fold that adds b at each number adds b as often as there are numbers

@@ -1,4 +1,5 @@
 // The numbers that the customer chose, as the code names them; specs/ has each with his sentence, and what every crate shares.
+#![tactic(auto)]
 
 // ---- how many
 

@@ -1,2 +1,4 @@
 // The occupied mask of a scene's triangles. `masks` has the public call.
+#![tactic(auto)]
+
 pub mod inner;

@@ -1,5 +1,7 @@
 // "Transmission 0.0001: 0", and beside it the next number up, which passes: prints the refusal and whether any light passes one sheet of each.
 // The sheet is triangle Q, of the second of two materials.
+#![tactic(auto)]
+
 use vectors::{Ray, Vec3};
 
 fn show(transmission: f32) {

@@ -1,5 +1,7 @@
 // The public calls over rays: the test of one triangle, the nearest hit, and how much light passes, with hit scratch, between solid walls, or through a box tree. Each tests its input first; a refusal answers
 // its number and writes nothing.
+#![tactic(auto)]
+
 ghost use Rattle.std.specs.Prelude.{◌≡◌, false, length};
 ghost use Rattle.names.specs.Refusals.{first_of};
 ghost use Rattle.names.specs.Scene.{scene_of, scene_for};

@@ -4,6 +4,8 @@
 // it is its length, the length k of a pattern, the pattern's k words (entry i is word i mod k), the count of exceptions, and for each its
 // place and its word. A list of places has two words an entry, low first, and its length counts words. A mask has an entry a voxel, and is lent as
 // 64-bit words: entry i is bit i % 64 of word i / 64, set exactly where the entry is 1.
+#![tactic(auto)]
+
 ghost use Rattle.std.specs.Prelude.{◌<◌, ◌≤◌, length};
 
 const INFINITY: u32 = 0x7f80_0000;

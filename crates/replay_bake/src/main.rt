@@ -1,6 +1,8 @@
 // Replays the oracle's recorded answers for the bake, by both engines and through a tree. A record of calls, whole and interrupted: at each call the refusal, the next voxel, the rays so far,
 // the call's rays, the volume and its scratch bit by bit, and the hit scratch where no ray is traced. A record of rays: each ray that the bake of a small scene fires, and their
 // number, which is also the one that the bake reports.
+#![tactic(auto)]
+
 use bake::BakeAnswer;
 use replay::Tally;
 use spread::Progress;

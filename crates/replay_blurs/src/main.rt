@@ -1,4 +1,6 @@
 // Replays the oracle's recorded answers for the two blurs: the refusal, and both lists, written or left alone, bit by bit.
+#![tactic(auto)]
+
 use grid::Axes;
 use replay::Tally;
 

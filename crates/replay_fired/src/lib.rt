@@ -1,5 +1,7 @@
 // Holds the oracle's recorded rays: every ray that the bake of a small scene fires, in the order that they are traced, as the port's own ray
 // functions make them: the voxel, what is asked along it, and each bit of its origin, its direction and its two bounds; and their number.
+#![tactic(auto)]
+
 ghost use Rattle.std.specs.Prelude.{◌≡◌, ◌<◌};
 ghost use Rattle.names.specs.Scene.{Sound, scene_of};
 ghost use Rattle.grid.specs.Grid.{AxesWithin, voxels};

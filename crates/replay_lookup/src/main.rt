@@ -1,4 +1,6 @@
 // Replays the oracle's recorded answers for the lookups: light and coefficients at a position, and one voxel's part with its companion.
+#![tactic(auto)]
+
 use replay::Tally;
 
 fn light_at(s: &[u8], t: Tally, at: usize, light: &[f32]) -> Tally {

@@ -1,4 +1,6 @@
 // Replays the oracle's recorded answers for the masks: the refusal, both counts, and both masks, written or left alone.
+#![tactic(auto)]
+
 use masks::Marked;
 use replay::Tally;
 

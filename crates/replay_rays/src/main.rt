@@ -1,6 +1,8 @@
 // Replays the oracle's recorded answers for the public ray calls: the test of one triangle, the nearest hit and the transmittance by both engines and
 // through a tree, each number bit by bit, and the hit scratch where a refusal leaves it alone; and for the builder of a tree: its answer and its three
 // lists, bit by bit.
+#![tactic(auto)]
+
 use rays::{Found, Met, Transmitted};
 use replay::Tally;
 use tree_build::TreeBuilt;

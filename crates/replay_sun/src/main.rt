@@ -1,5 +1,7 @@
 // Replays the oracle's recorded answers for the sun pass, by both engines and through a tree: the refusal, the rays, the light, its scratch, and the hit scratch where no ray
 // is traced.
+#![tactic(auto)]
+
 use replay::Tally;
 use sun::Sunned;
 

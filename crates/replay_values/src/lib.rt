@@ -1,4 +1,6 @@
 // Values of the port's own types out of a record.
+#![tactic(auto)]
+
 use grid::{Axes, Corners};
 use limits::{Ambient, Light};
 use vectors::{Ray, Triangle, Vec3};

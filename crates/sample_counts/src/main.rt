@@ -1,4 +1,6 @@
 // "Samples 1, 2, 4, 5, 4096 give n 1, 2, 2, 3, 64": prints n for each count. The crate's file stdout has document 01's figures.
+#![tactic(auto)]
+
 ghost use Rattle.std.specs.Prelude.{◌≤◌};
 
 fn show(count: usize)

@@ -1,5 +1,6 @@
 // The two scans over all triangles of a scene, in the list's order: the nearest hit, and how much light passes along a ray. Both go from hit to hit
 // by one search for a triangle that may be met, of which the test and its kind and side then decide; neither knows how it goes.
+#![tactic(auto)]
 
 pub mod inner; // inner.rt: the two scans, over lists that fit each other
 

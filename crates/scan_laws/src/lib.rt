@@ -1,1 +1,2 @@
 // Laws only: specs/ says what the two scans mean.
+#![tactic(auto)]

@@ -1,4 +1,5 @@
 // How far a bake is that is spread over calls. What its calls come to is in specs/, over any bake.
+#![tactic(auto)]
 
 // The index of the next voxel, and the rays fired so far.
 #[repr(C)]

@@ -1,4 +1,6 @@
 // The sun pass: how much of the sun each voxel sees. Document 01, module 5; the Rust's compute_sun_visibility.
+#![tactic(auto)]
+
 ghost use Rattle.std.specs.Prelude.{◌≡◌, false, ◌<◌, length};
 ghost use Rattle.names.specs.Bits.{one32};
 ghost use Rattle.names.specs.Scene.{scene_of, scene_for};

@@ -1,5 +1,7 @@
 // The light that a surface sends back along a ray, and the rays that it takes: one to the sun where the sun is above the surface, four
 // over the hemisphere, and one to each lamp that reaches it; none where the surface is black.
+#![tactic(auto)]
+
 use bounce::Biases;
 use harmonics::Coefficients;
 use vectors::Vec3;

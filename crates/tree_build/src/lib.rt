@@ -1,4 +1,6 @@
 // A builder of box trees: document 02's C-20. Its trees are accepted for every scene that is not refused (`build_accepted`).
+#![tactic(auto)]
+
 ghost use Rattle.std.specs.Prelude.{◌≡◌};
 ghost use Rattle.tree_build.specs.Build.{wrong_build, build_refusal, BuildAnswered};
 

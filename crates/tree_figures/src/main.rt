@@ -1,6 +1,8 @@
 // The builder run on scenes of 0, 1, 4, 5 and 4,096 triangles in a row, on triangles that all stand at one place, on absent ones, and on a row that leaves the
 // limits, which is refused. For each it prints how many boxes and places there are, and 1 if the tree is accepted; of five triangles also the places in their
 // order and the nodes. The first row begins at the far end, so that its order turns about; at one place the order stays.
+#![tactic(auto)]
+
 ghost use Rattle.std.specs.Prelude.{◌≡◌, ◌+◌, ◌*◌, ◌/◌, ◌≤◌, ◌<◌, length};
 
 const MOST: usize = 4096;

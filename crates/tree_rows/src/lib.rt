@@ -1,4 +1,6 @@
 // A box tree in rows, for a loop over them: specs/Rows says what the rows hold and what a scan by them may count on.
+#![tactic(auto)]
+
 use names::TRIANGLE_LIMIT;
 
 pub mod inner; // inner.rt: the rows written, and read

@@ -1,6 +1,8 @@
 // Where a ray meets one triangle: document 01's module 3, the test. The order of operations is the Rust's (raytracer.rs,
 // ray_triangle_intersect). Three things are added: a triangle that is too thin is absent, a distance that is not finite is a miss, and a hit says which
 // side was met.
+#![tactic(auto)]
+
 pub mod inner;
 
 // "The test answers a miss, or a hit that carries distance, u and v", and "which side was met": true for the front.

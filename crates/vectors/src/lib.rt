@@ -1,4 +1,6 @@
 // Vectors of three f32 by value, and what a ray and a triangle are. Each operation is rounded once, in document 01's order.
+#![tactic(auto)]
+
 ghost use Rattle.std.specs.Prelude.{◌≡◌};
 ghost use Rattle.vectors.specs.Vectors.{add_v, sub_v, mul_v, scale_v, div_v, neg_v, dot_v, cross_v, length_v, normal_v, larger_v, smaller_v, clamp_of, clamp_v, lerp_v};
 

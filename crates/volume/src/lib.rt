@@ -1,5 +1,7 @@
 // The volume file: a grid's axes, corners, light, coefficients and masks in one list of bytes. Reader and writer work over lent lists;
 // a file is judged whole before anything is written.
+#![tactic(auto)]
+
 ghost use Rattle.std.specs.Prelude.{◌≡◌, cond, ◌+◌, ◌*◌, ◌<◌, ◌≤◌, length};
 ghost use Rattle.names.specs.Numbers.{voxel_limit};
 ghost use Rattle.bytes_le.specs.Bytes.{f32_at, floats_at, bytes_at};

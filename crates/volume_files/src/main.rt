@@ -1,6 +1,7 @@
 // Runs the calls over many files in one run. Standard input holds them one after another, each after its length as a u32. For each
 // the figures or the refusal are printed; a file that is accepted is read into lists and written again, and what was written is
 // printed in hexadecimal.
+#![tactic(auto)]
 
 ghost use Rattle.std.specs.Prelude.{◌≡◌, ◌<◌};
 

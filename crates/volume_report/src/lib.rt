@@ -1,4 +1,6 @@
 // One line of text for a volume file's figures.
+#![tactic(auto)]
+
 use volume::Figures;
 
 // Prints the six figures with single spaces, or `refused` and the number; a newline ends either.

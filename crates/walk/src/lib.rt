@@ -1,4 +1,6 @@
 // The walk of a bake through its voxels, from its first end to its last.
+#![tactic(auto)]
+
 pub mod inner;
 
 // The next voxel's index, and the rays that were fired on the way to it.

@@ -4,7 +4,6 @@ use mathlib.Core.Path.{sym, ap, ◌∙◌}
 use lib.ListN.{length}
 use Rattle.directions.specs.RuleLaws.{directions_length}
 use Rattle.directions.specs.FilledLaws.{fill_refused, table_filled}
-use borrow.Author.Rules.{rules}
 use Rattle.directions.proofs.fill.Goals as goal
 
 pub returns-then-out-ne1728 : goal.returns-then-out-ne1728

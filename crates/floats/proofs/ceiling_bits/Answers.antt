@@ -1,5 +1,4 @@
 -- `floats::ceiling_bits` meets its contract: the pattern of what `ceiling` gives of the pattern's number.
-use borrow.Author.Rules.{rules}
 use Rattle.floats.proofs.ceiling_bits.Goals as goal
 
 pub returns : goal.returns

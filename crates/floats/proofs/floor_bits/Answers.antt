@@ -1,5 +1,4 @@
 -- `floats::floor_bits` meets its contract: the pattern of what `floor` gives of the pattern's number.
-use borrow.Author.Rules.{rules}
 use Rattle.floats.proofs.floor_bits.Goals as goal
 
 pub returns : goal.returns

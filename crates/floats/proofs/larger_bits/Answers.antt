@@ -1,5 +1,4 @@
 -- `floats::larger_bits` meets its contract: the pattern of what `larger` gives of the patterns' numbers.
-use borrow.Author.Rules.{rules}
 use Rattle.floats.proofs.larger_bits.Goals as goal
 
 pub returns : goal.returns

@@ -1,5 +1,4 @@
 -- `floats::magnitude_bits` meets its contract: the pattern of what `magnitude` gives of the pattern's number.
-use borrow.Author.Rules.{rules}
 use Rattle.floats.proofs.magnitude_bits.Goals as goal
 
 pub returns : goal.returns

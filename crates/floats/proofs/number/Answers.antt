@@ -2,7 +2,6 @@
 use mathlib.Core.Path.{sym, ◌∙◌}
 use Rattle.floats.specs.PatternLaws.{nan_past}
 use Rattle.floats.proofs.Choose.{no_number, number_pattern}
-use borrow.Author.Rules.{rules}
 use Rattle.floats.proofs.number.Goals as goal
 
 pub returns-then-b-gt2139095040 : goal.returns-then-b-gt2139095040

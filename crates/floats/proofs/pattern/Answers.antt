@@ -1,6 +1,5 @@
 -- `floats::pattern` meets its contract: only a NaN differs from itself, and its pattern is the one that `to_bits` writes.
 use mathlib.Core.Path.{sym, ap, ◌∙◌}
-use borrow.Author.Rules.{rules}
 use lib.Ieee.{binary32, to_bits}
 use Rattle.floats.specs.PatternLaws.{nan_written}
 use Rattle.floats.proofs.Choose.{is_nan_lem, no_nan}

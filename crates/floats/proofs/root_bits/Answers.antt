@@ -1,5 +1,4 @@
 -- `floats::root_bits` meets its contract: the pattern of what `root` gives of the pattern's number.
-use borrow.Author.Rules.{rules}
 use Rattle.floats.proofs.root_bits.Goals as goal
 
 pub returns : goal.returns

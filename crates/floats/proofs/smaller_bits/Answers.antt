@@ -1,5 +1,4 @@
 -- `floats::smaller_bits` meets its contract: the pattern of what `smaller` gives of the patterns' numbers.
-use borrow.Author.Rules.{rules}
 use Rattle.floats.proofs.smaller_bits.Goals as goal
 
 pub returns : goal.returns

@@ -1,5 +1,4 @@
 -- `vectors::clamp` meets its contract: each call is the definition's, in its order.
-use borrow.Author.Rules.{rules}
 use Rattle.vectors.specs.Vectors.{clamp_of}
 use Rattle.vectors.proofs.clamp.Goals as goal
 

@@ -1,5 +1,4 @@
 -- `vectors::clamp_each` meets its contract: each call is the definition's, in its order.
-use borrow.Author.Rules.{rules}
 use Rattle.vectors.specs.Vectors.{clamp_v}
 use Rattle.vectors.proofs.clamp_each.Goals as goal
 

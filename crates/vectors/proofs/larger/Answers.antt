@@ -1,5 +1,4 @@
 -- `vectors::larger` meets its contract: each call is the definition's, in its order.
-use borrow.Author.Rules.{rules}
 use Rattle.vectors.specs.Vectors.{larger_v}
 use Rattle.vectors.proofs.larger.Goals as goal
 

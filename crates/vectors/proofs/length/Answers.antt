@@ -1,5 +1,4 @@
 -- `vectors::length` meets its contract: each call is the definition's, in its order.
-use borrow.Author.Rules.{rules}
 use Rattle.vectors.specs.Vectors.{length_v}
 use Rattle.vectors.proofs.length.Goals as goal
 

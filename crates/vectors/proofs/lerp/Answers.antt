@@ -1,5 +1,4 @@
 -- `vectors::lerp` meets its contract: each call is the definition's, in its order.
-use borrow.Author.Rules.{rules}
 use Rattle.vectors.specs.Vectors.{lerp_v}
 use Rattle.vectors.proofs.lerp.Goals as goal
 

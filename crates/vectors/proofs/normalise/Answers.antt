@@ -1,5 +1,4 @@
 -- `vectors::normalise` meets its contract: each call is the definition's, in its order.
-use borrow.Author.Rules.{rules}
 use Rattle.vectors.specs.Vectors.{normal_v}
 use Rattle.vectors.proofs.normalise.Goals as goal
 

@@ -1,5 +1,4 @@
 -- `vectors::smaller` meets its contract: each call is the definition's, in its order.
-use borrow.Author.Rules.{rules}
 use Rattle.vectors.specs.Vectors.{smaller_v}
 use Rattle.vectors.proofs.smaller.Goals as goal
 

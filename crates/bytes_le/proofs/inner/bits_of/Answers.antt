@@ -1,6 +1,5 @@
 -- The test x != x finds the NaN, whose pattern is fixed; every other float has the pattern that the machine gives.
 use Rattle.bytes_le.proofs.Nan.{fixed, no_nan}
-use borrow.Author.Rules.{rules}
 use Rattle.bytes_le.proofs.inner.bits_of.Goals as goal
 
 pub returns-then-x : goal.returns-then-x

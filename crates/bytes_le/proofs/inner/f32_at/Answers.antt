@@ -2,7 +2,6 @@
 use mathlib.Core.Path.{◌∙◌, ap}
 use Rattle.names.specs.Bits.{lit}
 use Rattle.bytes_le.specs.Bytes.{f32_at}
-use borrow.Author.Rules.{rules}
 use Rattle.bytes_le.proofs.inner.f32_at.Goals as goal
 
 pub returns : goal.returns

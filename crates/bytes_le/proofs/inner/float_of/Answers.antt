@@ -1,6 +1,5 @@
 -- A pattern above the infinity's is a NaN's, and 0 / 0 is the NaN; every other pattern is taken as it stands.
 use Rattle.bytes_le.proofs.Nan.{of_nan, of_number}
-use borrow.Author.Rules.{rules}
 use Rattle.bytes_le.proofs.inner.float_of.Goals as goal
 
 pub returns-then-bits-gt-INFINITY : goal.returns-then-bits-gt-INFINITY

@@ -1,14 +1,14 @@
 -- After i turns the first i numbers are read, and what is left to read makes the whole.
 use borrow.Author.Rules.{rules}
 use native.Mathlib.Omega.{arith}
-use Prim.Native.Nat.{ℕ, suc, ◌+◌, ◌-◌, ◌*◌, ◌<◌, ◌≤◌}
-use mathlib.Core.Path.{◌≡◌, refl, sym, ap, ◌∙◌}
+use Prim.Native.Nat.{ℕ, ◌+◌, ◌-◌, ◌*◌, ◌<◌}
+use mathlib.Core.Path.{◌≡◌, refl, sym, ◌∙◌}
 use mathlib.Core.List.{List, ◌++◌}
 use lib.ListN.{length, take, set, length-set}
 use native.Mathlib.Nat.{sub-zero}
 use lib.Ieee.{Float}
 use Rattle.lists.specs.Fold.{tab, tab_step, tab_end}
-use Rattle.bytes_le.specs.Bytes.{f32_at, floats_at}
+use Rattle.bytes_le.specs.Bytes.{f32_at}
 use Rattle.bytes_le.proofs.inner.floats_into.Goals as goal
 
 one_more_lem : (s : List ℕ) (out whole : List Float) (at i : ℕ) (v : Float) → i < length out → v ≡ f32_at s (at + i * 4)

@@ -3,7 +3,6 @@ use mathlib.Core.Path.{◌∙◌, ap}
 use Prim.Native.Nat.{ℕ}
 use lib.Seq.{sets}
 use Rattle.bytes_le.specs.Bytes.{bytes4}
-use borrow.Author.Rules.{rules}
 use Rattle.bytes_le.proofs.inner.put_f32.Goals as goal
 
 pub returns : goal.returns

@@ -1,8 +1,7 @@
 -- The pattern's four bytes: where there is no NaN the machine's pattern is the definition's.
 use mathlib.Core.Path.{sym, subst}
-use mathlib.Core.Bool.{Bool, false, not}
+use mathlib.Core.Bool.{Bool, not}
 use lib.Dec.{T}
-use borrow.Author.Rules.{rules}
 use Rattle.bytes_le.proofs.inner.put_number.Goals as goal
 
 pub float_to_bits-x : goal.float_to_bits-x

@@ -3,7 +3,6 @@ use native.Mathlib.Omega.{arith}
 use Prim.Native.Nat.{◌/◌, ◌%◌}
 use lib.ListN.{length-set}
 use Rattle.bytes_le.specs.BytesLaws.{two_stores}
-use borrow.Author.Rules.{rules}
 use Rattle.bytes_le.proofs.inner.put_u16.Goals as goal
 
 pub bounds-s-at-2 : goal.bounds-s-at-2

@@ -1,7 +1,6 @@
 -- `floats::guesses::bend` stays in range: the products are bounded by their factors' bounds.
 use Prim.Native.Nat.{◌*◌, ◌+◌, ◌/◌, ◌%◌, ◌≤◌}
 use native.Mathlib.Omega.{arith}
-use borrow.Author.Rules.{rules}
 use Rattle.floats.proofs.Square.{prod_le}
 use Rattle.floats.proofs.guesses.bend.Goals as goal
 use Rattle.floats.proofs.guesses.bend.Goals.{Start}

@@ -1,5 +1,5 @@
 -- `floats::roots::down` meets its contract. The loop's invariant: r + 1/2 is above the root. The measure is r.
-use Prim.Native.Nat.{◌≤◌, ◌<◌, ◌*◌, ◌+◌}
+use Prim.Native.Nat.{◌≤◌}
 use native.Mathlib.Nat.{le_of_lt}
 use native.Mathlib.Omega.{arith}
 use Rattle.floats.specs.RootLaws.Square.{sq_le, at_least, rounds}

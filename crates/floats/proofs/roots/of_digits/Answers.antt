@@ -2,7 +2,6 @@
 use mathlib.Core.Path.{refl, subst}
 use Prim.Native.Nat.{ℕ, ◌+◌, ◌*◌, ◌%◌, ◌≤◌}
 use native.Mathlib.Omega.{arith}
-use borrow.Author.Rules.{rules}
 use Rattle.floats.specs.RootParts.{Rounds}
 use Rattle.floats.proofs.Square.{prod_le, scale}
 use Rattle.floats.proofs.roots.of_digits.Goals as goal

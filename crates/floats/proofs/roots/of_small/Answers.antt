@@ -1,6 +1,6 @@
 -- `floats::roots::of_small` meets its contract. The loop's invariant: m * 2^e is the number, whose 24 digits m comes to have. The measure is e.
-use mathlib.Core.Path.{◌≡◌, refl, ◌∙◌}
-use Prim.Native.Nat.{◌*◌, ◌^◌, ◌≤◌, ◌<◌}
+use mathlib.Core.Path.{refl, ◌∙◌}
+use Prim.Native.Nat.{◌<◌}
 use native.Mathlib.Omega.{arith}
 use Rattle.floats.proofs.Square.{room, double}
 use Rattle.floats.proofs.roots.of_small.Goals as goal

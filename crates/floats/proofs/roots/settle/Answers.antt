@@ -1,7 +1,6 @@
 -- `floats::roots::settle` meets its contract: the guess is right, or one of the two loops mends it.
 use Prim.Native.Nat.{◌*◌, ◌≤◌}
 use native.Mathlib.Omega.{arith}
-use borrow.Author.Rules.{rules}
 use Rattle.floats.specs.RootLaws.Square.{sq_le, rounds}
 use Rattle.floats.proofs.roots.settle.Goals as goal
 use Rattle.floats.proofs.roots.settle.Goals.{Start}

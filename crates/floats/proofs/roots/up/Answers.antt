@@ -1,5 +1,5 @@
 -- `floats::roots::up` meets its contract. The loop's invariant: r - 1/2 is below the root. The measure is what is left to 2^24.
-use Prim.Native.Nat.{◌<◌, ◌*◌, ◌+◌, ◌-◌}
+use Prim.Native.Nat.{◌<◌}
 use native.Mathlib.Nat.{le_of_lt}
 use native.Mathlib.Omega.{arith}
 use Rattle.floats.specs.RootLaws.Square.{sq_suc, sq_le, at_most, rounds}

@@ -4,7 +4,6 @@ use Prim.Native.Nat.{◌+◌, ◌/◌, ◌%◌, ◌^◌, ◌<◌}
 use mathlib.Core.Bool.{true, false}
 use native.Mathlib.Nat.{le_trans, le_of_eq}
 use native.Mathlib.Omega.{arith}
-use borrow.Author.Rules.{rules}
 use lib.Dec.{T, eqb}
 use lib.Ieee.{binary32, fits, to_bits, neg}
 use lib.Ieee.Bits.{to_bits-lt}

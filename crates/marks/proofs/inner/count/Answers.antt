@@ -1,12 +1,11 @@
 -- `marks::inner::count` gives the definition's fold: what is left of the mask, counted on from the count so far, is the whole. Assumes nothing.
-use Prim.Native.Nat.{◌-◌, ◌≤◌}
-use mathlib.Core.Path.{◌≡◌, refl, sym, ◌∙◌}
+use Prim.Native.Nat.{◌≤◌}
+use mathlib.Core.Path.{refl, sym, ◌∙◌}
 use native.Mathlib.Omega.{arith}
 use native.Mathlib.Nat.{sub-zero}
-use borrow.Author.Rules.{rules}
 use lib.ListN.{length}
-use Rattle.lists.specs.Fold.{fold, fold_step, fold_end}
-use Rattle.marks.specs.Marks.{tally, marked_count}
+use Rattle.lists.specs.Fold.{fold_step, fold_end}
+use Rattle.marks.specs.Marks.{marked_count}
 use Rattle.marks.specs.MarksLaws.{bit_most}
 use Rattle.marks.proofs.inner.count.Goals as goal
 use Rattle.marks.proofs.inner.count.Goals.{After-one-n}

@@ -1,6 +1,5 @@
 -- `marks::inner::is_marked` is the definition's test of the entry. Assumes nothing.
 use mathlib.Core.Path.{refl}
-use borrow.Author.Rules.{rules}
 use Rattle.marks.proofs.inner.is_marked.Goals as goal
 
 pub returns : goal.returns

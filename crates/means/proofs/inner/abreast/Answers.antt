@@ -1,6 +1,5 @@
 -- `means::inner::abreast` answers 1, or the inner voxels up to sixteen: the last voxel of the box lies in the grid, so what is taken off the length is no
 -- more than that. Assumes nothing.
-use borrow.Author.Rules.{rules}
 use native.Mathlib.Omega.{arith}
 use native.Mathlib.Nat.{le-mul_of_pos_right}
 use mathlib.Core.Path.{◌≡◌}

@@ -1,10 +1,10 @@
 -- `means::inner::box_sum` gives the definition's fold: what is left of the planes, folded over the sum so far, is the whole. Assumes nothing.
-use Prim.Native.Nat.{◌-◌, ◌*◌, ◌≤◌}
-use mathlib.Core.Path.{◌≡◌, refl, sym, ◌∙◌}
+use Prim.Native.Nat.{◌*◌}
+use mathlib.Core.Path.{refl, sym, ◌∙◌}
 use native.Mathlib.Omega.{arith}
 use native.Mathlib.Nat.{mul-le-mul_right}
-use Rattle.lists.specs.Fold.{fold, fold_step, fold_end, inside, factor}
-use Rattle.means.specs.Sums.{plus_plane, box_sum}
+use Rattle.lists.specs.Fold.{fold_step, fold_end, inside, factor}
+use Rattle.means.specs.Sums.{box_sum}
 use Rattle.means.proofs.inner.box_sum.Goals as goal
 
 pub loop-z-init : goal.loop-z-init

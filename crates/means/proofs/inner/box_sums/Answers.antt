@@ -1,12 +1,10 @@
 -- `means::inner::box_sums` gives the definition's sixteen folds: what is left of the planes, folded over the sums so far, is the whole. Assumes nothing.
 use Prim.Native.Nat.{ℕ, ◌+◌, ◌-◌, ◌*◌, ◌≤◌, ◌<◌}
-use mathlib.Core.Path.{◌≡◌, refl, sym, ◌∙◌}
+use mathlib.Core.Path.{refl, sym, ◌∙◌}
 use native.Mathlib.Omega.{arith}
 use native.Mathlib.Nat.{mul-le-mul_right, le-mul_of_pos_right}
-use lib.ListN.{length, get_or}
-use lib.Ieee.{nan}
-use Rattle.lists.specs.Fold.{fold, length_tab}
-use Rattle.means.specs.Sums.{last_in, plus_plane, box_sum, each}
+use Rattle.lists.specs.Fold.{length_tab}
+use Rattle.means.specs.Sums.{last_in, plus_plane, box_sum}
 use Rattle.means.proofs.Sixteen.{each_step, each_end, before, in_length}
 use Rattle.means.proofs.inner.box_sums.Goals as goal
 

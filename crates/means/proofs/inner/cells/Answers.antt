@@ -1,5 +1,4 @@
 -- `means::inner::cells` is the product, which is at most 27. Assumes nothing.
-use borrow.Author.Rules.{rules}
 use native.Mathlib.Omega.{arith}
 use native.Mathlib.Nat.{mul-le-mul}
 use Rattle.means.proofs.inner.cells.Goals as goal

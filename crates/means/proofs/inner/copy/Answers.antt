@@ -1,9 +1,9 @@
 -- `means::inner::copy` fills the list: what is written and what is left of the source is the source. Assumes nothing.
 use native.Mathlib.Omega.{arith}
-use mathlib.Core.Path.{◌≡◌, refl, sym, ap, ◌∙◌}
+use mathlib.Core.Path.{refl, sym, ap, ◌∙◌}
 use mathlib.Core.List.{List, ◌++◌, append-nil}
-use Prim.Native.Nat.{◌+◌, ◌≤◌, ◌<◌, ◌-◌}
-use lib.ListN.{length, take, drop, length-set, drop_of_length-le}
+use Prim.Native.Nat.{◌≤◌, ◌<◌}
+use lib.ListN.{length, take, length-set, drop_of_length-le}
 use lib.Seq.{take-suc-set, take_all, drop-cons, append_snoc}
 use native.Mathlib.Numerals.{add-one}
 use lib.Ieee.{nan, Float}

@@ -1,13 +1,10 @@
 -- `means::inner::mean` fills the list, voxel by voxel: what is written and what the definition gives for the rest is the whole. Assumes nothing.
-use borrow.Author.Rules.{rules}
 use native.Mathlib.Omega.{arith}
 use native.Mathlib.Nat.{sub-zero}
 use mathlib.Core.Path.{◌≡◌, refl, sym, ◌∙◌}
-use mathlib.Core.List.{◌++◌}
-use Prim.Native.Nat.{◌+◌, ◌*◌, ◌/◌, ◌≤◌, ◌-◌}
-use lib.ListN.{length, take}
-use Rattle.lists.specs.Fold.{tab, tab_end}
-use Rattle.means.specs.Box.{mean_at, mean_of}
+use Prim.Native.Nat.{◌+◌, ◌*◌}
+use Rattle.lists.specs.Fold.{tab_end}
+use Rattle.means.specs.Box.{mean_of}
 use Rattle.means.proofs.inner.mean.Goals as goal
 
 pub loop-v-init : goal.loop-v-init

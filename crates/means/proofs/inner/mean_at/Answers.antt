@@ -1,5 +1,4 @@
 -- `means::inner::mean_at` is the definition: the coordinates of a place in the list lie in the grid. Assumes nothing.
-use borrow.Author.Rules.{rules}
 use native.Mathlib.Omega.{arith}
 use native.Mathlib.Nat.{mod-lt, div-lt_iff_lt-mul}
 use mathlib.Core.Path.{◌≡◌}

@@ -1,5 +1,4 @@
 -- `means::inner::mean_in` is the definition: the bounds are those of the box, the sum is its walk by rows, and the count is the product of its sides. Assumes nothing.
-use borrow.Author.Rules.{rules}
 use native.Mathlib.Omega.{arith}
 use native.Mathlib.Nat.{mul-le-mul_right}
 use mathlib.Core.Path.{sym}

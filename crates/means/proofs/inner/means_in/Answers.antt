@@ -1,6 +1,5 @@
 -- `means::inner::means_in` is the definition for each of the sixteen: the bounds are those of the box, each sum is its walk by rows from +0, and the count is
 -- the product of its sides. Assumes nothing.
-use borrow.Author.Rules.{rules}
 use native.Mathlib.Omega.{arith}
 use mathlib.Core.Path.{◌≡◌, refl, sym, ap, ap₂, ◌∙◌}
 use mathlib.Core.List.{List}

@@ -1,5 +1,4 @@
 -- `means::inner::past_near` gives the smaller of x + 2 and n. Assumes nothing.
-use borrow.Author.Rules.{rules}
 use native.Mathlib.Omega.{arith}
 use Rattle.means.proofs.inner.past_near.Goals as goal
 

@@ -1,9 +1,9 @@
 -- `means::inner::plane_sum` gives the definition's fold: what is left of the rows, folded over the sum so far, is the whole. Assumes nothing.
-use Prim.Native.Nat.{◌+◌, ◌-◌, ◌*◌, ◌≤◌}
-use mathlib.Core.Path.{◌≡◌, refl, sym, ◌∙◌}
+use Prim.Native.Nat.{◌+◌}
+use mathlib.Core.Path.{refl, sym, ◌∙◌}
 use native.Mathlib.Omega.{arith}
-use Rattle.lists.specs.Fold.{fold, fold_step, fold_end, inside, factor}
-use Rattle.means.specs.Sums.{plus_row, plane_sum}
+use Rattle.lists.specs.Fold.{fold_step, fold_end, inside, factor}
+use Rattle.means.specs.Sums.{plane_sum}
 use Rattle.means.proofs.inner.plane_sum.Goals as goal
 
 pub loop-y-init : goal.loop-y-init

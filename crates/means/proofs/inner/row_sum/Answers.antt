@@ -1,5 +1,4 @@
 -- `means::inner::row_sum` gives the definition's fold over one, two or three columns. Assumes nothing.
-use borrow.Author.Rules.{rules}
 use native.Mathlib.Omega.{arith}
 use mathlib.Core.Path.{◌≡◌, sym, ap, ◌∙◌}
 use mathlib.Core.List.{List}

@@ -1,5 +1,4 @@
 -- `means::inner::row_sums` gives the definition's sixteen folds over one, two or three columns. Assumes nothing.
-use borrow.Author.Rules.{rules}
 use native.Mathlib.Omega.{arith}
 use Prim.Native.Nat.{◌+◌, ◌-◌, ◌≤◌}
 use Rattle.means.specs.Sums.{plus_cell, row_sum}

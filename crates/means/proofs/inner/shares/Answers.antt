@@ -1,13 +1,8 @@
 -- `means::inner::shares` fills the list: what is written and what the definition gives for the rest is the whole. Assumes nothing.
-use borrow.Author.Rules.{rules}
 use native.Mathlib.Omega.{arith}
-use mathlib.Core.Path.{◌≡◌, refl, sym, ◌∙◌}
-use mathlib.Core.List.{◌++◌}
-use Prim.Native.Nat.{◌≤◌, ◌-◌}
-use lib.ListN.{length, take, get_or, length-set}
-use lib.Ieee.{binary32, nan, div}
-use Rattle.lists.specs.Fold.{tab, tab_step, tab_end}
-use Rattle.means.specs.Sums.{each}
+use mathlib.Core.Path.{refl, sym, ◌∙◌}
+use lib.ListN.{length-set}
+use Rattle.lists.specs.Fold.{tab_step, tab_end}
 use Rattle.means.proofs.inner.shares.Goals as goal
 
 pub loop-k-init : goal.loop-k-init

@@ -1,12 +1,9 @@
 -- `means::inner::square` fills the list, some voxels at a time: what is written and what the definition gives for the rest is the whole. Assumes nothing.
 use native.Mathlib.Omega.{arith}
 use native.Mathlib.Nat.{sub-zero}
-use mathlib.Core.Path.{◌≡◌, refl, sym, ◌∙◌}
-use mathlib.Core.List.{◌++◌}
-use Prim.Native.Nat.{◌≤◌, ◌-◌}
-use lib.ListN.{length, take}
-use Rattle.lists.specs.Fold.{tab, tab_end}
-use Rattle.means.specs.Box.{square_at, light_blur_of}
+use mathlib.Core.Path.{refl, sym, ◌∙◌}
+use Rattle.lists.specs.Fold.{tab_end}
+use Rattle.means.specs.Box.{light_blur_of}
 use Rattle.means.proofs.inner.square.Goals as goal
 
 pub loop-i-init : goal.loop-i-init

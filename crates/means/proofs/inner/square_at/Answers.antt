@@ -1,5 +1,4 @@
 -- `means::inner::square_at` is the definition: the mean at stride 1, squared. Assumes nothing.
-use borrow.Author.Rules.{rules}
 use mathlib.Core.Path.{refl}
 use Rattle.means.specs.Box.{square_at}
 use Rattle.means.proofs.inner.square_at.Goals as goal

@@ -1,5 +1,4 @@
 -- `means::inner::squares` writes one square, or sixteen of which the first n are the definition's of the list's numbers from there on. Assumes nothing.
-use borrow.Author.Rules.{rules}
 use native.Mathlib.Omega.{arith}
 use native.Mathlib.Nat.{mod-lt, div-lt_iff_lt-mul, div-add-mod', mul-le-mul_right}
 use mathlib.Core.Path.{◌≡◌, ap, ◌∙◌}

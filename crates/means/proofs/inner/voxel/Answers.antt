@@ -1,5 +1,4 @@
 -- `means::inner::voxel` writes the voxel's sixteen means, which are the definition's of the list's numbers from there on. Assumes nothing.
-use borrow.Author.Rules.{rules}
 use native.Mathlib.Omega.{arith}
 use native.Mathlib.Nat.{mod-lt, div-lt_iff_lt-mul}
 use mathlib.Core.Path.{◌≡◌, refl}

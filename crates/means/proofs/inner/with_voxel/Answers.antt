@@ -1,14 +1,8 @@
 -- `means::inner::with_voxel` fills the list: what is written and what the definition gives for the rest is the whole. Assumes nothing.
-use borrow.Author.Rules.{rules}
 use native.Mathlib.Omega.{arith}
-use mathlib.Core.Path.{◌≡◌, refl, sym, ◌∙◌}
-use mathlib.Core.List.{◌++◌}
-use Prim.Native.Nat.{◌≤◌, ◌-◌}
-use lib.ListN.{length, take, get_or, length-set}
-use lib.Ieee.{nan}
-use Rattle.lists.specs.Fold.{tab, tab_step, tab_end}
-use Rattle.means.specs.Box.{plus}
-use Rattle.means.specs.Sums.{each}
+use mathlib.Core.Path.{refl, sym, ◌∙◌}
+use lib.ListN.{length-set}
+use Rattle.lists.specs.Fold.{tab_step, tab_end}
 use Rattle.means.proofs.inner.with_voxel.Goals as goal
 
 pub loop-k-init : goal.loop-k-init

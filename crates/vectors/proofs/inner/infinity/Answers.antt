@@ -1,5 +1,4 @@
 -- `vectors::inner::infinity` meets its contract: the pattern is no NaN's, and the definition's own.
-use borrow.Author.Rules.{rules}
 use lib.Ieee.{nan_bits}
 use Rattle.vectors.proofs.inner.infinity.Goals as goal
 

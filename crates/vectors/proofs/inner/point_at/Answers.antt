@@ -1,5 +1,4 @@
 -- `vectors::inner::point_at` meets its contract: the code is the definition, call for call and operation for operation.
-use borrow.Author.Rules.{rules}
 use Rattle.vectors.specs.Rays.{point_at}
 use Rattle.vectors.proofs.inner.point_at.Goals as goal
 

@@ -1,5 +1,4 @@
 -- `vectors::inner::ray_from` meets its contract: the code is the definition, call for call and operation for operation.
-use borrow.Author.Rules.{rules}
 use Rattle.vectors.specs.Rays.{ray_from}
 use Rattle.vectors.proofs.inner.ray_from.Goals as goal
 

@@ -1,11 +1,9 @@
 -- `words::inner::clear` fills the words with zeros: what is written and the zeros for the rest are the whole. Assumes nothing.
-use mathlib.Core.Path.{◌≡◌, refl, sym, ◌∙◌}
-use mathlib.Core.List.{◌++◌}
-use Prim.Native.Nat.{ℕ, ◌-◌, ◌≤◌}
+use mathlib.Core.Path.{refl, sym, ◌∙◌}
 use native.Mathlib.Omega.{arith}
 use native.Mathlib.Nat.{sub-zero}
-use lib.ListN.{length, take, length-set}
-use Rattle.lists.specs.Fold.{tab, tab_step, tab_end}
+use lib.ListN.{length-set}
+use Rattle.lists.specs.Fold.{tab_step, tab_end}
 use Rattle.words.specs.ByWords.{no_bits}
 use Rattle.words.proofs.inner.clear.Goals as goal
 

@@ -1,10 +1,7 @@
 -- `words::inner::count` adds the ones of each word, and those are the marked entries. Assumes nothing.
-use mathlib.Core.Path.{◌≡◌, refl, ◌∙◌}
-use Prim.Native.Nat.{◌+◌, ◌-◌, ◌*◌, ◌≤◌}
-use borrow.Author.Rules.{rules}
+use mathlib.Core.Path.{refl, ◌∙◌}
+use Prim.Native.Nat.{◌+◌, ◌*◌}
 use native.Mathlib.Omega.{arith}
-use lib.ListN.{length}
-use Rattle.words.specs.Words.{bit_at}
 use Rattle.words.specs.BitLaws.{total}
 use Rattle.words.specs.WordsLaws.{bits_word, bits_room, ones_marked}
 use Rattle.words.proofs.inner.count.Goals as goal

@@ -2,7 +2,6 @@
 use native.Mathlib.Omega.{arith}
 use Rattle.marks.specs.Marks.{is_marked}
 use Rattle.words.specs.BitLaws.{packed_eight}
-use borrow.Author.Rules.{rules}
 use Rattle.words.proofs.inner.eight_of.Goals as goal
 
 pub returns : goal.returns

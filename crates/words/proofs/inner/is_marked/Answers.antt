@@ -3,7 +3,6 @@ use mathlib.Core.Path.{ap, sym, ◌∙◌}
 use Prim.Native.Nat.{ℕ}
 use lib.Dec.{eqb}
 use Rattle.words.specs.WordsLaws.{entries_at}
-use borrow.Author.Rules.{rules}
 use Rattle.words.proofs.inner.is_marked.Goals as goal
 
 pub returns : goal.returns

@@ -1,11 +1,10 @@
 -- `words::inner::last_word` puts the word together from its highest bit down; past the last entry none is marked. Assumes nothing.
 use mathlib.Core.Path.{◌≡◌, sym, ap, ◌∙◌}
-use Prim.Native.Nat.{ℕ, ◌+◌, ◌-◌, ◌^◌, ◌≤◌, ◌<◌}
-use borrow.Author.Rules.{rules}
+use Prim.Native.Nat.{ℕ, ◌+◌, ◌-◌, ◌^◌, ◌<◌}
 use native.Mathlib.Omega.{arith}
 use native.Mathlib.Nat.{add-zero}
 use lib.Dec.{eqb}
-use lib.ListN.{length, get_or-eq_default}
+use lib.ListN.{get_or-eq_default}
 use Rattle.marks.specs.Marks.{is_marked}
 use Rattle.words.specs.Words.{packed}
 use Rattle.words.specs.BitLaws.{packed_none, packed_next, packed_room}

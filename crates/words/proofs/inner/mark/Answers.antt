@@ -4,7 +4,6 @@ use native.Mathlib.Omega.{arith}
 use lib.Seq.{set_out}
 use Rattle.words.specs.Words.{entries_of}
 use Rattle.words.specs.WordsLaws.{entries_length, put_holds}
-use borrow.Author.Rules.{rules}
 use Rattle.words.proofs.inner.mark.Goals as goal
 
 pub returns-then-n-i : goal.returns-then-n-i

@@ -1,6 +1,5 @@
 -- `words::inner::next_marked`: a marked voxel is its own next; else the search finds it. Assumes nothing.
 use mathlib.Core.Path.{sym, ◌∙◌}
-use borrow.Author.Rules.{rules}
 use native.Mathlib.Omega.{arith}
 use Rattle.words.specs.NextLaws.{first_here}
 use Rattle.words.proofs.inner.next_marked.Goals as goal

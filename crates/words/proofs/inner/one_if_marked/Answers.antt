@@ -1,5 +1,5 @@
 -- `words::inner::one_if_marked` is the definition, case by case. Assumes nothing.
-use mathlib.Core.Path.{refl, sym}
+use mathlib.Core.Path.{refl}
 use borrow.Author.Tests.{eq-eqb, ne_eqb}
 use native.Mathlib.Omega.{arith}
 use Rattle.words.proofs.inner.one_if_marked.Goals as goal

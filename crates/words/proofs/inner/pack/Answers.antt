@@ -1,11 +1,9 @@
 -- `words::inner::pack` fills the words: what is written and the words for the rest are the whole. Assumes nothing.
 use mathlib.Core.Path.{◌≡◌, refl, sym, ◌∙◌}
-use mathlib.Core.List.{◌++◌}
-use Prim.Native.Nat.{ℕ, ◌-◌, ◌≤◌}
 use native.Mathlib.Omega.{arith}
 use native.Mathlib.Nat.{sub-zero}
-use lib.ListN.{length, take, length-set}
-use Rattle.lists.specs.Fold.{tab, tab_step, tab_end}
+use lib.ListN.{length, length-set}
+use Rattle.lists.specs.Fold.{tab_step, tab_end}
 use Rattle.words.specs.Words.{word_count, word_of, words_of}
 use Rattle.words.proofs.inner.pack.Goals as goal
 

@@ -3,7 +3,6 @@ use Prim.Native.Nat.{◌/◌, ◌%◌}
 use native.Mathlib.Omega.{arith}
 use lib.ListN.{length-set}
 use Rattle.words.specs.EightLaws.{eight_stores}
-use borrow.Author.Rules.{rules}
 use Rattle.words.proofs.inner.put_eight.Goals as goal
 
 pub bounds-entries-first-2 : goal.bounds-entries-first-2

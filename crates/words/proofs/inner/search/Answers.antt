@@ -1,12 +1,7 @@
 -- `words::inner::search`: from where the search is, the first is the same as from where it began. Assumes nothing.
-use mathlib.Core.Path.{◌≡◌, refl, sym, ◌∙◌}
-use Prim.Native.Nat.{◌-◌, ◌/◌, ◌≤◌}
-use borrow.Author.Rules.{rules}
+use mathlib.Core.Path.{refl, sym, ◌∙◌}
 use native.Mathlib.Omega.{arith}
 use native.Mathlib.Nat.{pos_of_ne-zero}
-use Rattle.marks.specs.Marks.{is_marked}
-use Rattle.words.specs.Words.{entries_of}
-use Rattle.words.specs.ByWords.{next_from}
 use Rattle.words.specs.NextLaws.{first_end, next_word, next_here}
 use Rattle.words.proofs.inner.search.Goals as goal
 

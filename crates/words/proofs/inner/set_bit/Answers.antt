@@ -1,13 +1,12 @@
 -- `words::inner::set_bit` is the definition: `|` with a shifted 1 sets the bit. Assumes nothing.
 use mathlib.Core.Path.{ap, ◌∙◌}
-use Prim.Native.Nat.{ℕ, ◌/◌, ◌%◌, ◌^◌, ◌*◌}
+use Prim.Native.Nat.{ℕ, ◌/◌, ◌%◌, ◌^◌}
 use native.Mathlib.Omega.{arith}
 use native.Mathlib.Nat.{one-mul}
 use lib.Bits.{bit_or}
 use lib.ListN.{set, get_or}
 use Rattle.words.specs.ByWords.{put_at}
 use Rattle.words.specs.BitLaws.{shifted, or_puts}
-use borrow.Author.Rules.{rules}
 use Rattle.words.proofs.inner.set_bit.Goals as goal
 
 pub returns : goal.returns

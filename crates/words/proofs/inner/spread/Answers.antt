@@ -4,7 +4,6 @@ use Prim.Native.Nat.{◌*◌}
 use native.Mathlib.Omega.{arith}
 use lib.Bits.{and_le_r}
 use Rattle.words.specs.ByWords.{spread_of}
-use borrow.Author.Rules.{rules}
 use Rattle.words.proofs.inner.spread.Goals as goal
 
 pub overflow_add-result : goal.overflow_add-result

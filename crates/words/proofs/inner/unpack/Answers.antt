@@ -1,12 +1,10 @@
 -- `words::inner::unpack` fills the entries: what is written and the bits for the rest are the whole. Assumes nothing.
 use mathlib.Core.Path.{◌≡◌, refl, sym, ap, ◌∙◌}
-use mathlib.Core.List.{◌++◌}
-use Prim.Native.Nat.{ℕ, ◌-◌, ◌%◌, ◌≤◌}
 use native.Mathlib.Omega.{arith}
 use native.Mathlib.Nat.{sub-zero}
-use lib.ListN.{length, take, length-set}
+use lib.ListN.{length, length-set}
 use lib.Seq.{length-sets}
-use Rattle.lists.specs.Fold.{tab, tab_step, tab_end}
+use Rattle.lists.specs.Fold.{tab_step, tab_end}
 use Rattle.words.specs.Words.{bit_at, entries_of}
 use Rattle.words.specs.ByWords.{eight_bytes}
 use Rattle.words.specs.EightLaws.{eight_more}

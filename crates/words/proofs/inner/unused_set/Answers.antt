@@ -2,7 +2,6 @@
 use mathlib.Core.Path.{sym}
 use native.Mathlib.Omega.{arith}
 use Rattle.words.specs.WordsLaws.{unused_none, unused_word}
-use borrow.Author.Rules.{rules}
 use Rattle.words.proofs.inner.unused_set.Goals as goal
 
 pub returns-then-n-eq0 : goal.returns-then-n-eq0
