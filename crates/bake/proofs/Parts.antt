@@ -18,7 +18,7 @@ use Rattle.marks.specs.Marks.{marked_below}
 use Rattle.marks.specs.MarksLaws.{count_within}
 use Rattle.spread.specs.declared.Progress.{Progress}
 use Rattle.spread.specs.Spread.{progress_of, Stage, stage, Called, Walked, filled, started, walk, any_active, ended, walk_of, reached_by, accepted}
-use Rattle.spread.specs.Walks.{ended_progress, call_adds}
+use Rattle.spread.proofs.Walks.{ended_progress, call_adds}
 use Rattle.spread.specs.Refusing.{accepted_refusing}
 use Rattle.ends.specs.Ends.{filled_of, Finished}
 use Rattle.intake.specs.Intake.{BakeInput, input_of, voxel_numbers, voxel_count, active_entries, bake_cost, bake_refusal}

@@ -7,7 +7,7 @@ use Rattle.words.specs.Words.{unused_set}
 use Rattle.limits.specs.LimitsLaws.{either, any_of_three, materials_for, coefficients_row}
 use Rattle.spread.specs.Spread.{at_zero, Stage, unbroken, run, EachAtLeast, NoneRefused}
 use Rattle.spread.specs.Demand.{Lasts, rounded_up, all_active}
-use Rattle.spread.specs.Holds.{no_call_refused}
+use Rattle.spread.proofs.Holds.{no_call_refused}
 use Rattle.lists.specs.Laid.{laid}
 use Rattle.ends.specs.Ends.{ambient_at}
 use Rattle.gather.specs.Gather.{gathered_of}

@@ -8,7 +8,7 @@ use Rattle.std.proofs.lemmas.List.{length-map}
 use Rattle.spread.specs.declared.Progress.{Progress}
 use Rattle.spread.specs.Spread.{at_zero, Stage, stage, Called, Ran, then, actives, costs, stands, run, sum, EachAtLeast, NoneRefused}
 use Rattle.spread.specs.Demand.{Demand}
-use Rattle.spread.specs.Walks.{call_adds, actives_split, costs_split, costs_least, costs_most}
+use Rattle.spread.proofs.Walks.{call_adds, actives_split, costs_split, costs_least, costs_most}
 use Rattle.gather.specs.CostLaws.{cost_counted}
 use Rattle.intake.specs.Intake.{BakeInput, input_for, solid_of, voxel_count, bake_cost, bake_refusal}
 use Rattle.intake.specs.IntakeLaws.{zero_at_zero, fits, none_refused}

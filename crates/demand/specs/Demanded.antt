@@ -10,7 +10,7 @@ use Rattle.marks.specs.MarksLaws.{count_apart}
 use Rattle.spread.specs.declared.Progress.{Progress}
 use Rattle.spread.specs.Spread.{Stage, actives}
 use Rattle.spread.specs.Demand.{KnowsRays, Fair, Demand}
-use Rattle.spread.specs.Holds.{demand}
+use Rattle.spread.proofs.Holds.{demand}
 use Rattle.ends.specs.EndsLaws.{length_ambient}
 use Rattle.gather.specs.GatherLaws.{length_gathered, cost_least, cost_most}
 use Rattle.intake.specs.Intake.{BakeInput, active_entries, bake_refusal, GoodProgress}

@@ -10,7 +10,7 @@ use Rattle.std.specs.Float.{nan}
 use Rattle.std.specs.Float.Ieee.{of_bits, of_int}
 use Rattle.spread.specs.Spread.{progress_of, at_zero, stage, Bake, Called, walk, call, run, sum, EachAtLeast, NoneRefused}
 use Rattle.lists.specs.Any.{any}
-use Rattle.spread.specs.Bare.{bare, Agree, run_same}
+use Rattle.spread.proofs.Bare.{bare, Agree, run_same}
 use Rattle.lists.specs.Some.{some}
 use Rattle.limits.specs.Limits.{within, bad_coefficients}
 use Rattle.lists.specs.Fold.{fold, tab}
@@ -25,7 +25,7 @@ use Rattle.marks.specs.Marks.{is_marked}
 use Rattle.words.specs.Words.{entries_of}
 use Rattle.ends.specs.Ends.{ambient_voxel, ambient_at}
 use Rattle.spread.specs.Demand.{Fair}
-use Rattle.spread.specs.Holds.{no_call_refused, refusals_zero}
+use Rattle.spread.proofs.Holds.{no_call_refused, refusals_zero}
 use Rattle.intake.specs.Intake.{bad_volume, active_entries, bake_cost, bake_refusal}
 use Rattle.intake.specs.IntakeLaws.{fits, none_refused, still_passed}
 use Rattle.intake.specs.Three.{three_with, three, one_lamp, three_lit, begun, three_accepted, lit_accepted}

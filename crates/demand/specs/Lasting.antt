@@ -24,7 +24,7 @@ use Rattle.limits.specs.declared.Ambient.{Ambient}
 use Rattle.means.specs.Box.{mean_of}
 use Rattle.spread.specs.declared.Progress.{Progress}
 use Rattle.spread.specs.Spread.{Stage, stage, Walked, filled, started, any_active, ended, accepted, call}
-use Rattle.spread.specs.Walks.{Walks, walks, none, skip, stop, taken, walk_to}
+use Rattle.spread.proofs.Walks.{Walks, walks, none, skip, stop, taken, walk_to}
 use Rattle.spread.specs.Demand.{Lasts}
 use Rattle.ends.specs.Ends.{ambient_voxel, ambient_at, mean_over}
 use Rattle.ends.specs.EndsLaws.{length_ambient}

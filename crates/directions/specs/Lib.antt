@@ -4,5 +4,3 @@ pub mod Sets
 pub mod Filled
 pub mod Rule
 pub mod Triples
-pub mod RuleLaws
-pub mod FilledLaws

@@ -1,6 +1,6 @@
 -- Where the named constants come from, by computation: each is the Rust's constant expression in f32, rounded at every operation. And
 -- what the brightness floor leaves alone.
-use Rattle.std.specs.Prelude.{◌≡◌, refl, Bool, true, false, cond, Float}
+use Rattle.std.specs.Prelude.{◌≡◌, refl, Bool, true, false, cond}
 use Rattle.std.specs.Float.Ieee as Ieee
 use Rattle.std.specs.Float.{binary32}
 use Rattle.std.specs.Float.Ieee.{of_bits}

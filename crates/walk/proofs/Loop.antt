@@ -15,7 +15,7 @@ use Rattle.words.specs.ByWords.{next_from}
 use Rattle.words.specs.NextLaws.{next_from_lem}
 use Rattle.grid.specs.GridLaws.{voxels_most}
 use Rattle.spread.specs.Spread.{Walked, walked, more, walk}
-use Rattle.spread.specs.Walks.{so_far_stop, so_far_end, so_far_skip, so_far_take}
+use Rattle.spread.proofs.Walks.{so_far_stop, so_far_end, so_far_skip, so_far_take}
 use Rattle.gather.specs.Gather.{gathered_of}
 use Rattle.gather.specs.GatherLaws.{length_gathered, cost_least, cost_most}
 use Rattle.intake.specs.Intake.{BakeInput, voxel_numbers, voxel_count, active_entries, bake_cost}

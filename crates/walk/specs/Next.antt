@@ -7,7 +7,7 @@ use Prim.Native.Nat.{ℕ, zero, suc, ◌+◌, ◌-◌}
 use native.Mathlib.Omega.{arith}
 use Rattle.words.specs.ByWords.{next_from}
 use Rattle.spread.specs.Spread.{Bake, Walked, more, walk}
-use Rattle.spread.specs.Walks.{so_far_skip}
+use Rattle.spread.proofs.Walks.{so_far_skip}
 
 -- w is a walk that has fired r rays of a and stands at voxel i of n with the volume v
 module _ {A : Type 0} (b : Bake A) {w : Walked A} (r a n : ℕ) (v : List A) where

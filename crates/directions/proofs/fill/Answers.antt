@@ -2,8 +2,8 @@
 use native.Mathlib.Omega.{arith}
 use mathlib.Core.Path.{sym, ap, ◌∙◌}
 use lib.ListN.{length}
-use Rattle.directions.specs.RuleLaws.{directions_length}
-use Rattle.directions.specs.FilledLaws.{fill_refused, table_filled}
+use Rattle.directions.proofs.RuleLaws.{directions_length}
+use Rattle.directions.proofs.FilledLaws.{fill_refused, table_filled}
 use Rattle.directions.proofs.fill.Goals as goal
 
 pub returns-then-out-ne1728 : goal.returns-then-out-ne1728

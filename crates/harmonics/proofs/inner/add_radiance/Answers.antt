@@ -1,5 +1,4 @@
 -- `harmonics::inner::add_radiance` meets its contract: the test is the definition's, and each way gives what the definition picks.
-use borrow.Author.Rules.{rules}
 use Rattle.harmonics.specs.Harmonics.{added_to}
 use Rattle.harmonics.proofs.inner.add_radiance.Goals as goal
 

@@ -1,6 +1,5 @@
 -- `harmonics::inner::add_weighted` meets its contract: the code is the definition, operation for operation.
 use mathlib.Core.Path.{refl}
-use borrow.Author.Rules.{rules}
 use Rattle.harmonics.specs.Harmonics.{add_weighted}
 use Rattle.harmonics.proofs.inner.add_weighted.Goals as goal
 

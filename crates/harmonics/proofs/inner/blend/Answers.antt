@@ -1,5 +1,4 @@
 -- `harmonics::inner::blend` meets its contract: the code is the definition, operation for operation.
-use borrow.Author.Rules.{rules}
 use Rattle.harmonics.specs.Harmonics.{blended_each}
 use Rattle.harmonics.proofs.inner.blend.Goals as goal
 

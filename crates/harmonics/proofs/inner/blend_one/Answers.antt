@@ -1,5 +1,4 @@
 -- `harmonics::inner::blend_one` meets its contract: the code is the definition, operation for operation.
-use borrow.Author.Rules.{rules}
 use Rattle.harmonics.specs.Harmonics.{blended_v}
 use Rattle.harmonics.proofs.inner.blend_one.Goals as goal
 

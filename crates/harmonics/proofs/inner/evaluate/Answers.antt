@@ -1,5 +1,4 @@
 -- `harmonics::inner::evaluate` meets its contract: the code is the definition, operation for operation.
-use borrow.Author.Rules.{rules}
 use Rattle.harmonics.specs.Harmonics.{evaluated_at}
 use Rattle.harmonics.proofs.inner.evaluate.Goals as goal
 

@@ -1,5 +1,4 @@
 -- `harmonics::inner::floor_brightness` meets its contract: its two tests are the definition's, and each way gives what the definition picks.
-use borrow.Author.Rules.{rules}
 use Rattle.harmonics.specs.Harmonics.{floored_of, shortfall_of}
 use Rattle.harmonics.proofs.inner.floor_brightness.Goals as goal
 

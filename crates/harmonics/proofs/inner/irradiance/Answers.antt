@@ -1,5 +1,4 @@
 -- `harmonics::inner::irradiance` meets its contract: the code is the definition, operation for operation.
-use borrow.Author.Rules.{rules}
 use Rattle.harmonics.specs.Harmonics.{irradiance_of}
 use Rattle.harmonics.proofs.inner.irradiance.Goals as goal
 

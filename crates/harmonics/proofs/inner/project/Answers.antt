@@ -1,5 +1,4 @@
 -- `harmonics::inner::project` meets its contract: the code is the definition, call for call and operation for operation.
-use borrow.Author.Rules.{rules}
 use Rattle.harmonics.specs.Harmonics.{projected}
 use Rattle.harmonics.proofs.inner.project.Goals as goal
 

@@ -1,5 +1,4 @@
 -- `harmonics::inner::raise` meets its contract: the code is the definition, operation for operation.
-use borrow.Author.Rules.{rules}
 use Rattle.harmonics.specs.Harmonics.{raised_v}
 use Rattle.harmonics.proofs.inner.raise.Goals as goal
 

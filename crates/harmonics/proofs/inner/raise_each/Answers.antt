@@ -1,5 +1,4 @@
 -- `harmonics::inner::raise_each` meets its contract: the code is the definition, operation for operation.
-use borrow.Author.Rules.{rules}
 use Rattle.harmonics.specs.Harmonics.{raised_of}
 use Rattle.harmonics.proofs.inner.raise_each.Goals as goal
 

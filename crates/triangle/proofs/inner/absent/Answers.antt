@@ -1,6 +1,5 @@
 -- `triangle::inner::absent` meets its contract: the code is the definition, call for call.
 use Rattle.triangle.specs.Meet.{absent_of}
-use borrow.Author.Rules.{rules}
 use Rattle.triangle.proofs.inner.absent.Goals as goal
 
 pub returns : goal.returns

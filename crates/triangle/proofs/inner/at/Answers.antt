@@ -1,6 +1,5 @@
 -- `triangle::inner::at` meets its contract: each corner stands where the definition reads it.
 use Rattle.triangle.specs.Places.{triangle_at}
-use borrow.Author.Rules.{rules}
 use Rattle.triangle.proofs.inner.at.Goals as goal
 
 pub returns : goal.returns

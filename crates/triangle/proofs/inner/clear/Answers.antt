@@ -1,14 +1,14 @@
 -- `triangle::inner::clear` meets its contract. The loop's invariant: of the first j triangles those before the c-th are missed. A triangle that is not
 -- outside lowers c to its own place, so it is never counted.
-use mathlib.Core.Path.{◌≡◌, refl, sym, ◌∙◌}
+use mathlib.Core.Path.{◌≡◌, refl}
 use mathlib.Core.Bool.{Bool, true, false, cond}
 use mathlib.Core.Logic.{⊎_elim}
-use Prim.Native.Nat.{ℕ, ◌+◌, ◌-◌, ◌≤◌, ◌<◌}
+use Prim.Native.Nat.{ℕ, ◌+◌, ◌≤◌, ◌<◌}
 use native.Mathlib.Nat.{eq-or-lt_of_le}
 use native.Mathlib.Omega.{arith}
 use Rattle.triangle.specs.declared.Meet.TheVariants.{Miss}
 use Rattle.triangle.specs.Meet.{meet_of}
-use Rattle.triangle.specs.Missed.{Missed, outside_missed}
+use Rattle.triangle.specs.Missed.{outside_missed}
 use Rattle.triangle.specs.Places.{triangle_at}
 use borrow.Author.Rules.{rules}
 use Rattle.triangle.proofs.inner.clear.Goals as goal

@@ -1,6 +1,5 @@
 -- `triangle::inner::half_solved` meets its contract: the code is the definition, call for call.
 use Rattle.triangle.specs.Halves.{half_solved_of}
-use borrow.Author.Rules.{rules}
 use Rattle.triangle.proofs.inner.half_solved.Goals as goal
 
 pub returns : goal.returns

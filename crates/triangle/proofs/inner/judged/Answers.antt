@@ -1,6 +1,5 @@
 -- `triangle::inner::judged` meets its contract: at each return the tests that led there choose the same way through the definition.
 use Rattle.triangle.specs.Meet.{judged_of}
-use borrow.Author.Rules.{rules}
 use Rattle.triangle.proofs.Chosen.{chosen}
 use Rattle.triangle.proofs.inner.judged.Goals as goal
 

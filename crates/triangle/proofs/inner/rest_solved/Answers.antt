@@ -1,6 +1,5 @@
 -- `triangle::inner::rest_solved` meets its contract: the code is the definition, call for call.
 use Rattle.triangle.specs.Halves.{rest_solved_of}
-use borrow.Author.Rules.{rules}
 use Rattle.triangle.proofs.inner.rest_solved.Goals as goal
 
 pub returns : goal.returns

@@ -1,6 +1,5 @@
 -- `triangle::inner::solve` meets its contract: the two halves make what is solved.
 use Rattle.triangle.specs.Halves.{two_halves}
-use borrow.Author.Rules.{rules}
 use Rattle.triangle.proofs.inner.solve.Goals as goal
 
 pub returns : goal.returns

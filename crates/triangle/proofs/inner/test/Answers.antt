@@ -1,11 +1,9 @@
 -- `triangle::inner::test` meets its contract: u outside 0..1 is a miss; what the judgement misses is missed, absent or not; a hit of an absent triangle
 -- is a miss, and any other stands.
 use mathlib.Core.Path.{◌≡◌, sym, ◌∙◌}
-use Rattle.triangle.specs.declared.Meet.TheVariants.{Miss}
 use Rattle.triangle.specs.Halves.{two_halves, beside_missed}
 use Rattle.triangle.specs.Meet.{solved_of, judged_of, meet_of}
 use Rattle.triangle.specs.Laws.{judged_missed}
-use borrow.Author.Rules.{rules}
 use Rattle.triangle.proofs.inner.test.Goals as goal
 use Rattle.triangle.proofs.inner.test.Goals.{After-judged-m}
 

@@ -6,7 +6,7 @@ use Rattle.names.specs.Numbers.{sky_numbers}
 use Rattle.names.specs.Refusals.{first_of, RefusedBy, refused_by, kept, given}
 use Rattle.directions.specs.Table.{directions}
 use Rattle.directions.specs.Filled.{fill_rows, fill_refusal, DirectionsFilled}
-use Rattle.directions.specs.RuleLaws.{directions_length}
+use Rattle.directions.proofs.RuleLaws.{directions_length}
 
 -- ---- one result
 

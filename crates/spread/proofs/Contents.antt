@@ -6,7 +6,7 @@ use Rattle.std.proofs.Math.Decide.{ℕ_discrete}
 use Rattle.lists.specs.Laid.{replaced, laid_same, replaced_laid}
 use Rattle.spread.specs.Spread.{Bake, Walked, filled, unblurred, standing, stands}
 use Rattle.spread.specs.Demand.{Sized}
-use Rattle.spread.specs.Walks.{Walks, none, skip, stop, taken}
+use Rattle.spread.proofs.Walks.{Walks, none, skip, stop, taken}
 
 module _ {A : Type 0} (b : Bake A) (sized : Sized b) where
   pub length_standing : (p i : ℕ) → length (standing b p i) ≡ b.size

@@ -9,7 +9,7 @@ use Prim.Native.Nat.{ℕ, zero, suc, ◌+◌, ◌-◌, ◌≤◌, ◌<◌}
 use borrow.Author.Tests.{ne_eqb}
 use Rattle.lists.specs.Laid.{replaced}
 use Rattle.spread.specs.Spread.{Stage, Bake, Walked, walked, more, started, walk, reached_by, accepted, call, run, NoneRefused}
-use Rattle.spread.specs.Walks.{ended_progress, walks, walk_to}
+use Rattle.spread.proofs.Walks.{ended_progress, walks, walk_to}
 
 -- a bake of nothing but voxels and their costs
 abbrev pub bare : ℕ → ℕ → (ℕ → Bool) → (ℕ → ℕ) → Bake Unit

@@ -7,9 +7,9 @@ use Rattle.std.proofs.Math.Bool.{true, false}
 use Rattle.spread.specs.declared.Progress.{Progress}
 use Rattle.spread.specs.Spread.{progress_of, at_zero, Stage, stage, Bake, started, any_active, call, unblurred, unbroken, costs, stands}
 use Rattle.spread.specs.Demand.{Sized, Fair}
-use Rattle.spread.specs.Contents.{stands_filled}
-use Rattle.spread.specs.Walks.{unbroken_progress}
-use Rattle.spread.specs.Holds.{StandsWhere, along_call, rests_done}
+use Rattle.spread.proofs.Contents.{stands_filled}
+use Rattle.spread.proofs.Walks.{unbroken_progress}
+use Rattle.spread.proofs.Holds.{StandsWhere, along_call, rests_done}
 
 module _ {A : Type 0} (b : Bake A) where
   -- what a begun bake carries on: short of the end the voxels below next as they stand, the others ambient, and the rays fired for them; then the unbroken

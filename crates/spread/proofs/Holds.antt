@@ -10,8 +10,8 @@ use Rattle.std.proofs.Math.Nat.{zero-add, sub-zero, suc-mul, zero-mul, lt-div-mu
 use Rattle.lists.specs.Laid.{voxel_part, part_of_laid}
 use Rattle.spread.specs.declared.Progress.{Progress}
 use Rattle.spread.specs.Spread.{progress_of, at_zero, Stage, Bake, Called, Walked, started, blurred, walk_of, reached_by, baked, accepted, call, unbroken, actives, costs, standing, stands, run, sum, EachAtLeast, NoneRefused}
-use Rattle.spread.specs.Walks.{Walks, ended_progress, unbroken_progress, walks, walk_from, walk_to, walk_goes, walk_costs, walk_fires, walk_stops, walk_takes, walk_rays, walk_passed, call_adds, actives_split, costs_split, costs_least, costs_most}
-use Rattle.spread.specs.Contents.{length_standing, walk_stands, stands_filled, stands_unblurred}
+use Rattle.spread.proofs.Walks.{Walks, ended_progress, unbroken_progress, walks, walk_from, walk_to, walk_goes, walk_costs, walk_fires, walk_stops, walk_takes, walk_rays, walk_passed, call_adds, actives_split, costs_split, costs_least, costs_most}
+use Rattle.spread.proofs.Contents.{length_standing, walk_stands, stands_filled, stands_unblurred}
 use Rattle.spread.specs.Demand.{KnowsRays, Fair, Lasts, rounded_up, all_active, finished, Demand}
 
 module _ {A : Type 0} (b : Bake A) (fair : Fair b) where
