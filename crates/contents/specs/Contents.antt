@@ -3,7 +3,7 @@
 -- 4 occupied, 5 six corner floats, all required; 128..255 are foreign bodies of any length, skipped; every other kind is refused."
 -- Kinds that ascend and hold 1 to 5 begin with them, so entry i is judged by its place (`contents_in_words` of volume_laws shows both ways). Offsets and
 -- lengths are whole numbers here: their sums cannot wrap. Assumes nothing.
-use Rattle.std.specs.Prelude.{Bool, true, false, cond, ◌&&◌, List, [], ◌∷◌, ◌++◌, ℕ, zero, suc, ◌+◌, ◌*◌, leb, ltb, eqb, length, get_or}
+use Rattle.std.specs.Prelude.{Bool, false, cond, ◌&&◌, List, [], ◌∷◌, ◌++◌, ℕ, zero, suc, ◌+◌, ◌*◌, leb, ltb, eqb, length, get_or}
 use Rattle.names.specs.Numbers.{least_entries, most_entries, first_foreign, last_foreign}
 use Rattle.bytes_le.specs.Bytes.{u16_at, u32_at, bytes2, bytes4}
 use Rattle.grid.specs.declared.Axes.{Axes}

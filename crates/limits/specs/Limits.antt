@@ -1,7 +1,7 @@
 -- The numbers accepted. For each row of document 01's table one test of the arguments that it concerns: true where the row's number
 -- is given. A bound is tested as −b ≤ x ≤ b, which no NaN and no infinity passes, so that it says finite too. A call's chain is a
 -- list of such rows in its own order; a row that speaks of voxels or edges stands after row 1. Assumes nothing.
-use Rattle.std.specs.Prelude.{Bool, true, false, cond, not, ◌&&◌, ◌||◌, List, [], ◌∷◌, ℕ, ◌+◌, ◌*◌, ◌/◌, ◌%◌, ltb, leb, eqb, length, Float}
+use Rattle.std.specs.Prelude.{Bool, false, cond, not, ◌&&◌, ◌||◌, List, [], ◌∷◌, ℕ, ◌+◌, ◌*◌, ◌/◌, ◌%◌, ltb, leb, eqb, length, Float}
 use Rattle.std.specs.Float.Ieee as Ieee
 use Rattle.std.specs.Float.Ieee.{is_nan}
 use Rattle.names.specs.Bits.{zero32, one32}

@@ -1,5 +1,5 @@
 -- The test accepts a tree exactly when it is accepted. Assumes nothing.
-use Rattle.std.specs.Prelude.{◌≡◌, Bool, ◌&&◌, ◌||◌, List, ◌↔◌, ℕ, ◌-◌, ◌/◌, ◌≤◌, length, get_or, Float}
+use Rattle.std.specs.Prelude.{◌≡◌, Bool, ◌&&◌, ◌||◌, List, ◌↔◌, ℕ, ◌/◌, ◌≤◌, length, get_or, Float}
 use Rattle.std.proofs.Math.Path.{refl}
 use Rattle.std.proofs.Common.{sym, ◌∙◌, length-set}
 use Rattle.std.proofs.Math.Bool.{true, false, false≢true}

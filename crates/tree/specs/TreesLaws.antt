@@ -1,6 +1,6 @@
 -- Row 16 passes exactly when the tree that the scene comes with is accepted; a scene without one always passes.
 use Rattle.std.specs.Prelude.{◌≡◌, refl, Bool, true, false, not, ◌&&◌, List, ◌↔◌, ℕ, ◌/◌, ◌≤◌, length, Float}
-use Rattle.std.proofs.Common.{sym, ◌∙◌, arith}
+use Rattle.std.proofs.Common.{sym, arith}
 use Rattle.std.proofs.lemmas.Bool.{false≢true}
 use Rattle.names.specs.Numbers.{triangle_limit}
 use Rattle.names.specs.Scene.{Scene, Sound, tree_scene}

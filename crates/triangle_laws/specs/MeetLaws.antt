@@ -7,7 +7,7 @@ use Rattle.vectors.specs.declared.Ray.{Ray}
 use Rattle.vectors.specs.declared.Triangle.{Triangle}
 use Rattle.triangle.specs.declared.Meet.{Meet}
 use Rattle.triangle.specs.declared.Meet.TheVariants.{Miss, Hit}
-use Rattle.triangle.specs.Meet.{solved_of, front_of, judged_of, meet_of}
+use Rattle.triangle.specs.Meet.{front_of, judged_of, meet_of}
 use Rattle.triangle.specs.Laws.{HitPasses, hit_met}
 
 -- each of the tests, in the definition's order, of the solved numbers
