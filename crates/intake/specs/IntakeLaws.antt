@@ -12,7 +12,7 @@ use Rattle.spread.specs.Spread.{progress_of, at_zero, Stage}
 use Rattle.grid.specs.Grid.{AxesWithin}
 use Rattle.limits.specs.Limits.{bad_axes, bad_grid, wrong_scene, wrong_length, wrong_lamps, short_hits, too_many, bad_points, bad_materials_for, below_cost, lamp_count, bad_lamps, bad_lights}
 use Rattle.tree.specs.Trees.{bad_tree, TreeStands}
-use Rattle.tree.specs.TreesLaws.{sound_tree}
+use Rattle.tree.proofs.TreesLaws.{sound_tree}
 use Rattle.marks.specs.Marks.{marked_below}
 use Rattle.words.specs.Words.{word_count, unused_set, Tidy}
 use Rattle.limits.specs.LimitsLaws.{either, any_of_three, axes_row, sound, materials_for, solid_same, long_hits, room, lamps_row}

@@ -5,7 +5,7 @@ use Rattle.std.specs.Prelude.{ℕ, zero, suc, ◌+◌, ◌*◌, min, cond, nat_l
 use Rattle.std.specs.Float.Ieee as Ieee
 use Rattle.std.specs.Float.{binary32}
 use Rattle.std.specs.Float.Ieee.{to_unsigned}
-use Rattle.names.specs.Bits.{lit, zero32, half32, one32, two32}
+use Rattle.names.specs.Bits.{zero32, half32, one32, two32}
 use Rattle.names.specs.Numbers.{most_samples, most_target}
 use Rattle.floats.specs.Whole.{ceiling_of}
 use Rattle.vectors.specs.declared.Vec3.{Vec3}

@@ -1,6 +1,5 @@
 -- `panels::inner::counts_at` meets its contract: the front always counts, and from behind the definition asks the kind.
 use Rattle.panels.specs.Panels.{counts}
-use borrow.Author.Rules.{rules}
 use Rattle.panels.proofs.inner.counts_at.Goals as goal
 
 pub returns-then-front : goal.returns-then-front

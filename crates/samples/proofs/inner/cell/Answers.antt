@@ -1,5 +1,5 @@
 -- `samples::inner::cell` is the definition, axis by axis; what lies on all three has an index. Assumes nothing.
-use Rattle.std.proofs.Common.{sym, refl, ◌∙◌, arith, rules}
+use Rattle.std.proofs.Common.{sym, refl, ◌∙◌, arith}
 use Rattle.samples.specs.Samples.{edges_above, index_within, cell_of}
 use Rattle.samples.specs.FallsLaws.{OnAxis, on_axis_lem}
 use Rattle.samples.proofs.inner.cell.Goals as goal
@@ -44,7 +44,10 @@ floored-requires-3 c = let e = c.before.before in ((on_z e).above, (on_z e).belo
 pub index-requires : goal.index-requires
 index-requires c =
     let e = c.before.before.before in
-    (e.requires, (rw c.floored.ensures (on_x e).within, rw c.floored-2.ensures (on_y e).within, rw c.floored-3.ensures (on_z e).within))
+    record {
+      axes_within = e.requires;
+      x_lt_width = (rw c.floored.ensures (on_x e).within, rw c.floored-2.ensures (on_y e).within, rw c.floored-3.ensures (on_z e).within);
+    }
 
 pub returns : goal.returns
 unfolding cell_of index_within

@@ -1,5 +1,5 @@
 -- `samples::inner::density` is the definition, operation for operation. Assumes nothing.
-use Rattle.std.proofs.Common.{refl, rules}
+use Rattle.std.proofs.Common.{refl}
 use Rattle.samples.specs.Samples.{density_of}
 use Rattle.samples.proofs.inner.density.Goals as goal
 

@@ -1,5 +1,5 @@
 -- `samples::inner::off_axis`: below 0 there is no cell, and else there is one exactly below n. Assumes nothing.
-use Rattle.std.proofs.Common.{sym, arith, rules}
+use Rattle.std.proofs.Common.{sym, arith}
 use Rattle.samples.specs.FallsLaws.{off_axis, off_below}
 use Rattle.samples.proofs.inner.off_axis.Goals as goal
 

@@ -1,5 +1,5 @@
 -- `samples::inner::point` is the definition, operation for operation. Assumes nothing.
-use Rattle.std.proofs.Common.{refl, rules}
+use Rattle.std.proofs.Common.{refl}
 use Rattle.samples.specs.Samples.{point_of}
 use Rattle.samples.proofs.inner.point.Goals as goal
 

@@ -1,5 +1,5 @@
 -- `samples::inner::sample_cell` is the definition: a sample whose third weight is below 0 is skipped, and any other has the cell of its point. Assumes nothing.
-use Rattle.std.proofs.Common.{◌≡◌, true, false, rules}
+use Rattle.std.proofs.Common.{◌≡◌, true, false}
 use lib.Ieee as Ieee
 use Rattle.names.specs.Bits.{zero32}
 use Rattle.samples.specs.Samples.{sample_cell}

@@ -1,5 +1,5 @@
 -- `samples::inner::sample_count` is the definition, step by step. Assumes nothing.
-use Rattle.std.proofs.Common.{refl, rules}
+use Rattle.std.proofs.Common.{refl}
 use Rattle.samples.proofs.inner.sample_count.Goals as goal
 
 pub returns : goal.returns

@@ -1,5 +1,5 @@
 -- `samples::inner::share` is the definition, operation for operation. Assumes nothing.
-use Rattle.std.proofs.Common.{refl, rules}
+use Rattle.std.proofs.Common.{refl}
 use Rattle.samples.specs.Samples.{share_of}
 use Rattle.samples.proofs.inner.share.Goals as goal
 

@@ -15,7 +15,7 @@ use Rattle.boxes.specs.Boxes.{bounds_at, padded_of, passed_over}
 use Rattle.boxes.specs.BoxLaws.{passed_inside, NumbersOf, inside_numbers}
 use Rattle.tree.specs.Tree.{box_count, count_at, inner_at, left_at, right_at, place_at, present_at, sum_to, one, halves_of, parents_to, run_to, leaf_of, stands_to, AcceptedTree}
 use Rattle.tree.specs.SumLaws.{one_self, one_other, positive, sum_more, sum_less, sum_same, sum_plus, sum_ones, sum_swap, sum_hit}
-use Rattle.tree.specs.TestLaws.{present_within}
+use Rattle.tree.proofs.TestLaws.{present_within}
 
 module _ (points boxes : List Float) (nodes order : List ℕ) (t : AcceptedTree points boxes nodes order) where
   -- ---- the triangles of a leaf

@@ -11,11 +11,11 @@ use Rattle.names.specs.Numbers.{triangle_limit}
 use Rattle.lists.specs.Any.{any}
 use Rattle.tree.specs.Tree.{box_count, present_at, AcceptedTree}
 use Rattle.tree.specs.Test.{box_limit, seen_to, bad_box_at, missed, wrong_lists, first_depths, none_seen, accepted_by}
-use Rattle.tree.specs.TestLaws.{neither, any_none, none_any, lists_out, lists_in, present_within, box_out, box_in}
+use Rattle.tree.proofs.TestLaws.{neither, any_none, none_any, lists_out, lists_in, present_within, box_out, box_in}
 use Rattle.tree.specs.MarkLaws.{Start, blank, blank_zero, first_mark}
-use Rattle.tree.specs.FoundLaws.{found_accepted}
-use Rattle.tree.specs.HeldLaws.{held_good, held_met}
-use Rattle.tree.specs.AcceptedLaws.{few_boxes}
+use Rattle.tree.proofs.FoundLaws.{found_accepted}
+use Rattle.tree.proofs.HeldLaws.{held_good, held_met}
+use Rattle.tree.proofs.AcceptedLaws.{few_boxes}
 
 -- ---- the first marks
 

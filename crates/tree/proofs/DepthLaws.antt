@@ -5,8 +5,8 @@ use Rattle.std.proofs.lemmas.List.{length-replicate}
 use Rattle.tree.specs.Tree.{box_count, Deep, AcceptedTree}
 use Rattle.tree.specs.Test.{depths_to}
 use Rattle.tree.specs.MarkLaws.{Start, blank, blank_zero, first_mark}
-use Rattle.tree.specs.FoundLaws.{deep_marked}
-use Rattle.tree.specs.HeldLaws.{reached, mark_deep, held_good}
+use Rattle.tree.proofs.FoundLaws.{deep_marked}
+use Rattle.tree.proofs.HeldLaws.{reached, mark_deep, held_good}
 
 module _ (points boxes : List Float) (nodes order : List ℕ) (t : AcceptedTree points boxes nodes order) where
   abbrev depths : List ℕ

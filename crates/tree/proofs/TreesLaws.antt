@@ -6,7 +6,7 @@ use Rattle.names.specs.Numbers.{triangle_limit}
 use Rattle.names.specs.Scene.{Scene, Sound, tree_scene}
 use Rattle.tree.specs.Tree.{AcceptedTree}
 use Rattle.tree.specs.Test.{accepted_by}
-use Rattle.tree.specs.TreeLaws.{accepted_exactly}
+use Rattle.tree.proofs.TreeLaws.{accepted_exactly}
 use Rattle.tree.specs.Trees.{not_accepted, bad_tree, TreeStands}
 
 -- a scene whose lists fit each other has no more triangles than the limit
