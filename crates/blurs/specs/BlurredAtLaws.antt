@@ -1,12 +1,11 @@
 -- What a blur leaves at voxel (x, y, z): of light the square of the mean round that voxel, of each of the sixteen numbers the mean itself.
 use Rattle.std.specs.Prelude.{◌≡◌, List, ℕ, ◌+◌, ◌*◌, ◌/◌, ◌%◌, ◌<◌, length, get_or, Float}
 use Rattle.std.proofs.Math.Path.{refl}
-use Rattle.std.proofs.Common.{sym, ap, ◌∙◌}
 use Rattle.std.proofs.Math.Nat.{zero-add, div-one, mod-one}
 use native.Mathlib.Omega.{arith}
 use Rattle.std.specs.Float.Ieee.{nan, mul}
 use Rattle.std.specs.Float.{binary32}
-use Rattle.lists.specs.Fold.{get_or_tab, place}
+use Rattle.lists.specs.Fold.{get_or_tab}
 use Rattle.grid.specs.declared.Axes.{Axes}
 use Rattle.grid.specs.Grid.{voxels, index_of}
 use Rattle.grid.specs.GridLaws.{index_within_lem, x_of_index, y_of_index, z_of_index}

@@ -4,7 +4,7 @@ use Rattle.std.specs.Prelude.{◌≡◌, refl, false, List, [], ◌∷◌, ℕ, 
 use Rattle.std.proofs.Common.{sym, ◌∙◌, arith, eqb-true}
 use Rattle.std.specs.Float.Ieee.{of_bits, of_fields, add, div, mul, neg, le, lt, eq, of_int, round, sum, units, odd, size, climb, span}
 use Rattle.std.proofs.lemmas.Bool.{not-false}
-use Rattle.names.specs.Bits.{lit, quarter32, half32, one32, two32, zero32}
+use Rattle.names.specs.Bits.{quarter32, half32, one32, two32, zero32}
 use Rattle.names.specs.Refusals.{first_of, RefusedBy, refused_by, kept, given}
 use Rattle.lists.specs.Fold.{fold, tab, place}
 use Rattle.grid.specs.declared.Axes.{Axes}

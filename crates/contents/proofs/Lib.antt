@@ -1,3 +1,4 @@
 pub mod KindLaw
 pub mod Step
 pub mod Head
+pub mod ContentsLaws

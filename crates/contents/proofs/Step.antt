@@ -6,7 +6,7 @@ use mathlib.Core.List.{List}
 use native.Mathlib.Omega.{arith}
 use lib.Dec.{eqb}
 use lib.ListN.{length}
-use Rattle.contents.specs.ContentsLaws.{contents_step}
+use Rattle.contents.proofs.ContentsLaws.{contents_step}
 use Rattle.contents.specs.Contents.{entry_kind_at, offset_at, length_at, entry_good, contents_from}
 
 -- ---- a test, as `if !..` leaves it

@@ -9,9 +9,9 @@ use native.Mathlib.Numerals.{add-one}
 use native.Mathlib.Omega.{arith}
 use lib.ListN.{length, get_or, set, take, drop, take-append-drop, length-drop, drop_of_length-le}
 use borrow.Rule.Slice.PartMut.{same_len_mid}
-use lib.Seq.{length_front, drop-cons, length-take-le, get_or-take, take-suc-set, append_snoc, take_all, take_at, drop_at}
+use lib.Seq.{length_front, drop-cons, length-take-le, get_or-take, append_snoc, take_all, take_at, drop_at}
 use lib.Ieee.{Float, nan}
-use Rattle.hits.specs.Hits.{Struck, struck, before, insert_of, insert_at, rank_of, paired, places_of}
+use Rattle.hits.specs.Hits.{Struck, struck, before, insert_of, insert_at, rank_of, paired}
 use Rattle.hits.specs.PairedLaws.{paired_append, stored}
 use Rattle.hits.specs.Merge.{sort_of, insert_all, merge_of, takes_second, Numbers}
 use Rattle.hits.specs.MergeLaws.{insert_all_append, merge_first, merge_second, merge_sorts, numbers_first, numbers_second}

@@ -1,6 +1,6 @@
 -- The order of hits, by distance and then by place: one before another that is before a third is before the third, and where distances are numbers the
 -- same of not before. A hit's distance is a number.
-use Rattle.std.specs.Prelude.{◌≡◌, refl, Bool, true, false, ◌||◌, ◌&&◌, List, ℕ, ◌≤◌, ltb, Float}
+use Rattle.std.specs.Prelude.{◌≡◌, refl, Bool, true, false, ◌||◌, ◌&&◌, List, ℕ, ltb, Float}
 use Rattle.std.proofs.Common.{sym, ◌∙◌, arith, lt-ltb, ltb-true, ltb-false}
 use Rattle.std.proofs.lemmas.Bool.{false≢true}
 use Rattle.std.proofs.Math.Bool.{and-eq-true_iff}

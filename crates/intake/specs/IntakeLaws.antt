@@ -3,7 +3,7 @@ use Rattle.std.specs.Prelude.{◌≡◌, refl, Bool, true, false, ◌||◌, ◌�
 use Rattle.std.proofs.Common.{sym, ap₂, ◌∙◌}
 use native.Mathlib.Omega.{arith}
 use borrow.Author.Tests.{ltb-false, le-ltb, eqb-true, not-false}
-use Rattle.names.specs.Numbers.{sky_numbers, lamp_limit, primary_rays}
+use Rattle.names.specs.Numbers.{sky_numbers, lamp_limit}
 use Rattle.names.specs.Refusals.{Row, row, first_of, FirstIs, NoneHolds, none, later, Numbered, first_given, first_found, none_given, none_found}
 use Rattle.names.specs.Scene.{Sound, other_kind, HitsFit}
 use Rattle.lists.specs.Fold.{fold}
@@ -12,7 +12,7 @@ use Rattle.spread.specs.Spread.{progress_of, at_zero, Stage}
 use Rattle.grid.specs.Grid.{AxesWithin}
 use Rattle.limits.specs.Limits.{bad_axes, bad_grid, wrong_scene, wrong_length, wrong_lamps, short_hits, too_many, bad_points, bad_materials_for, below_cost, lamp_count, bad_lamps, bad_lights}
 use Rattle.tree.specs.Trees.{bad_tree, TreeStands}
-use Rattle.tree.specs.TreesLaws.{sound_tree}
+use Rattle.tree.proofs.TreesLaws.{sound_tree}
 use Rattle.marks.specs.Marks.{marked_below}
 use Rattle.words.specs.Words.{word_count, unused_set, Tidy}
 use Rattle.limits.specs.LimitsLaws.{either, any_of_three, axes_row, sound, materials_for, solid_same, long_hits, room, lamps_row}

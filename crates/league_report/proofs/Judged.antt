@@ -16,7 +16,7 @@ use Rattle.grid.specs.Grid.{voxels}
 use Rattle.grid.specs.GridLaws.{voxels_most}
 use Rattle.bytes_le.specs.Bytes.{floats_at}
 use Rattle.contents.specs.Contents.{axes_at, offset_at}
-use Rattle.contents.specs.ContentsLaws.{Laid}
+use Rattle.contents.specs.Laid.{Laid}
 use Rattle.volume_file.specs.VolumeFile.{voxels_at, light_at, faulty}
 use Rattle.volume_file.specs.VolumeFileLaws.{Accepted, accepted_row, accepted_axes, accepted_laid}
 use Rattle.light_units.specs.Units.{light_outside}

@@ -9,7 +9,7 @@ use Rattle.lists.specs.Some.{some}
 use Rattle.limits.specs.LimitsLaws.{either}
 use Rattle.bytes_le.specs.Bytes.{f32_at}
 use Rattle.contents.specs.Contents.{offset_at}
-use Rattle.contents.specs.ContentsLaws.{Laid}
+use Rattle.contents.specs.Laid.{Laid}
 use Rattle.volume_file.specs.VolumeFile.{voxels_at, light_at}
 use Rattle.volume_file.specs.VolumeFileLaws.{Accepted, accepted_row, accepted_laid}
 use Rattle.light_units.specs.Units.{light_outside}

@@ -11,7 +11,7 @@ use Rattle.limits.specs.Limits.{short_hits, too_many, bad_points, bad_materials_
 use Rattle.limits.specs.LimitsLaws.{either, sound, materials_for, solid_same, long_hits, room}
 use Rattle.names.specs.Passed.{passed}
 use Rattle.tree.specs.Trees.{bad_tree, TreeStands}
-use Rattle.tree.specs.TreesLaws.{sound_tree}
+use Rattle.tree.proofs.TreesLaws.{sound_tree}
 use Rattle.triangle.specs.Meet.{meet_of}
 use Rattle.triangle.specs.declared.Meet.{Meet}
 use Rattle.scan.specs.Nearest.{nearest_of}

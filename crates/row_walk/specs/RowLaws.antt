@@ -12,7 +12,7 @@ use Rattle.panels.specs.Panels.{own_passed}
 use Rattle.boxes.specs.Boxes.{passed_over}
 use Rattle.tree.specs.Tree.{present_at, one}
 use Rattle.tree.specs.SumLaws.{one_self}
-use Rattle.tree.specs.TestLaws.{present_within}
+use Rattle.tree.proofs.TestLaws.{present_within}
 use Rattle.tree_walk.specs.FoldLaws.{stands_in, stands_append, fold_of, fold_append}
 use Rattle.tree_walk.specs.Spans.{span_places, SpanFits}
 use Rattle.tree_rows.specs.Rows.{row_bounds, row_after, row_first, row_count, row_places, places_to, Rowed}

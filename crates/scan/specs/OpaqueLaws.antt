@@ -28,7 +28,7 @@ unfolding pass_of
 opaque_pass uses kinds numbers w i [] m e = absurd (Memᴰ.not-nil m)
 opaque_pass uses kinds numbers w i (j ∷ is) m e =
     ⊎_elim (λ (h : i ≡ j). let f : stops_light (kind_at uses kinds j) ≡ true = rw h at e in rw f refl)
-    (λ h. rw (opaque_pass uses kinds numbers _ i is h e, either_way, either_way) refl)
+    (λ h. rw (opaque_pass uses kinds numbers (Ieee.mul binary32 w (transmission_at uses numbers j)) i is h e, either_way, either_way) refl)
     (Memᴰ.cases_cons m)
 
 place_of : {h : Struck} (hs : List Struck) → Memᴰ h hs → Memᴰ h.place (places_of hs)

@@ -18,7 +18,7 @@ use Rattle.limits.specs.Limits.{bad_axes, bad_grid, wrong_scene, wrong_length, s
 use Rattle.limits.specs.LimitsLaws.{either, axes_row, sound, materials_for, solid_same, long_hits, room}
 use Rattle.names.specs.Passed.{passed}
 use Rattle.tree.specs.Trees.{bad_tree, TreeStands}
-use Rattle.tree.specs.TreesLaws.{sound_tree}
+use Rattle.tree.proofs.TreesLaws.{sound_tree}
 use Rattle.marks.specs.Marks.{is_marked, marked_count}
 use Rattle.marks.specs.MarksLaws.{active_some}
 use Rattle.words.specs.Words.{bit_at, entries_of, word_count, words_of, unused_set, AreWords, Tidy}

@@ -2,13 +2,6 @@
 pub mod Tree
 pub mod Test
 pub mod SumLaws
-pub mod TestLaws
 pub mod MarkLaws
-pub mod AcceptedLaws
-pub mod FoundLaws
-pub mod HeldLaws
-pub mod TreeLaws
-pub mod DepthLaws
 pub mod Trees
-pub mod TreesLaws
 pub mod TreeFigures

@@ -17,7 +17,7 @@ use Rattle.limits.specs.LimitsLaws.{either, few_points}
 use Rattle.words.specs.Words.{unused_set}
 use Rattle.tree.specs.Tree.{AcceptedTree}
 use Rattle.tree.specs.Trees.{bad_tree}
-use Rattle.tree.specs.TreesLaws.{tree_row}
+use Rattle.tree.proofs.TreesLaws.{tree_row}
 use Rattle.spread.specs.Spread.{Stage}
 use Rattle.rays.specs.Rays.{wrong_scratch, nearest_refusal, transmittance_refusal}
 use Rattle.sun.specs.Sun.{wrong_sun, sun_refusal}

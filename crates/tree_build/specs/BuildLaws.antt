@@ -12,7 +12,7 @@ use Rattle.names.specs.Passed.{passed}
 use Rattle.boxes.specs.declared.Bounds.{Bounds}
 use Rattle.boxes.specs.Boxes.{bounds_at}
 use Rattle.tree.specs.Tree.{box_count, count_at, left_at, right_at, present_at, one, AcceptedTree}
-use Rattle.tree.specs.TestLaws.{neither}
+use Rattle.tree.proofs.TestLaws.{neither}
 use Rattle.tree_order.specs.Order.{order_of}
 use Rattle.tree_order.specs.Ranks.{AcceptedPoints}
 use Rattle.tree_order.specs.OrderLaws.{order_once, order_few, order_places}

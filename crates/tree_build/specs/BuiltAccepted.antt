@@ -12,7 +12,7 @@ use Rattle.names.specs.Numbers.{triangle_limit}
 use Rattle.limits.specs.Limits.{bad_points}
 use Rattle.tree.specs.Tree.{box_count, present_at, one, parents_to, stands_to, Deep, root, left, right, AcceptedTree}
 use Rattle.tree.specs.SumLaws.{one_other, sum_hit}
-use Rattle.tree.specs.TestLaws.{present_within}
+use Rattle.tree.proofs.TestLaws.{present_within}
 use Rattle.tree_build.specs.Built.{Built, times_in, BuiltTree}
 use Rattle.tree_build.specs.RunLaws.{times_here}
 use Rattle.tree_build.specs.JoinLaws.{NumbersIn}

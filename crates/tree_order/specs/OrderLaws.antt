@@ -2,7 +2,7 @@
 use Rattle.std.specs.Prelude.{◌≡◌, refl, Bool, true, false, List, ℕ, ◌/◌, ◌≤◌, length, Float}
 use Rattle.std.proofs.Common.{◌∙◌, arith}
 use Rattle.tree.specs.Tree.{present_at, one}
-use Rattle.tree.specs.TestLaws.{present_within}
+use Rattle.tree.proofs.TestLaws.{present_within}
 use Rattle.tree_order.specs.Order.{present_places, present_in, order_of, times_of}
 use Rattle.tree_order.specs.Ranks.{PlacesOf}
 use Rattle.tree_order.specs.HalveLaws.{left_of, right_of, halves_times, halved_times, halved_length}

@@ -12,7 +12,7 @@ use Rattle.std.proofs.lemmas.List.{set_at}
 use Rattle.std.proofs.Math.Seq.{append_snoc}
 use Rattle.tree.specs.Tree.{present_at, sum_to, one}
 use Rattle.tree.specs.SumLaws.{one_most, sum_less, sum_same, sum_ones, sum_none, sum_hit}
-use Rattle.tree.specs.TestLaws.{present_within}
+use Rattle.tree.proofs.TestLaws.{present_within}
 use Rattle.tree_order.specs.Order.{present_below, present_to, present_places, times_of}
 use Rattle.tree_order.specs.SortLaws.{times_append}
 

@@ -20,7 +20,7 @@ use Rattle.panels.specs.Panels.{own_passed}
 use Rattle.boxes.specs.Boxes.{bounds_at, passed_over}
 use Rattle.tree.specs.Tree.{box_count, count_at, inner_at, left_at, right_at, first_at, place_at, one, root, AcceptedTree}
 use Rattle.tree.specs.SumLaws.{positive, sum_ones}
-use Rattle.tree.specs.AcceptedLaws.{few_boxes, halves_passed, triangles_passed}
+use Rattle.tree.proofs.AcceptedLaws.{few_boxes, halves_passed, triangles_passed}
 use Rattle.tree_walk.specs.CountLaws.{under_first}
 use Rattle.tree_walk.specs.FoldLaws.{stands_in}
 use Rattle.tree_walk.specs.Spans.{span_places}

@@ -8,7 +8,7 @@ use Rattle.std.proofs.lemmas.Bool.{eqb-false}
 use Rattle.std.proofs.Math.Arith.{lt_of_le-ne}
 use Rattle.tree.specs.Tree.{box_count, inner_at, left_at, right_at, sum_to, one, halves_of, parents_to, AcceptedTree}
 use Rattle.tree.specs.SumLaws.{one_other, sum_same, sum_plus}
-use Rattle.tree.specs.AcceptedLaws.{rootless}
+use Rattle.tree.proofs.AcceptedLaws.{rootless}
 
 module _ (w : ℕ → ℕ) where
   -- of the terms of a sum the one at x is left

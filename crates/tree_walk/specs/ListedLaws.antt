@@ -13,7 +13,7 @@ use Rattle.scan.specs.declared.Nearest.{Nearest}
 use Rattle.scan.specs.declared.Nearest.TheVariants.{Nothing}
 use Rattle.tree.specs.Tree.{present_at, one, sum_to}
 use Rattle.tree.specs.SumLaws.{one_most, sum_less, sum_ones}
-use Rattle.tree.specs.TestLaws.{present_within}
+use Rattle.tree.proofs.TestLaws.{present_within}
 use Rattle.tree_walk.specs.Boxed.{boxed_meet_at, nearest_step, nearest_boxed_to, nearest_boxed, hits_step, hits_boxed}
 use Rattle.tree_walk.specs.SwapLaws.{NumberHeld, nearer_swap, nearer_number, hits_swap, hits_numbers}
 use Rattle.tree_walk.specs.BoxedLaws.{boxed_number, boxed_absent}

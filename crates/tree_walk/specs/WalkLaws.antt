@@ -18,8 +18,8 @@ use Rattle.scan.specs.declared.Nearest.TheVariants.{Nothing}
 use Rattle.boxes.specs.Boxes.{bounds_at, passed_over}
 use Rattle.tree.specs.Tree.{box_count, count_at, inner_at, left_at, right_at, place_at, AcceptedTree}
 use Rattle.tree.specs.SumLaws.{positive}
-use Rattle.tree.specs.TestLaws.{present_within}
-use Rattle.tree.specs.AcceptedLaws.{leaf_present, halves_passed, triangles_passed}
+use Rattle.tree.proofs.TestLaws.{present_within}
+use Rattle.tree.proofs.AcceptedLaws.{leaf_present, halves_passed, triangles_passed}
 use Rattle.tree_walk.specs.Boxed.{boxed_meet_at, nearest_step, nearest_boxed, hits_step, hits_boxed, pass_hits, transmittance_boxed}
 use Rattle.tree_walk.specs.Turned.{Turned}
 use Rattle.tree_walk.specs.Walk.{run_visit, node_visit, tree_visit, nearest_through, hits_through, transmittance_through, TreeFits}

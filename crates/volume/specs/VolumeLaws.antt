@@ -14,7 +14,7 @@ use Rattle.limits.specs.LimitsLaws.{either, any_of_three, limit_finite, lights_r
 use Rattle.words.specs.Words.{word_count, words_of}
 use Rattle.bytes_le.specs.Bytes.{NoneNan}
 use Rattle.contents.specs.Contents.{offset_at}
-use Rattle.contents.specs.ContentsLaws.{Laid}
+use Rattle.contents.specs.Laid.{Laid}
 use Rattle.volume_file.specs.VolumeFile.{voxels_at, light_at, volume_at, active_at, occupied_at}
 use Rattle.volume_file.specs.VolumeFileLaws.{Accepted, accepted_laid}
 use Rattle.volume.specs.declared.Head.{Head}

@@ -5,7 +5,7 @@ ghost use Rattle.bytes_le.specs.Bytes.{floats_at, bytes_at};
 ghost use Rattle.lists.specs.Some.{some};
 ghost use Rattle.limits.specs.Limits.{outside, bad_mask};
 ghost use Rattle.contents.specs.Contents.{offset_at};
-ghost use Rattle.contents.specs.ContentsLaws.{Laid};
+ghost use Rattle.contents.specs.Laid.{Laid};
 ghost use Rattle.names.specs.Numbers.{voxel_limit};
 ghost use Rattle.volume_file.specs.VolumeFile.{vector_at, corners_at, bad_bodies, faulty};
 

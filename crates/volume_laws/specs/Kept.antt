@@ -17,7 +17,7 @@ use Rattle.bytes_le.specs.RoundTrip.{AllBytes, one_cons, floats_kept}
 use Rattle.limits.specs.Limits.{within}
 use Rattle.limits.specs.LimitsLaws.{limit_finite, grid_row, vector_row}
 use Rattle.contents.specs.Contents.{mark, marked, axes_at, entries_at, entry_kind_at, offset_at, length_at, contents_from, head_of, entry_of, bodies_from}
-use Rattle.contents.specs.ContentsLaws.{Laid}
+use Rattle.contents.specs.Laid.{Laid}
 use Rattle.volume_file.specs.VolumeFile.{voxels_at, light_at, volume_at, active_at, occupied_at, corners_at}
 use Rattle.volume_file.specs.VolumeFileLaws.{Accepted, accepted_laid}
 use Rattle.volume_write.specs.FileBytes.{contents_of, corners_list, file_bytes}

@@ -17,7 +17,7 @@ use Rattle.words.specs.Words.{entries_of, word_count, words_of, unused_set, AreW
 use Rattle.words.specs.BitLaws.{below_or_from}
 use Rattle.words.specs.WordsLaws.{AreEntries, entries_are, entries_length, entries_words, words_entries, words_tidy}
 use Rattle.contents.specs.Contents.{axes_at, entries_at, offset_at}
-use Rattle.contents.specs.ContentsLaws.{Laid}
+use Rattle.contents.specs.Laid.{Laid}
 use Rattle.volume_file.specs.VolumeFile.{voxels_at, light_at, volume_at, active_at, occupied_at, corners_at}
 use Rattle.volume_file.specs.VolumeFileLaws.{Accepted, accepted_row, accepted_laid}
 use Rattle.volume_write.specs.FileBytes.{bytes_for, corners_list, file_bytes}

@@ -4,7 +4,7 @@ use mathlib.Core.Path.{◌≡◌, refl, sym, ◌∙◌}
 use native.Mathlib.Omega.{arith}
 use Rattle.names.specs.Scene.{tree_scene}
 use Rattle.names.specs.Refusals.{kept, given}
-use Rattle.tree.specs.TreesLaws.{few_triangles}
+use Rattle.tree.proofs.TreesLaws.{few_triangles}
 use Rattle.rays.specs.Rays.{nearest_refusal, found_of}
 use Rattle.rays.specs.RaysLaws.{nearest_sound, nearest_answered}
 use borrow.Author.Rules.{rules}

@@ -5,7 +5,7 @@ use native.Mathlib.Omega.{arith}
 use Rattle.names.specs.Scene.{tree_scene}
 use Rattle.names.specs.Refusals.{unless_refused, kept}
 use Rattle.limits.specs.LimitsLaws.{either}
-use Rattle.tree.specs.TreesLaws.{few_triangles}
+use Rattle.tree.proofs.TreesLaws.{few_triangles}
 use Rattle.rays.specs.Rays.{wrong_scratch, transmittance_refusal}
 use Rattle.rays.specs.RaysLaws.{transmittance_ready}
 use borrow.Author.Rules.{rules}

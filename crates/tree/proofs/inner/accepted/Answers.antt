@@ -10,7 +10,7 @@ use lib.Ieee.{Float}
 use Rattle.lists.specs.Any.{any}
 use Rattle.tree.specs.Tree.{box_count}
 use Rattle.tree.specs.Test.{seen_to, bad_box_at, missed, wrong_lists, box_limit, first_depths, none_seen, accepted_by}
-use Rattle.tree.specs.TestLaws.{lists_out}
+use Rattle.tree.proofs.TestLaws.{lists_out}
 use Rattle.tree.proofs.inner.accepted.Goals as goal
 
 -- what the definition says once the lists fit

@@ -6,7 +6,7 @@ use borrow.Author.Tests.{lt-ltb, le-ltb, eq-eqb, ne_eqb}
 use lib.ListN.{length-set}
 use Rattle.tree.specs.Tree.{left_at, right_at}
 use Rattle.tree.specs.Test.{bad_pair, mark_pair}
-use Rattle.tree.specs.TestLaws.{half_out}
+use Rattle.tree.proofs.TestLaws.{half_out}
 use Rattle.tree.proofs.inner.bad_pair.Goals as goal
 
 pub returns-then-bad_half : goal.returns-then-bad_half

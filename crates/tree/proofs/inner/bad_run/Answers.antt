@@ -14,7 +14,7 @@ use Rattle.boxes.specs.declared.Bounds.{Bounds}
 use Rattle.boxes.specs.Boxes.{bounds_at}
 use Rattle.tree.specs.Tree.{count_at, left_at, place_at}
 use Rattle.tree.specs.Test.{see_run, bad_place, bad_place_at, bad_run}
-use Rattle.tree.specs.TestLaws.{place_out, present_within}
+use Rattle.tree.proofs.TestLaws.{place_out, present_within}
 use Rattle.tree.proofs.inner.bad_run.Goals as goal
 
 -- the k th place of the run, as the code reads it
