@@ -4,41 +4,44 @@
 
 ghost use Rattle.std.specs.Prelude.{◌<◌};
 
-fn space() {
-    io::write_all(1, b" ");
+use std::io;
+
+fn space(rt: &impl Print) -> io::Result<()> {
+    rt.write_all(b" ")
 }
 
-fn newline() {
-    io::write_all(1, b"\n");
+fn newline(rt: &impl Print) -> io::Result<()> {
+    rt.write_all(b"\n")
 }
 
-fn print_pattern(pattern: u32) {
-    io::print_hex(1, pattern as u64, 8);
+fn print_pattern(rt: &impl Print, pattern: u32) -> io::Result<()> {
+    console::print_hex(rt, pattern as u64, 8)
 }
 
 // The pattern of number n; nothing for a NaN, of which the table has none.
-fn print_number(table: &[f32; 1728], n: usize)
+fn print_number(rt: &impl Print, table: &[f32; 1728], n: usize) -> io::Result<()>
     requires { n < 1728 }
 {
     let x = table[n];
     if x != x {
-        return;
+        return Ok(());
     }
-    print_pattern(f32::to_bits(x));
+    print_pattern(rt, f32::to_bits(x))
 }
 
-fn print_directions(table: &[f32; 1728]) {
+fn print_directions(rt: &impl Print, table: &[f32; 1728]) -> io::Result<()> {
     for k in 0..576 {
-        print_number(table, k * 3);
-        space();
-        print_number(table, k * 3 + 1);
-        space();
-        print_number(table, k * 3 + 2);
-        newline();
+        print_number(rt, table, k * 3)?;
+        space(rt)?;
+        print_number(rt, table, k * 3 + 1)?;
+        space(rt)?;
+        print_number(rt, table, k * 3 + 2)?;
+        newline(rt)?;
     }
+    Ok(())
 }
 
-fn main() {
+fn main(rt: HostRuntime) -> io::Result<()> {
     let table = directions::table();
-    print_directions(&table);
+    print_directions(&rt, &table)
 }

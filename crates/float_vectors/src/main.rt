@@ -4,30 +4,32 @@
 
 ghost use Rattle.std.specs.Prelude.{◌+◌, ◌≤◌, ◌<◌, length};
 
+use std::io;
+
 // A function's letter, a space, and three patterns of eight digits, each with a space or a newline after it.
 const LINE: usize = 29;
 
-fn main() {
+fn main(rt: HostRuntime) -> io::Result<()> {
     let mut buffer = [0u8; 262144];
-    let n = io::read_full(0, &mut buffer);
-    report(&buffer[..n]);
+    let n = console::read_full(&rt, &mut buffer)?;
+    report(&rt, &buffer[..n])
 }
 
-fn report(s: &[u8]) {
-    tell(s, b'r', b"root ");
-    tell(s, b'f', b"floor ");
-    tell(s, b'c', b"ceiling ");
-    tell(s, b'm', b"magnitude ");
-    tell(s, b'l', b"larger ");
-    tell(s, b's', b"smaller ");
+fn report(rt: &impl Print, s: &[u8]) -> io::Result<()> {
+    tell(rt, s, b'r', b"root ")?;
+    tell(rt, s, b'f', b"floor ")?;
+    tell(rt, s, b'c', b"ceiling ")?;
+    tell(rt, s, b'm', b"magnitude ")?;
+    tell(rt, s, b'l', b"larger ")?;
+    tell(rt, s, b's', b"smaller ")
 }
 
-fn tell(s: &[u8], letter: u8, name: &[u8]) {
-    io::write_all(1, name);
-    io::print_decimal(1, vectors(s, letter) as u64);
-    io::write_all(1, b" vectors, held ");
-    io::print_decimal(1, held(s, letter) as u64);
-    io::write_all(1, b"\n");
+fn tell(rt: &impl Print, s: &[u8], letter: u8, name: &[u8]) -> io::Result<()> {
+    rt.write_all(name)?;
+    console::print_decimal(rt, vectors(s, letter) as u64)?;
+    rt.write_all(b" vectors, held ")?;
+    console::print_decimal(rt, held(s, letter) as u64)?;
+    rt.write_all(b"\n")
 }
 
 // How many lines are this function's.

@@ -4,6 +4,7 @@
 
 use frames::FirstRefusal;
 use grid::{Axes, Corners};
+use std::io;
 use vectors::Vec3;
 
 fn hall() -> Axes {
@@ -42,32 +43,32 @@ fn positions(y: f32, z: f32) -> [f32; 12] {
     [0.5f32, 0.5, 0.5, 0.25, y, 1.75, 1.0, 0.25, 1.5, 1.0, 2.0, z]
 }
 
-fn print_fourths(x: f32) {
-    io::write_all(1, b" ");
-    io::print_decimal(1, lookup::inner::whole(x * 4.0) as u64);
+fn print_fourths(rt: &impl Print, x: f32) -> io::Result<()> {
+    rt.write_all(b" ")?;
+    console::print_decimal(rt, lookup::inner::whole(x * 4.0) as u64)
 }
 
-fn print_first(refusal: u32, place: usize) {
-    io::print_decimal(1, refusal as u64);
-    io::write_all(1, b" ");
-    io::print_decimal(1, place as u64);
+fn print_first(rt: &impl Print, refusal: u32, place: usize) -> io::Result<()> {
+    console::print_decimal(rt, refusal as u64)?;
+    rt.write_all(b" ")?;
+    console::print_decimal(rt, place as u64)
 }
 
-fn print_answers(answers: &[f32]) {
+fn print_answers(rt: &impl Print, answers: &[f32]) -> io::Result<()> {
     let mut i: usize = 0;
     while i < answers.len() {
-        print_fourths(answers[i]);
+        print_fourths(rt, answers[i])?;
         i += 1;
     }
+    Ok(())
 }
 
 // The end of an accepted frame's line. The expected output has the first of the two alone, so that an answer which is not the single call's shows.
-fn print_same(same: bool) {
+fn print_same(rt: &impl Print, same: bool) -> io::Result<()> {
     if same {
-        io::write_all(1, b", as one by one\n");
-        return;
+        return rt.write_all(b", as one by one\n");
     }
-    io::write_all(1, b", not as one by one\n");
+    rt.write_all(b", not as one by one\n")
 }
 
 // Whether the single call gives this light at a position.
@@ -117,117 +118,124 @@ fn fill_volume(volume: &mut [f32; 384]) {
 }
 
 // The frame of lights, and what it leaves.
-fn show(axes: Axes, corners: Corners, light: &[f32], positions: &[f32], answers: &mut [f32]) {
+fn show(
+    rt: &impl Print,
+    axes: Axes,
+    corners: Corners,
+    light: &[f32],
+    positions: &[f32],
+    answers: &mut [f32],
+) -> io::Result<()> {
     let r = frames::frame_lights(axes, corners, light, positions, answers);
-    print_first(r.refusal, r.place);
-    print_answers(answers);
-    io::write_all(1, b"\n");
+    print_first(rt, r.refusal, r.place)?;
+    print_answers(rt, answers)?;
+    rt.write_all(b"\n")
 }
 
 // Accepted; at the end of the line, whether each is the single call's.
-fn good() {
+fn good(rt: &impl Print) -> io::Result<()> {
     let light = lights(0.0, 23.0);
     let all = positions(1.5, 3.0);
     let mut answers = [7.0f32; 4];
     let r = frames::frame_lights(hall(), corners(3.0), &light, &all, &mut answers);
-    print_first(r.refusal, r.place);
-    print_answers(&answers);
+    print_first(rt, r.refusal, r.place)?;
+    print_answers(rt, &answers)?;
     let a = same_light(&light, all[0], all[1], all[2], answers[0]);
     let b = same_light(&light, all[3], all[4], all[5], answers[1]);
     let c = same_light(&light, all[6], all[7], all[8], answers[2]);
     let d = same_light(&light, all[9], all[10], all[11], answers[3]);
-    print_same(a & b & c & d);
+    print_same(rt, a & b & c & d)
 }
 
 // With the first and the last light, and two numbers of the positions, as asked.
-fn spoilt(first: f32, last: f32, y: f32, z: f32) {
+fn spoilt(rt: &impl Print, first: f32, last: f32, y: f32, z: f32) -> io::Result<()> {
     let light = lights(first, last);
     let all = positions(y, z);
     let mut answers = [7.0f32; 4];
-    show(hall(), corners(3.0), &light, &all, &mut answers);
+    show(rt, hall(), corners(3.0), &light, &all, &mut answers)
 }
 
 // Eleven numbers for four positions.
-fn number_short() {
+fn number_short(rt: &impl Print) -> io::Result<()> {
     let light = lights(0.0, 23.0);
     let all = [0.5f32; 11];
     let mut answers = [7.0f32; 4];
-    show(hall(), corners(3.0), &light, &all, &mut answers);
+    show(rt, hall(), corners(3.0), &light, &all, &mut answers)
 }
 
 // Three positions for four answers.
-fn position_short() {
+fn position_short(rt: &impl Print) -> io::Result<()> {
     let light = lights(0.0, 23.0);
     let all = [0.5f32; 9];
     let mut answers = [7.0f32; 4];
-    show(hall(), corners(3.0), &light, &all, &mut answers);
+    show(rt, hall(), corners(3.0), &light, &all, &mut answers)
 }
 
 // A light too few.
-fn light_short(axes: Axes, high: f32) {
+fn light_short(rt: &impl Print, axes: Axes, high: f32) -> io::Result<()> {
     let light = [1.0f32; 23];
     let all = positions(1.5, 3.0);
     let mut answers = [7.0f32; 4];
-    show(axes, corners(high), &light, &all, &mut answers);
+    show(rt, axes, corners(high), &light, &all, &mut answers)
 }
 
 // No position and no answer.
-fn empty() {
+fn empty(rt: &impl Print) -> io::Result<()> {
     let light = lights(0.0, 23.0);
     let all = positions(1.5, 3.0);
     let mut answers = [7.0f32; 4];
-    show(hall(), corners(3.0), &light, &all[0..0], &mut answers[0..0]);
+    show(rt, hall(), corners(3.0), &light, &all[0..0], &mut answers[0..0])
 }
 
 // The first and the last number of each position's sixteen and, where the frame is accepted, whether all are the single call's; last is the volume's last
 // number.
-fn sixteens(last: f32) {
+fn sixteens(rt: &impl Print, last: f32) -> io::Result<()> {
     let mut volume = [0.0f32; 384];
     fill_volume(&mut volume);
     volume[383] = last;
     let all = positions(1.5, 3.0);
     let mut answers = [7.0f32; 64];
     let r = frame_sixteens(&volume, &all, &mut answers);
-    print_first(r.refusal, r.place);
-    print_fourths(answers[0]);
-    print_fourths(answers[15]);
-    print_fourths(answers[16]);
-    print_fourths(answers[31]);
-    print_fourths(answers[32]);
-    print_fourths(answers[47]);
-    print_fourths(answers[48]);
-    print_fourths(answers[63]);
+    print_first(rt, r.refusal, r.place)?;
+    print_fourths(rt, answers[0])?;
+    print_fourths(rt, answers[15])?;
+    print_fourths(rt, answers[16])?;
+    print_fourths(rt, answers[31])?;
+    print_fourths(rt, answers[32])?;
+    print_fourths(rt, answers[47])?;
+    print_fourths(rt, answers[48])?;
+    print_fourths(rt, answers[63])?;
     if r.refusal != 0 {
-        io::write_all(1, b"\n");
-        return;
+        return rt.write_all(b"\n");
     }
     let a = same_sixteen(&volume, all[0], all[1], all[2], &answers, 0);
     let b = same_sixteen(&volume, all[3], all[4], all[5], &answers, 16);
     let c = same_sixteen(&volume, all[6], all[7], all[8], &answers, 32);
     let d = same_sixteen(&volume, all[9], all[10], all[11], &answers, 48);
-    print_same(a & b & c & d);
+    print_same(rt, a & b & c & d)
 }
 
-fn main() {
+fn main(rt: HostRuntime) -> io::Result<()> {
     let none = 0.0 / 0.0;
-    good();
-    spoilt(0.0, none, 1.5, 3.0);
-    spoilt(0.0, none, 4097.0, 3.0);
-    spoilt(0.0, none, 1.5, 4097.0);
-    spoilt(none, 23.0, 4097.0, 3.0);
-    number_short();
-    position_short();
-    light_short(hall(), 3.0);
-    light_short(hall(), 0.0);
+    good(&rt)?;
+    spoilt(&rt, 0.0, none, 1.5, 3.0)?;
+    spoilt(&rt, 0.0, none, 4097.0, 3.0)?;
+    spoilt(&rt, 0.0, none, 1.5, 4097.0)?;
+    spoilt(&rt, none, 23.0, 4097.0, 3.0)?;
+    number_short(&rt)?;
+    position_short(&rt)?;
+    light_short(&rt, hall(), 3.0)?;
+    light_short(&rt, hall(), 0.0)?;
     light_short(
+        &rt,
         Axes {
             width: 2,
             height: 129,
             depth: 4,
         },
         0.0,
-    );
-    empty();
-    sixteens(503.0);
-    sixteens(none);
+    )?;
+    empty(&rt)?;
+    sixteens(&rt, 503.0)?;
+    sixteens(&rt, none)
 }

@@ -1,11 +1,12 @@
 // The league report over many inputs in one run. Standard input holds them one after another, each after its length as a u32; the report of each is printed.
 #![tactic(auto)]
 
-ghost use Rattle.std.specs.Prelude.{◌≡◌, ◌<◌, ◌≤◌, length};
+ghost use Rattle.std.specs.Prelude.{◌≡◌, ◌<◌, ◌≤◌, length, IfOk};
 ghost use Rattle.names.specs.Numbers.{files_limit};
 ghost use Rattle.league_report.specs.Report.{LeagueWithin};
 
 use league_report::{League, Opening};
+use std::io;
 
 // A turn for each file that may come, and one in which the input ends or is refused.
 const TURNS: u64 = 65537;
@@ -18,108 +19,110 @@ struct Step {
     next: usize,
 }
 
-fn main() {
+fn main(rt: HostRuntime) -> io::Result<()> {
     let mut space = [0u8; 69632];
-    all_inputs(&mut space);
+    all_inputs(&rt, &mut space)
 }
 
 // A proved loop has to end, and nothing says that an input does: the turns count down from a number that no run uses up.
-fn all_inputs(space: &mut [u8]) {
+fn all_inputs(rt: &(impl Input + Print), space: &mut [u8]) -> io::Result<()> {
     let mut turns = u64::MAX;
-    while turns > 0 && one_input(space) {
+    while turns > 0 && one_input(rt, space)? {
         turns -= 1;
     }
+    Ok(())
 }
 
 // The next input; false where there is none.
-fn one_input(space: &mut [u8]) -> bool {
+fn one_input(rt: &(impl Input + Print), space: &mut [u8]) -> io::Result<bool> {
     let mut head = [0u8; 4];
-    let got = io::read_full(0, &mut head);
+    let got = console::read_full(rt, &mut head)?;
     if got < 4 {
-        return false;
+        return Ok(false);
     }
     let long = size(
         wide(head[0]) + wide(head[1]) * 256 + wide(head[2]) * 65536 + wide(head[3]) * 16777216,
     );
     if space.len() < long {
-        return false;
+        return Ok(false);
     }
-    take_input(&mut space[..long])
+    take_input(rt, &mut space[..long])
 }
 
 // Fills `part` with the input, and reports on it; false where it ends within.
-fn take_input(part: &mut [u8]) -> bool {
-    let got = io::read_full(0, part);
+fn take_input(rt: &(impl Input + Print), part: &mut [u8]) -> io::Result<bool> {
+    let got = console::read_full(rt, part)?;
     if got < part.len() {
-        return false;
+        return Ok(false);
     }
-    report(part);
-    true
+    report(rt, part)?;
+    Ok(true)
 }
 
-fn report(input: &[u8]) {
+fn report(rt: &impl Print, input: &[u8]) -> io::Result<()> {
     let mut league = league_report::inner::no_files();
     let mut at: usize = 0;
     let mut turns: u64 = TURNS;
     while turns > 0 {
         turns -= 1;
-        let step = turn(league, input, at);
+        let step = turn(rt, league, input, at)?;
         if step.ended {
-            return;
+            return Ok(());
         }
         let next = step.league;
         league = next;
         at = step.next;
     }
+    Ok(())
 }
 
 // The length at `at`, and the file after it.
-fn turn(league: League, input: &[u8], at: usize) -> Step
+fn turn(rt: &impl Print, league: League, input: &[u8], at: usize) -> io::Result<Step>
     requires { LeagueWithin league × (at ≤ length input.now) }
-    ensures { LeagueWithin result.league × (result.next ≤ length input.now) }
+    ensures { IfOk result (λ s. LeagueWithin s.league × (s.next ≤ length input.now)) }
 {
     let start = least(at, input.len());
     let opening = league_report::inner::opening(league.files, &input[at..start]);
     match opening {
         Opening::End => {
             let total = league.total;
-            league_line::inner::print_line(league.files, total);
-            end(league)
+            league_line::inner::print_line(rt, league.files, total)?;
+            Ok(end(league))
         }
         Opening::TooFar => {
-            league_line::inner::print_refusal(18, league.files);
-            end(league)
+            league_line::inner::print_refusal(rt, 18, league.files)?;
+            Ok(end(league))
         }
         Opening::Length(long) => {
             if input.len() - start < long {
-                league_line::inner::print_refusal(18, league.files);
-                return end(league);
+                league_line::inner::print_refusal(rt, 18, league.files)?;
+                return Ok(end(league));
             }
             let next = start + long;
-            take_file(league, &input[start..next], next)
+            take_file(rt, league, &input[start..next], next)
         }
     }
 }
 
 // Prints the line of a file after which the next begins at `next`.
-fn take_file(league: League, file: &[u8], next: usize) -> Step
+fn take_file(rt: &impl Print, league: League, file: &[u8], next: usize) -> io::Result<Step>
     requires { LeagueWithin league × (league.files < files_limit) }
-    ensures { LeagueWithin result.league × (result.next ≤ next) }
+    ensures { IfOk result (λ s. LeagueWithin s.league × (s.next ≤ next)) }
 {
     let answer = league_report::file_lights(file);
     let refusal = answer.refusal;
     if refusal != 0 {
-        league_line::inner::print_refusal(refusal, league.files);
-        return end(league);
+        league_line::inner::print_refusal(rt, refusal, league.files)?;
+        return Ok(end(league));
     }
     let figures = answer.figures;
     let more = league_report::inner::with_file(league, figures);
-    league_line::inner::print_line(more.files, figures);
-    Step {
+    league_line::inner::print_line(rt, more.files, figures)?;
+    Ok(Step {
         ended: false,
         league: more,
         next,
-    }
+    })
 }
 
 fn end(league: League) -> Step

@@ -1,7 +1,7 @@
 -- The lines of the league report as bytes: "single spaces between"; "one line, `refused`, the number and the place". Assumes nothing.
 use Rattle.std.specs.Prelude.{cond, List, [], ◌∷◌, ◌++◌, ℕ, zero, suc, ◌+◌, ◌^◌, ltb, get_or}
 use Rattle.names.specs.Numbers.{band_number}
-use Rattle.io.specs.Digits.{last_digits}
+use Rattle.console.specs.Digits.{last_digits}
 use Rattle.lists.specs.Fold.{tab}
 use Rattle.light_figures.specs.declared.LightFigures.{LightFigures}
 use Rattle.league_report.specs.Report.{Line, figures, refused}

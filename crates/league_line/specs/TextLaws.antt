@@ -2,7 +2,7 @@
 use Rattle.std.specs.Prelude.{◌≡◌, refl, Bool, true, false, cond, List, [], ◌∷◌, ◌++◌, ℕ, zero, suc, ◌+◌, ◌-◌, ◌/◌, ◌%◌, ◌^◌, ◌≤◌, ◌<◌, ltb, leb, length, replicate}
 use Rattle.std.proofs.Common.{sym, ap, ◌∙◌, append_assoc, append-nil, le_trans, eq-or-lt_of_le, arith, ⊎_elim, length-append, lt-ltb, le-ltb, leb-true, leb-false}
 use Rattle.std.proofs.Math.Nat.{pow-le-pow_right}
-use Rattle.io.specs.Digits.{hex_digit_ascii, last_digits, IsDigitCount}
+use Rattle.console.specs.Digits.{hex_digit_ascii, last_digits, IsDigitCount}
 use Rattle.lists.specs.Fold.{tab}
 use Rattle.league_report.specs.Report.{figures, refused}
 use Rattle.league_line.specs.Text.{digit_count_from, digit_count, decimal_of, spaced, text_of}

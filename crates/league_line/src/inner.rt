@@ -6,21 +6,22 @@ ghost use Rattle.league_report.specs.Report.{Line};
 ghost use Rattle.league_line.specs.Text.{decimal_of, spaced, text_of};
 
 use light_figures::LightFigures;
+use std::io;
 
 // `first`, then the figures, single spaces between.
-pub fn print_line(first: u64, figures: LightFigures) {
+pub fn print_line(rt: &impl Print, first: u64, figures: LightFigures) -> io::Result<()> {
     let mut line = [0u8; 448];
     let long = put_figures(&mut line, first, figures);
-    io::write_all(1, &line[..long]);
+    rt.write_all(&line[..long])
 }
 
 // The number, and the place of the file after so many.
-pub fn print_refusal(refusal: u32, files: u64)
+pub fn print_refusal(rt: &impl Print, refusal: u32, files: u64) -> io::Result<()>
     requires { files ≤ files_limit }
 {
     let mut line = [0u8; 64];
     let long = put_refusal(&mut line, refusal as u64, files + 1);
-    io::write_all(1, &line[..long]);
+    rt.write_all(&line[..long])
 }
 
 // ---- lines
@@ -92,7 +93,7 @@ fn put_decimal(line: &mut [u8], at: usize, n: u64) -> usize
     ensures { (line.new ≡ sets line.old at (decimal_of n)) × (result ≡ at + length (decimal_of n)) × (result ≤ at + 20) }
 {
     let mut text = [0u8; 20];
-    let k = io::decimal(n, &mut text);
+    let k = console::decimal(n, &mut text);
     put_bytes(line, at, &text[..k]);
     at + k
 }

@@ -2,9 +2,10 @@
 // The sheet is triangle Q, of the second of two materials.
 #![tactic(auto)]
 
+use std::io;
 use vectors::{Ray, Vec3};
 
-fn show(transmission: f32) {
+fn show(rt: &impl Print, transmission: f32) -> io::Result<()> {
     let points = [0.0f32, 0.0, 0.0, 1.0, 0.0, 0.0, 0.0, 1.0, 0.0];
     let uses = [1u32];
     let kinds = [0u8, 1];
@@ -49,19 +50,17 @@ fn show(transmission: f32) {
         &mut distances,
         &mut places,
     );
-    io::print_decimal(1, answer.refusal as u64);
+    console::print_decimal(rt, answer.refusal as u64)?;
     if answer.transmittance == 0.0 {
-        io::write_all(1, b" nothing\n");
-        return;
+        return rt.write_all(b" nothing\n");
     }
     if answer.transmittance == transmission {
-        io::write_all(1, b" all of it\n");
-        return;
+        return rt.write_all(b" all of it\n");
     }
-    io::write_all(1, b" something else\n");
+    rt.write_all(b" something else\n")
 }
 
-fn main() {
-    show(0.0001);
-    show(0.00010001);
+fn main(rt: HostRuntime) -> io::Result<()> {
+    show(&rt, 0.0001)?;
+    show(&rt, 0.00010001)
 }

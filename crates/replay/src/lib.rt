@@ -6,7 +6,9 @@
 // 64-bit words: entry i is bit i % 64 of word i / 64, set exactly where the entry is 1.
 #![tactic(auto)]
 
-ghost use Rattle.std.specs.Prelude.{◌<◌, ◌≤◌, length};
+ghost use Rattle.std.specs.Prelude.{◌<◌, ◌≤◌, length, IfOk};
+
+use std::io;
 
 const INFINITY: u32 = 0x7f80_0000;
 
@@ -495,47 +497,46 @@ pub fn room_for_wide_volume() -> [f32; 526400] {
 }
 
 // The next record of standard input: its length, 0 at the input's end or where it does not fit.
-pub fn next(out: &mut [u8]) -> usize
-    ensures { result ≤ length out.new }
+pub fn next(rt: &impl Input, out: &mut [u8]) -> io::Result<usize>
+    ensures { IfOk result (λ n. n ≤ length out.new) }
 {
     let mut lead = [0u8; 4];
-    let got = io::read_full(0, &mut lead);
+    let got = console::read_full(rt, &mut lead)?;
     if got < 4 {
-        return 0;
+        return Ok(0);
     }
     let n = fit(&lead, 0, out.len());
     if n < small(&lead, 0) {
-        return 0;
+        return Ok(0);
     }
-    read(n, out)
+    read(rt, n, out)
 }
 
 // Reads `n` bytes to the front of `out`, or answers 0.
-fn read(n: usize, out: &mut [u8]) -> usize
+fn read(rt: &impl Input, n: usize, out: &mut [u8]) -> io::Result<usize>
     requires { n ≤ length out.old }
-    ensures { result ≤ length out.new }
+    ensures { IfOk result (λ k. k ≤ length out.new) }
 {
-    let got = io::read_full(0, &mut out[..n]);
+    let got = console::read_full(rt, &mut out[..n])?;
     if got < n {
-        return 0;
+        return Ok(0);
     }
-    n
+    Ok(n)
 }
 
 // Prints what was compared, or where the first difference stands.
-pub fn report(t: Tally) {
+pub fn report(rt: &impl Print, t: Tally) -> io::Result<()> {
     if t.wrong {
-        io::write_all(1, b"differs: record ");
-        io::print_decimal(1, t.records);
-        io::write_all(1, b", comparison ");
-        io::print_decimal(1, t.compared);
-        io::write_all(1, b"\n");
-        return;
+        rt.write_all(b"differs: record ")?;
+        console::print_decimal(rt, t.records)?;
+        rt.write_all(b", comparison ")?;
+        console::print_decimal(rt, t.compared)?;
+        return rt.write_all(b"\n");
     }
-    io::print_decimal(1, t.records);
-    io::write_all(1, b" records, ");
-    io::print_decimal(1, t.compared);
-    io::write_all(1, b" comparisons, all the same\n");
+    console::print_decimal(rt, t.records)?;
+    rt.write_all(b" records, ")?;
+    console::print_decimal(rt, t.compared)?;
+    rt.write_all(b" comparisons, all the same\n")
 }
 
 fn more(n: u64) -> u64 {

@@ -3,6 +3,7 @@
 
 use grid::Axes;
 use replay::Tally;
+use std::io;
 
 fn axes(s: &[u8], at: usize) -> Axes {
     Axes {
@@ -79,25 +80,25 @@ fn record(s: &[u8], t: Tally) -> Tally {
 }
 
 // Reads one record and judges it.
-fn turn(buffer: &mut [u8], t: Tally) -> Tally {
-    let n = replay::next(buffer);
+fn turn(rt: &impl Input, buffer: &mut [u8], t: Tally) -> io::Result<Tally> {
+    let n = replay::next(rt, buffer)?;
     if n == 0 {
-        return replay::ended(t);
+        return Ok(replay::ended(t));
     }
-    record(&buffer[..n], replay::begun(t))
+    Ok(record(&buffer[..n], replay::begun(t)))
 }
 
-fn run(buffer: &mut [u8]) {
+fn run(rt: &(impl Input + Print), buffer: &mut [u8]) -> io::Result<()> {
     let mut t = replay::start();
     let mut turns = u64::MAX;
     while turns > 0 && !t.over {
-        t = turn(buffer, t);
+        t = turn(rt, buffer, t)?;
         turns -= 1;
     }
-    replay::report(t);
+    replay::report(rt, t)
 }
 
-fn main() {
+fn main(rt: HostRuntime) -> io::Result<()> {
     let mut buffer = replay::buffer();
-    run(&mut buffer);
+    run(&rt, &mut buffer)
 }

@@ -3,17 +3,19 @@
 
 ghost use Rattle.std.specs.Prelude.{◌≤◌};
 
-fn show(count: usize)
+use std::io;
+
+fn show(rt: &impl Print, count: usize) -> io::Result<()>
     requires { count ≤ 4096 }
 {
-    io::print_decimal(1, samples::inner::side(count) as u64);
-    io::write_all(1, b"\n");
+    console::print_decimal(rt, samples::inner::side(count) as u64)?;
+    rt.write_all(b"\n")
 }
 
-fn main() {
-    show(1);
-    show(2);
-    show(4);
-    show(5);
-    show(4096);
+fn main(rt: HostRuntime) -> io::Result<()> {
+    show(&rt, 1)?;
+    show(&rt, 2)?;
+    show(&rt, 4)?;
+    show(&rt, 5)?;
+    show(&rt, 4096)
 }

@@ -1,10 +1,10 @@
 -- The first hit in the list's order, from a place on. A triangle that is missed, or does not count, changes neither scan, so both go from hit to hit.
 use Rattle.std.specs.Prelude.{◌≡◌, refl, Bool, List, [], ℕ, zero, suc, ◌≤◌, ◌<◌, Float}
-use Rattle.std.proofs.Common.{◌∙◌, ⊎_elim, eq-or-lt_of_le, le_of_suc-le-suc, arith}
+use Rattle.std.proofs.Common.{⊎_elim, eq-or-lt_of_le, le_of_suc-le-suc, arith}
 use Rattle.names.specs.Scene.{Scene, scene_of}
 use Rattle.vectors.specs.declared.Ray.{Ray}
 use Rattle.triangle.specs.Missed.{AllMiss}
-use Rattle.triangle.specs.declared.Meet.TheVariants.{Miss, Hit}
+use Rattle.triangle.specs.declared.Meet.TheVariants.{Hit}
 use Rattle.panels.specs.Panels.{meet_at}
 use Rattle.scan.specs.declared.Nearest.{Nearest}
 use Rattle.scan.specs.declared.Nearest.TheVariants.{Nothing, At}

@@ -3,7 +3,6 @@
 use Rattle.std.specs.Prelude.{◌≡◌, Bool, true, false, cond, ◌&&◌, ◌⊎◌, Float}
 use Rattle.std.proofs.Math.Path.{refl, ap}
 use Rattle.std.proofs.Common.{sym, ◌∙◌, ⊎_elim, arith}
-use Rattle.std.proofs.lemmas.Bool.{false≢true}
 use mathlib.Core.List.{List, [], ◌∷◌, Memᴰ}
 use Prim.Native.Nat.{ℕ, zero, suc, ◌≤◌, ◌<◌}
 use Rattle.std.proofs.Math.ListN.{length}
@@ -19,11 +18,11 @@ use Rattle.triangle.specs.Places.{triangle_at}
 use Rattle.triangle.specs.declared.Meet.{Meet}
 use Rattle.triangle.specs.declared.Meet.TheVariants.{Miss, Hit}
 use Rattle.panels.specs.Panels.{kind_at, counts, stops_light, counted_of, met_at, own_passed, met_by, meet_at}
-use Rattle.panels.specs.PanelLaws.{missed_at, front_met, panel_back, by_missed}
-use Rattle.hits.specs.Hits.{Struck, with_meet, hits_of, places_of}
+use Rattle.panels.specs.PanelLaws.{missed_at, panel_back, by_missed}
+use Rattle.hits.specs.Hits.{Struck, hits_of, places_of}
 use Rattle.hits.specs.HitLaws.{hits_only}
 use Rattle.scan_laws.specs.BaseScans.{NoPanels, nearest_base, transmittance_base, nearest_base_lem, transmittance_base_lem}
-use Rattle.scan.specs.Nearest.{nearer_of, nearest_to, nearest_of}
+use Rattle.scan.specs.Nearest.{nearest_to, nearest_of}
 use Rattle.scan.specs.Transmittance.{transmission_at, pass_of, transmittance_of}
 
 -- ---- two scenes that a ray cannot tell apart

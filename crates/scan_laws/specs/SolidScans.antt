@@ -1,14 +1,14 @@
 -- Between solid walls, where no other kind stands in the list, a ray passes whole or not at all: 1.0 where every triangle is missed, and 0 where any is met,
 -- whichever that is and wherever it stands in the list. So "a second engine that stops a transmittance ray at its first hit" answers the same, by
 -- whatever hit it finds first, and holds none. Each triangle is met as document 01 has it, from both sides.
-use Rattle.std.specs.Prelude.{◌≡◌, Bool, true, false, ◌↔◌, ℕ, ◌≤◌, ◌<◌, length, get_or, Float}
+use Rattle.std.specs.Prelude.{◌≡◌, Bool, false, ◌↔◌, ℕ, ◌<◌, length, get_or, Float}
 use Rattle.std.proofs.Math.Path.{refl, ap}
 use Rattle.std.proofs.Common.{sym, ◌∙◌, arith}
 use Rattle.std.proofs.lemmas.Bool.{false≢true}
 use Rattle.std.specs.Float.Ieee as Ieee
 use Rattle.std.specs.Float.Ieee.{of_bits, of_fields, odd}
 use Rattle.names.specs.Bits.{zero32, one32}
-use Rattle.names.specs.Numbers.{opaque_kind, panel_kind}
+use Rattle.names.specs.Numbers.{opaque_kind}
 use Rattle.names.specs.Scene.{Scene, Sound, other_kind}
 use Rattle.names.specs.SolidLaws.{none_other}
 use Rattle.vectors.specs.declared.Ray.{Ray}

@@ -5,6 +5,8 @@
 
 ghost use Rattle.std.specs.Prelude.{◌≡◌, ◌+◌, ◌*◌, ◌/◌, ◌≤◌, ◌<◌, length};
 
+use std::io;
+
 const MOST: usize = 4096;
 
 // Triangle i of a list: a right angle of sides 1 at (x, y, 0); of sides 0, and so absent, where side is 0.
@@ -21,47 +23,56 @@ fn put(points: &mut [f32], i: usize, x: f32, y: f32, side: f32)
     points[k + 7] = y + side;
 }
 
-fn number(value: usize) {
-    io::print_decimal(1, value as u64);
-    io::write_all(1, b" ");
+fn number(rt: &impl Print, value: usize) -> io::Result<()> {
+    console::print_decimal(rt, value as u64)?;
+    rt.write_all(b" ")
 }
 
-fn show(points: &[f32], boxes: &[f32], nodes: &[u32], order: &[u32], n: usize, m: usize)
+fn show(
+    rt: &impl Print,
+    points: &[f32],
+    boxes: &[f32],
+    nodes: &[u32],
+    order: &[u32],
+    n: usize,
+    m: usize,
+) -> io::Result<()>
     requires { (length points.now / 9 ≤ 4096) × (length boxes.now ≡ 24576) × (length nodes.now ≡ 12288) × (length order.now ≡ 4096) }
 {
-    number(n);
-    number(m);
+    number(rt, n)?;
+    number(rt, m)?;
     if MOST < n {
-        return;
+        return Ok(());
     }
     if MOST < m {
-        return;
+        return Ok(());
     }
     let b = n * 6;
     let k = n * 3;
     if tree::inner::accepted(points, &boxes[..b], &nodes[..k], &order[..m]) {
-        io::write_all(1, b"1");
+        rt.write_all(b"1")?;
     }
-    io::write_all(1, b"\n");
+    rt.write_all(b"\n")?;
     if m == 5 {
-        list(order, m);
-        list(nodes, k);
+        list(rt, order, m)?;
+        list(rt, nodes, k)?;
     }
+    Ok(())
 }
 
-fn list(l: &[u32], n: usize)
+fn list(rt: &impl Print, l: &[u32], n: usize) -> io::Result<()>
     requires { n ≤ length l.now }
 {
     let mut i = 0;
     while i < n {
-        number(tree::inner::word_at(l, i));
+        number(rt, tree::inner::word_at(l, i))?;
         i += 1;
     }
-    io::write_all(1, b"\n");
+    rt.write_all(b"\n")
 }
 
 // Builds the tree of the first n triangles of a list.
-fn report(points: &[f32], n: usize)
+fn report(rt: &impl Print, points: &[f32], n: usize) -> io::Result<()>
     requires { (length points.now ≡ 36864) × (n ≤ 4096) }
 {
     let mut boxes = [0.0; 24576];
@@ -71,12 +82,11 @@ fn report(points: &[f32], n: usize)
     let part = &points[..e];
     let r = tree_build::build_tree(part, &mut boxes, &mut nodes, &mut order);
     if r.refusal == 0 {
-        show(part, &boxes, &nodes, &order, r.boxes, r.places);
-        return;
+        return show(rt, part, &boxes, &nodes, &order, r.boxes, r.places);
     }
-    io::write_all(1, b"refused ");
-    number(r.refusal as usize);
-    io::write_all(1, b"\n");
+    rt.write_all(b"refused ")?;
+    number(rt, r.refusal as usize)?;
+    rt.write_all(b"\n")
 }
 
 // 4,096 triangles along x, the first at the far end, each `step` from the one before.
@@ -93,19 +103,19 @@ fn scene(points: &mut [f32], step: f32, side: f32)
     }
 }
 
-fn main() {
+fn main(rt: HostRuntime) -> io::Result<()> {
     let mut points = [0.0; 36864];
     scene(&mut points, 0.25, 1.0);
-    report(&points, 0);
-    report(&points, 1);
-    report(&points, 4);
-    report(&points, 5);
-    report(&points, 4096);
+    report(&rt, &points, 0)?;
+    report(&rt, &points, 1)?;
+    report(&rt, &points, 4)?;
+    report(&rt, &points, 5)?;
+    report(&rt, &points, 4096)?;
     scene(&mut points, 0.0, 1.0);
-    report(&points, 5);
-    report(&points, 4096);
+    report(&rt, &points, 5)?;
+    report(&rt, &points, 4096)?;
     scene(&mut points, 0.25, 0.0);
-    report(&points, 4096);
+    report(&rt, &points, 4096)?;
     scene(&mut points, -1.0, 1.0);
-    report(&points, 4096);
+    report(&rt, &points, 4096)
 }

@@ -5,69 +5,71 @@
 
 ghost use Rattle.std.specs.Prelude.{◌≡◌, ◌<◌};
 
+use std::io;
+
 // Room for the voxels of a file of 65,536 bytes.
 const MOST: usize = 1024;
 
-fn main() {
+fn main(rt: HostRuntime) -> io::Result<()> {
     let mut space = [0u8; 65537];
-    all_files(&mut space);
+    all_files(&rt, &mut space)
 }
 
 // A proved loop has to end, and nothing says that an input does: the turns count down from a number that no run uses up.
-fn all_files(space: &mut [u8]) {
+fn all_files(rt: &(impl Input + Print), space: &mut [u8]) -> io::Result<()> {
     let mut turns = u64::MAX;
-    while turns > 0 && one_file(space) {
+    while turns > 0 && one_file(rt, space)? {
         turns -= 1;
     }
+    Ok(())
 }
 
 // The next file; false where the input ends.
-fn one_file(space: &mut [u8]) -> bool {
+fn one_file(rt: &(impl Input + Print), space: &mut [u8]) -> io::Result<bool> {
     let mut head = [0u8; 4];
-    let got = io::read_full(0, &mut head);
+    let got = console::read_full(rt, &mut head)?;
     if got < 4 {
-        return false;
+        return Ok(false);
     }
     let long = size(
         wide(head[0]) + wide(head[1]) * 256 + wide(head[2]) * 65536 + wide(head[3]) * 16777216,
     );
     if space.len() < long {
-        return false;
+        return Ok(false);
     }
-    take_file(&mut space[..long])
+    take_file(rt, &mut space[..long])
 }
 
 // Fills `part` with the file, and answers for it; false where the input ends within.
-fn take_file(part: &mut [u8]) -> bool {
-    let read = io::read_full(0, part);
+fn take_file(rt: &(impl Input + Print), part: &mut [u8]) -> io::Result<bool> {
+    let read = console::read_full(rt, part)?;
     if read < part.len() {
-        return false;
+        return Ok(false);
     }
-    answer(part);
-    true
+    answer(rt, part)?;
+    Ok(true)
 }
 
-fn answer(bytes: &[u8]) {
+fn answer(rt: &impl Print, bytes: &[u8]) -> io::Result<()> {
     let figures = volume::file_figures(bytes);
-    volume_report::print(figures);
+    volume_report::print(rt, figures)?;
     if figures.refusal == 0 {
-        again(bytes);
+        again(rt, bytes)?;
     }
+    Ok(())
 }
 
 // Reads an accepted file into lists, writes them again, and prints what was written.
-fn again(bytes: &[u8]) {
+fn again(rt: &impl Print, bytes: &[u8]) -> io::Result<()> {
     let head = volume::file_axes(bytes);
     let needed = volume::volume_bytes(head.axes);
     let long = needed.bytes;
     if long < 96 {
-        io::write_all(1, b"no length\n");
-        return;
+        return rt.write_all(b"no length\n");
     }
     let n = (long - 96) / 70;
     if MOST < n {
-        io::write_all(1, b"too many\n");
-        return;
+        return rt.write_all(b"too many\n");
     }
     let words = (n + 63) / 64;
     let mut light = [0.0f32; 1024];
@@ -76,27 +78,28 @@ fn again(bytes: &[u8]) {
     let mut active = [0u64; 16];
     let mut out = [0u8; 71845];
     rewrite(
+        rt,
         bytes,
         &mut light[..n],
         &mut volume[..n * 16],
         &mut occupied[..words],
         &mut active[..words],
         &mut out[..long],
-    );
+    )
 }
 
 fn rewrite(
+    rt: &impl Print,
     bytes: &[u8],
     light: &mut [f32],
     volume: &mut [f32],
     occupied: &mut [u64],
     active: &mut [u64],
     out: &mut [u8],
-) {
+) -> io::Result<()> {
     let head = volume::read_volume(bytes, light, volume, occupied, active);
     if head.refusal != 0 {
-        io::write_all(1, b"not read\n");
-        return;
+        return rt.write_all(b"not read\n");
     }
     if volume::write_volume(
         head.axes,
@@ -108,19 +111,18 @@ fn rewrite(
         out,
     ) != 0
     {
-        io::write_all(1, b"not written\n");
-        return;
+        return rt.write_all(b"not written\n");
     }
-    print_bytes(out);
+    print_bytes(rt, out)
 }
 
-fn print_bytes(s: &[u8]) {
+fn print_bytes(rt: &impl Print, s: &[u8]) -> io::Result<()> {
     let mut i: usize = 0;
     while i < s.len() {
-        io::print_hex(1, wide(s[i]), 2);
+        console::print_hex(rt, wide(s[i]), 2)?;
         i += 1;
     }
-    io::write_all(1, b"\n");
+    rt.write_all(b"\n")
 }
 
 fn wide(b: u8) -> u64

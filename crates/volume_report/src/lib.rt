@@ -1,30 +1,30 @@
 // One line of text for a volume file's figures.
 #![tactic(auto)]
 
+use std::io;
 use volume::Figures;
 
 // Prints the six figures with single spaces, or `refused` and the number; a newline ends either.
-pub fn print(figures: Figures) {
+pub fn print(rt: &impl Print, figures: Figures) -> io::Result<()> {
     let refusal = figures.refusal;
     if refusal != 0 {
-        io::write_all(1, b"refused ");
-        io::print_decimal(1, refusal as u64);
-        io::write_all(1, b"\n");
-        return;
+        rt.write_all(b"refused ")?;
+        console::print_decimal(rt, refusal as u64)?;
+        return rt.write_all(b"\n");
     }
     let width = figures.width;
     let height = figures.height;
     let depth = figures.depth;
-    io::print_decimal(1, width as u64);
-    after_space(height as u64);
-    after_space(depth as u64);
-    after_space(figures.occupied);
-    after_space(figures.active);
-    after_space(figures.zeros);
-    io::write_all(1, b"\n");
+    console::print_decimal(rt, width as u64)?;
+    after_space(rt, height as u64)?;
+    after_space(rt, depth as u64)?;
+    after_space(rt, figures.occupied)?;
+    after_space(rt, figures.active)?;
+    after_space(rt, figures.zeros)?;
+    rt.write_all(b"\n")
 }
 
-fn after_space(n: u64) {
-    io::write_all(1, b" ");
-    io::print_decimal(1, n);
+fn after_space(rt: &impl Print, n: u64) -> io::Result<()> {
+    rt.write_all(b" ")?;
+    console::print_decimal(rt, n)
 }

@@ -1,7 +1,5 @@
 -- `float_vectors::held` reads whole lines only, and counts no more than there are.
-use Prim.Native.Nat.{◌/◌, ◌-◌, ◌≤◌}
 use native.Mathlib.Omega.{arith}
-use lib.ListN.{length}
 use Rattle.float_vectors.proofs.held.Goals as goal
 
 pub loop-line-init : goal.loop-line-init

@@ -1,7 +1,5 @@
 -- `float_vectors::vectors` reads whole lines only, and counts no more than there are.
-use Prim.Native.Nat.{◌/◌, ◌-◌, ◌≤◌}
 use native.Mathlib.Omega.{arith}
-use lib.ListN.{length}
 use Rattle.float_vectors.proofs.vectors.Goals as goal
 
 pub loop-line-init : goal.loop-line-init

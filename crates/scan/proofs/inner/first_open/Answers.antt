@@ -1,10 +1,8 @@
 -- `scan::inner::first_open` meets its contract. The loop's invariant: all from the first place up to i are missed. A run that is clear goes to them, and what
 -- is clear of a run that is not ends the search.
-use mathlib.Core.Path.{◌≡◌}
-use Prim.Native.Nat.{◌+◌, ◌-◌, ◌≤◌, ◌<◌}
+use Prim.Native.Nat.{◌+◌}
 use native.Mathlib.Omega.{arith}
 use Rattle.triangle.specs.Missed.{Missed, missed_more}
-use borrow.Author.Rules.{rules}
 use Rattle.scan.proofs.inner.first_open.Goals as goal
 use Rattle.scan.proofs.inner.first_open.Goals.{After-clear-c}
 
@@ -23,11 +21,11 @@ overflow_add-i c = omega arith
 pub returns-then-c-k : goal.returns-then-c-k
 returns-then-c-k c =
     let run_missed : let at = c in
-        let a = at.args in
-        Missed a.points.now a.ray a.from (at.loop-i.i + c.clear-c.result) =
-        let at = c in
-        let a = at.args in
-        missed_more _ a.from at.loop-i.i _ at.loop-i.invariant.2 c.clear-c.ensures.1 in
+    let a = at.args in
+    Missed a.points.now a.ray a.from (at.loop-i.i + c.clear-c.result) =
+    let at = c in
+    let a = at.args in
+    missed_more _ a.from at.loop-i.i _ at.loop-i.invariant.2 c.clear-c.ensures.1 in
     (omega arith, omega arith, run_missed)
 
 pub loop-i-smaller : goal.loop-i-smaller
@@ -36,11 +34,11 @@ loop-i-smaller c = omega (arith, c.run_of-k.ensures.1 (omega arith))
 pub loop-i-preserved : goal.loop-i-preserved
 loop-i-preserved c =
     let run_missed : let at = c in
-        let a = at.args in
-        Missed a.points.now a.ray a.from (at.loop-i.i + c.clear-c.result) =
-        let at = c in
-        let a = at.args in
-        missed_more _ a.from at.loop-i.i _ at.loop-i.invariant.2 c.clear-c.ensures.1 in
+    let a = at.args in
+    Missed a.points.now a.ray a.from (at.loop-i.i + c.clear-c.result) =
+    let at = c in
+    let a = at.args in
+    missed_more _ a.from at.loop-i.i _ at.loop-i.invariant.2 c.clear-c.ensures.1 in
     (omega arith, omega arith, run_missed)
 
 pub returns : goal.returns

@@ -1,6 +1,5 @@
 -- `scan::inner::nearer` meets its contract: each arm is a clause of the definition.
 use Rattle.scan.specs.Nearest.{nearer_of}
-use borrow.Author.Rules.{rules}
 use Rattle.scan.proofs.inner.nearer.Goals as goal
 
 pub returns-then-better : goal.returns-then-better

@@ -2,7 +2,7 @@
 -- met, changes nothing, and what is met is one step of the definition.
 use mathlib.Core.Path.{◌≡◌, refl, sym, ◌∙◌}
 use mathlib.Core.Bool.{false}
-use Prim.Native.Nat.{◌≤◌, ◌<◌, ◌-◌}
+use Prim.Native.Nat.{◌<◌}
 use native.Mathlib.Omega.{arith}
 use native.Mathlib.Numerals.{add-one}
 use lib.ListN.{length}
@@ -27,9 +27,9 @@ pub returns-then-j-n : goal.returns-then-j-n
 unfolding nearest_of
 returns-then-j-n c =
     let passed_over_lem : let at = c in
-        let a = at.args in
-        AllMiss (met_by false a.points.now a.uses.now a.kinds.now a.ray) at.loop-i.i c.first_open-j.result =
-        all_missed_by false _ _ _ _ _ _ c.first_open-j.ensures.2 in
+    let a = at.args in
+    AllMiss (met_by false a.points.now a.uses.now a.kinds.now a.ray) at.loop-i.i c.first_open-j.result =
+    all_missed_by false _ _ _ _ _ _ c.first_open-j.ensures.2 in
     let f = c.before in
     let at = f.loop-i in
     let a = f.args in
@@ -51,9 +51,9 @@ loop-i-smaller-in-Miss c = omega arith
 pub loop-i-preserved-in-Miss : goal.loop-i-preserved-in-Miss
 loop-i-preserved-in-Miss c =
     let passed_over_lem : let at = c in
-        let a = at.args in
-        AllMiss (met_by false a.points.now a.uses.now a.kinds.now a.ray) at.loop-i.i c.first_open-j.result =
-        all_missed_by false _ _ _ _ _ _ c.first_open-j.ensures.2 in
+    let a = at.args in
+    AllMiss (met_by false a.points.now a.uses.now a.kinds.now a.ray) at.loop-i.i c.first_open-j.result =
+    all_missed_by false _ _ _ _ _ _ c.first_open-j.ensures.2 in
     let m = c.before in
     let f = m.before.before in
     let at = f.loop-i in (
@@ -68,9 +68,9 @@ loop-i-smaller c = omega arith
 pub loop-i-preserved : goal.loop-i-preserved
 loop-i-preserved c =
     let passed_over_lem : let at = c in
-        let a = at.args in
-        AllMiss (met_by false a.points.now a.uses.now a.kinds.now a.ray) at.loop-i.i c.first_open-j.result =
-        all_missed_by false _ _ _ _ _ _ c.first_open-j.ensures.2 in
+    let a = at.args in
+    AllMiss (met_by false a.points.now a.uses.now a.kinds.now a.ray) at.loop-i.i c.first_open-j.result =
+    all_missed_by false _ _ _ _ _ _ c.first_open-j.ensures.2 in
     let h = c.before.before in
     let m = h.before in
     let f = m.before.before in

@@ -5,7 +5,7 @@ use mathlib.Core.Path.{◌≡◌, refl, sym, ap, subst, ◌∙◌}
 use mathlib.Core.Bool.{true, false}
 use mathlib.Core.List.Memᴰ
 use mathlib.Core.List.{List, [], ◌++◌}
-use Prim.Native.Nat.{◌≤◌, ◌<◌, ◌-◌}
+use Prim.Native.Nat.{◌≤◌, ◌<◌}
 use native.Mathlib.Numerals.{add-one}
 use native.Mathlib.Omega.{arith}
 use lib.ListN.{length, take, drop, length-set}
@@ -14,12 +14,12 @@ use Rattle.names.specs.Bits.{one32}
 use Rattle.names.specs.Scene.{scene_of}
 use Rattle.panels.specs.Panels.{kind_at, stops_light}
 use Rattle.hits.specs.BeforeLaws.{hit_number}
-use Rattle.scan.specs.FirstHit.{FirstFrom, hits_over, hits_first}
+use Rattle.scan.specs.FirstHit.{hits_over, hits_first}
 use Rattle.hits.specs.Hits.{Struck, struck, paired, hits_of, places_of}
 use Rattle.hits.specs.HitLaws.{places_below}
 use Rattle.hits.specs.Merge.{insert_all, sort_of, Numbers}
 use Rattle.hits.specs.MergeLaws.{insert_all_append, numbers_append}
-use Rattle.scan.specs.OpaqueLaws.{NoneOpaque, opaque_dark, clear_pass, none_opaque_put, clear_room}
+use Rattle.scan.specs.OpaqueLaws.{opaque_dark, clear_pass, none_opaque_put, clear_room}
 use Rattle.scan.specs.Transmittance.{transmittance_of}
 use borrow.Author.Rules.{rules}
 use Rattle.hits.specs.PairedLaws.{paired_places, stored}
@@ -91,19 +91,19 @@ offset_bounds-distances-m c = omega arith
 pub bounds-distances-m : goal.bounds-distances-m
 bounds-distances-m c =
     let clear_hit : let h = c in
-        let a = h.args in
-        stops_light (kind_at a.uses.now a.kinds.now h.in-At.j) ≡ false =
-        rw c.kind_at.ensures at (sym c.stops_light.ensures ∙ c.if-stops_light.false) in
+    let a = h.args in
+    stops_light (kind_at a.uses.now a.kinds.now h.in-At.j) ≡ false =
+    rw c.kind_at.ensures at (sym c.stops_light.ensures ∙ c.if-stops_light.false) in
     let more_room : let at = c.loop-i in
-        (at.m < length at.distances) × (at.m < length at.places) =
-        let h = c.before.before.before.before in
-        let at = h.loop-i in
-        let g = rw h.in-At.is at h.first_hit-f.ensures in
-        let s = h in
-        let a = s.args in
-        let below : h.in-At.j < length a.uses.now = omega (arith, g.1, at.invariant.8) in
-        let all = clear_room (scene_of a.points.now a.uses.now a.kinds.now a.numbers.now) _ s.requires.sound below (clear_hit) in
-        (omega (arith, all, below, g.0, at.invariant.1, at.invariant.2, s.requires.hits_fit.0), omega (arith, all, below, g.0, at.invariant.1, at.invariant.3, s.requires.hits_fit.1)) in
+    (at.m < length at.distances) × (at.m < length at.places) =
+    let h = c.before.before.before.before in
+    let at = h.loop-i in
+    let g = rw h.in-At.is at h.first_hit-f.ensures in
+    let s = h in
+    let a = s.args in
+    let below : h.in-At.j < length a.uses.now = omega (arith, g.1, at.invariant.8) in
+    let all = clear_room (scene_of a.points.now a.uses.now a.kinds.now a.numbers.now) _ s.requires.sound below (clear_hit) in
+    (omega (arith, all, below, g.0, at.invariant.1, at.invariant.2, s.requires.hits_fit.0), omega (arith, all, below, g.0, at.invariant.1, at.invariant.3, s.requires.hits_fit.1)) in
     (more_room).0
 
 pub offset_bounds-places-m : goal.offset_bounds-places-m
@@ -112,19 +112,19 @@ offset_bounds-places-m c = omega arith
 pub bounds-places-m : goal.bounds-places-m
 bounds-places-m c =
     let clear_hit : let h = c in
-        let a = h.args in
-        stops_light (kind_at a.uses.now a.kinds.now h.in-At.j) ≡ false =
-        rw c.kind_at.ensures at (sym c.stops_light.ensures ∙ c.if-stops_light.false) in
+    let a = h.args in
+    stops_light (kind_at a.uses.now a.kinds.now h.in-At.j) ≡ false =
+    rw c.kind_at.ensures at (sym c.stops_light.ensures ∙ c.if-stops_light.false) in
     let more_room : let at = c.loop-i in
-        (at.m < length at.distances) × (at.m < length at.places) =
-        let h = c.before.before.before.before in
-        let at = h.loop-i in
-        let g = rw h.in-At.is at h.first_hit-f.ensures in
-        let s = h in
-        let a = s.args in
-        let below : h.in-At.j < length a.uses.now = omega (arith, g.1, at.invariant.8) in
-        let all = clear_room (scene_of a.points.now a.uses.now a.kinds.now a.numbers.now) _ s.requires.sound below (clear_hit) in
-        (omega (arith, all, below, g.0, at.invariant.1, at.invariant.2, s.requires.hits_fit.0), omega (arith, all, below, g.0, at.invariant.1, at.invariant.3, s.requires.hits_fit.1)) in
+    (at.m < length at.distances) × (at.m < length at.places) =
+    let h = c.before.before.before.before in
+    let at = h.loop-i in
+    let g = rw h.in-At.is at h.first_hit-f.ensures in
+    let s = h in
+    let a = s.args in
+    let below : h.in-At.j < length a.uses.now = omega (arith, g.1, at.invariant.8) in
+    let all = clear_room (scene_of a.points.now a.uses.now a.kinds.now a.numbers.now) _ s.requires.sound below (clear_hit) in
+    (omega (arith, all, below, g.0, at.invariant.1, at.invariant.2, s.requires.hits_fit.0), omega (arith, all, below, g.0, at.invariant.1, at.invariant.3, s.requires.hits_fit.1)) in
     (more_room).1
 
 pub overflow_add-m : goal.overflow_add-m
@@ -147,19 +147,19 @@ pub loop-i-preserved : goal.loop-i-preserved
 unfolding insert_all
 loop-i-preserved c =
     let clear_hit : let h = c in
-        let a = h.args in
-        stops_light (kind_at a.uses.now a.kinds.now h.in-At.j) ≡ false =
-        rw c.kind_at.ensures at (sym c.stops_light.ensures ∙ c.if-stops_light.false) in
+    let a = h.args in
+    stops_light (kind_at a.uses.now a.kinds.now h.in-At.j) ≡ false =
+    rw c.kind_at.ensures at (sym c.stops_light.ensures ∙ c.if-stops_light.false) in
     let more_room : let at = c.loop-i in
-        (at.m < length at.distances) × (at.m < length at.places) =
-        let h = c.before.before.before.before in
-        let at = h.loop-i in
-        let g = rw h.in-At.is at h.first_hit-f.ensures in
-        let s = h in
-        let a = s.args in
-        let below : h.in-At.j < length a.uses.now = omega (arith, g.1, at.invariant.8) in
-        let all = clear_room (scene_of a.points.now a.uses.now a.kinds.now a.numbers.now) _ s.requires.sound below (clear_hit) in
-        (omega (arith, all, below, g.0, at.invariant.1, at.invariant.2, s.requires.hits_fit.0), omega (arith, all, below, g.0, at.invariant.1, at.invariant.3, s.requires.hits_fit.1)) in
+    (at.m < length at.distances) × (at.m < length at.places) =
+    let h = c.before.before.before.before in
+    let at = h.loop-i in
+    let g = rw h.in-At.is at h.first_hit-f.ensures in
+    let s = h in
+    let a = s.args in
+    let below : h.in-At.j < length a.uses.now = omega (arith, g.1, at.invariant.8) in
+    let all = clear_room (scene_of a.points.now a.uses.now a.kinds.now a.numbers.now) _ s.requires.sound below (clear_hit) in
+    (omega (arith, all, below, g.0, at.invariant.1, at.invariant.2, s.requires.hits_fit.0), omega (arith, all, below, g.0, at.invariant.1, at.invariant.3, s.requires.hits_fit.1)) in
     let h = c.before.before.before.before.before in
     let at = h.loop-i in
     let g = rw h.in-At.is at h.first_hit-f.ensures in
@@ -213,30 +213,30 @@ in_order-requires c =
 pub slice_bounds-product-end : goal.slice_bounds-product-end
 slice_bounds-product-end c =
     let places_long_lem : let at = c.loop-i in length (c.in_order.new.places ++ drop at.m at.places) ≡ length at.places =
-        let at = c.loop-i in
-        length_front at.places c.in_order.new.places at.m c.in_order.auto.places in
+    let at = c.loop-i in
+    length_front at.places c.in_order.new.places at.m c.in_order.auto.places in
     omega (arith, places_long_lem)
 
 pub slice_bounds-product-end-2 : goal.slice_bounds-product-end-2
 slice_bounds-product-end-2 c =
     let places_long_lem : let at = c.loop-i in length (c.in_order.new.places ++ drop at.m at.places) ≡ length at.places =
-        let at = c.loop-i in
-        length_front at.places c.in_order.new.places at.m c.in_order.auto.places in
+    let at = c.loop-i in
+    length_front at.places c.in_order.new.places at.m c.in_order.auto.places in
     sym (length-take-le _ _ (omega (arith, places_long_lem)))
 
 pub product-requires : goal.product-requires
 product-requires c =
     let all_hits : let at = c.loop-i in
-        let a = c.args in
-        take at.m (c.in_order.new.places ++ drop at.m at.places) ≡ places_of (hits_of (scene_of a.points.now a.uses.now a.kinds.now a.numbers.now) a.ray (length a.uses.now)) =
-        let at = c.loop-i in
-        let a = c.args in
-        let e : at.i ≡ length a.uses.now = omega arith in
-        let d = c.in_order.auto.distances ∙ length-take-le at.m at.distances (omega arith) in
-        let p = c.in_order.auto.places ∙ length-take-le at.m at.places (omega arith) in
-        take_at c.in_order.new.places (drop at.m at.places) at.m p
-        ∙ sym (paired_places c.in_order.new.distances c.in_order.new.places (d ∙ sym p))
-        ∙ ap (λ (h : List Struck). places_of h) (c.in_order.ensures ∙ rw e at at.invariant.4) in
+    let a = c.args in
+    take at.m (c.in_order.new.places ++ drop at.m at.places) ≡ places_of (hits_of (scene_of a.points.now a.uses.now a.kinds.now a.numbers.now) a.ray (length a.uses.now)) =
+    let at = c.loop-i in
+    let a = c.args in
+    let e : at.i ≡ length a.uses.now = omega arith in
+    let d = c.in_order.auto.distances ∙ length-take-le at.m at.distances (omega arith) in
+    let p = c.in_order.auto.places ∙ length-take-le at.m at.places (omega arith) in
+    take_at c.in_order.new.places (drop at.m at.places) at.m p
+    ∙ sym (paired_places c.in_order.new.distances c.in_order.new.places (d ∙ sym p))
+    ∙ ap (λ (h : List Struck). places_of h) (c.in_order.ensures ∙ rw e at at.invariant.4) in
     let s = c in record {
       by_index = (λ i h. omega (arith, s.requires.sound.within i h));
       by_index_2 = rw (all_hits) (places_below (scene_of s.args.points.now s.args.uses.now s.args.kinds.now s.args.numbers.now) s.args.ray (length s.args.uses.now));
@@ -251,8 +251,8 @@ shape_of-distances c =
 pub shape_of-places : goal.shape_of-places
 shape_of-places c =
     let places_long_lem : let at = c.loop-i in length (c.in_order.new.places ++ drop at.m at.places) ≡ length at.places =
-        let at = c.loop-i in
-        length_front at.places c.in_order.new.places at.m c.in_order.auto.places in
+    let at = c.loop-i in
+    length_front at.places c.in_order.new.places at.m c.in_order.auto.places in
     let o = c.before.before.before.before.before.before in
     let at = o.loop-i in
     places_long_lem ∙ at.invariant.3
@@ -261,16 +261,16 @@ pub returns : goal.returns
 unfolding transmittance_of
 returns c =
     let all_hits : let at = c.loop-i in
-        let a = c.args in
-        take at.m (c.in_order.new.places ++ drop at.m at.places) ≡ places_of (hits_of (scene_of a.points.now a.uses.now a.kinds.now a.numbers.now) a.ray (length a.uses.now)) =
-        let at = c.loop-i in
-        let a = c.args in
-        let e : at.i ≡ length a.uses.now = omega arith in
-        let d = c.in_order.auto.distances ∙ length-take-le at.m at.distances (omega arith) in
-        let p = c.in_order.auto.places ∙ length-take-le at.m at.places (omega arith) in
-        take_at c.in_order.new.places (drop at.m at.places) at.m p
-        ∙ sym (paired_places c.in_order.new.distances c.in_order.new.places (d ∙ sym p))
-        ∙ ap (λ (h : List Struck). places_of h) (c.in_order.ensures ∙ rw e at at.invariant.4) in
+    let a = c.args in
+    take at.m (c.in_order.new.places ++ drop at.m at.places) ≡ places_of (hits_of (scene_of a.points.now a.uses.now a.kinds.now a.numbers.now) a.ray (length a.uses.now)) =
+    let at = c.loop-i in
+    let a = c.args in
+    let e : at.i ≡ length a.uses.now = omega arith in
+    let d = c.in_order.auto.distances ∙ length-take-le at.m at.distances (omega arith) in
+    let p = c.in_order.auto.places ∙ length-take-le at.m at.places (omega arith) in
+    take_at c.in_order.new.places (drop at.m at.places) at.m p
+    ∙ sym (paired_places c.in_order.new.distances c.in_order.new.places (d ∙ sym p))
+    ∙ ap (λ (h : List Struck). places_of h) (c.in_order.ensures ∙ rw e at at.invariant.4) in
     let o = c.before.before.before.before.before.before in
     let at = o.loop-i in
     let a = o.args in

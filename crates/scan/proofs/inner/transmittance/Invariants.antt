@@ -1,5 +1,4 @@
 use mathlib.Core.Path.{◌≡◌}
-use mathlib.Core.List.Memᴰ
 use Prim.Native.Nat.{◌≤◌, ◌<◌, ◌-◌}
 use lib.ListN.{length, take}
 use Rattle.names.specs.Scene.{scene_of}

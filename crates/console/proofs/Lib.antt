@@ -1,0 +1,3 @@
+-- What the proofs of numbers as text share.
+mod Counting
+mod Powers
