@@ -2,7 +2,6 @@
 use Rattle.std.proofs.Common.{◌≡◌, ◌+◌, ◌*◌, ◌≤◌, true, false, pos, sym, refl, le-div_iff_mul-le, arith, ltb-false}
 use mathlib.Core.Bool.{false≢true}
 use native.Mathlib.Nat.{min-eq_right}
-use lib.Ieee as Ieee
 use lib.Ieee.{Float, nan, inf, fin, up, down, lt, to_unsigned}
 use lib.Ieee.Fits.{down_pos}
 

@@ -3,5 +3,4 @@ pub mod Place
 pub mod Lookup
 pub mod PlaceLaws
 pub mod LookupLaws
-pub mod BlendLaws
 pub mod LookupFigures

@@ -1,14 +1,11 @@
 -- A file is faulty exactly when one of these fails: head, axes, contents, corners, light, coefficients, masks. And what lengths the
 -- bodies of one that is not faulty have.
-use Rattle.std.specs.Prelude.{◌≡◌, refl, Bool, true, false, not, ◌||◌, List, ◌↔◌, ℕ, ◌+◌, ◌*◌, ◌≤◌, length, drop}
-use Rattle.std.proofs.Common.{sym, ap, ◌∙◌, arith, length-drop, length-take-le}
+use Rattle.std.specs.Prelude.{◌≡◌, refl, true, false, List, ◌↔◌, ℕ}
 use Rattle.std.proofs.lemmas.Bool.{not-false}
-use Rattle.lists.specs.Fold.{length_tab}
-use Rattle.bytes_le.specs.Bytes.{floats_at, bytes_at}
 use Rattle.grid.specs.Grid.{AxesWithin}
 use Rattle.limits.specs.Limits.{bad_axes, bad_grid, bad_lights, bad_coefficients, bad_mask}
 use Rattle.limits.specs.LimitsLaws.{either, axes_row}
-use Rattle.contents.specs.Contents.{headed, axes_at, entries_at, offset_at, contents_good}
+use Rattle.contents.specs.Contents.{axes_at, entries_at, contents_good}
 use Rattle.contents.specs.Laid.{Laid}
 use Rattle.contents.proofs.ContentsLaws.{Headed, headed_found, headed_given, contents_laid}
 use Rattle.volume_file.specs.VolumeFile.{voxels_at, light_at, volume_at, active_at, occupied_at, corners_at, bad_bodies, faulty}
