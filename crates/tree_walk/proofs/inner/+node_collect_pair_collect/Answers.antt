@@ -12,7 +12,6 @@ use Rattle.tree_walk.specs.UnderLaws.{places_under}
 use Rattle.tree_walk.specs.CollectLaws.{node_dark}
 use Rattle.tree_walk.specs.Kept.{MetWithin, RoomFor}
 use Rattle.tree_walk.proofs.Steps.{inner_read, leaf_read, no_levels, box_over, box_halves, box_leaf, halves_less, under_halves, under_leaf, met_more}
-use borrow.Author.Rules.{rules}
 use Rattle.tree_walk.proofs.inner.+node_collect_pair_collect.Goals as goal
 
 -- ---- a box

@@ -5,7 +5,6 @@ use Rattle.hits.specs.Hits.{Struck, paired, places_of}
 use Rattle.hits.specs.Merge.{sort_of}
 use Rattle.hits.specs.PairedLaws.{paired_places}
 use Rattle.scan.specs.OpaqueLaws.{clear_pass_of}
-use borrow.Author.Rules.{rules}
 use Rattle.tree_walk.proofs.inner.passing.Goals as goal
 use Rattle.tree_walk.proofs.inner.passing.Goals.{After-in_order}
 

@@ -16,7 +16,6 @@ use Rattle.tree_walk.specs.Spans.{span_places}
 use Rattle.tree_walk.specs.Collect.{came, collect_step}
 use Rattle.tree_walk.specs.Kept.{collected_by, MetWithin}
 use Rattle.tree_walk.proofs.Going.{collect_none, collect_clear, collect_dark, dark_stays, clear_other, turned_long, span_missed, span_starts, span_next, span_over, span_ends}
-use borrow.Author.Rules.{rules}
 use Rattle.tree_walk.proofs.inner.span_collect.Goals as goal
 use Rattle.tree_walk.proofs.inner.span_collect.Goals.{After-first_open-j, After-word_at-p, At-loop-k, Else-stops_light}
 

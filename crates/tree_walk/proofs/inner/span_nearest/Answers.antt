@@ -9,7 +9,6 @@ use Rattle.tree_walk.specs.Boxed.{boxed_at, nearest_step}
 use Rattle.tree_walk.specs.FoldLaws.{fold_of}
 use Rattle.tree_walk.specs.Spans.{span_places}
 use Rattle.tree_walk.proofs.Going.{nearest_none, turned_long, span_missed, span_starts, span_next, span_over, span_ends}
-use borrow.Author.Rules.{rules}
 use Rattle.tree_walk.proofs.inner.span_nearest.Goals as goal
 use Rattle.tree_walk.proofs.inner.span_nearest.Goals.{After-first_open-j}
 
