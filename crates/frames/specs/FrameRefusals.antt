@@ -11,7 +11,7 @@ use Rattle.limits.specs.Limits.{bad_axes, bad_grid, wrong_length, bad_position}
 use Rattle.lookup.specs.Place.{cells_of}
 use Rattle.lookup.specs.Lookup.{bad_light_cells, bad_volume_cells}
 use Rattle.frames.specs.declared.FirstRefusal.{FirstRefusal}
-use Rattle.frames.specs.Frames.{position_count, position_at, wrong_frame, refused_at, least_refused, first_refusal_of, frame_rows, light_refusal_at, light_frame_refusal, coefficient_refusal_at, coefficient_frame_refusal, LightsFramed, CoefficientsFramed}
+use Rattle.frames.specs.Frames.{position_count, position_at, refused_at, least_refused, first_refusal_of, frame_rows, light_refusal_at, light_frame_refusal, coefficient_refusal_at, coefficient_frame_refusal, LightsFramed, CoefficientsFramed}
 use Rattle.frames.specs.FramesLaws.{LeastAt, least_out, least_is, least_zeros, least_none, frame_rows_passed}
 
 -- An answer by rows that concern no position, and then by the single lookup's number at each of `count` places.

@@ -1,8 +1,7 @@
 -- A camera frame of positions, three numbers each: the light, or the four coefficients, at each of them, "equal one by one to the single lookup".
 -- Rows 1, 2 and 3 concern no position: they are tested once, whatever the positions, and come with place 0. Then "the first such refusal is given with
 -- its place": the least place at which the single lookup refuses, and its number. On a refusal "nothing is written". Assumes nothing.
-use Rattle.std.specs.Prelude.{◌≡◌, Bool, cond, ◌||◌, List, [], ◌∷◌, ℕ, zero, suc, ◌+◌, ◌*◌, ◌/◌, ◌%◌, eqb, length, get_or, Float}
-use Rattle.std.specs.Float.{nan}
+use Rattle.std.specs.Prelude.{◌≡◌, Bool, cond, ◌||◌, List, [], ◌∷◌, ℕ, zero, suc, ◌+◌, ◌*◌, ◌/◌, ◌%◌, eqb, length, Float}
 use Rattle.names.specs.Refusals.{Row, row, first_of, unless_refused}
 use Rattle.lists.specs.Fold.{tab}
 use Rattle.lists.specs.Laid.{laid}

@@ -1,0 +1,11 @@
+-- Where `frames::inner::coefficients_clear` says so, the whole list was read and its test failed; where it read nothing it says false.
+use mathlib.Core.Path.{sym, ◌∙◌}
+use mathlib.Core.Bool.{false≢true}
+use borrow.Author.Tests.{not-true}
+use Rattle.frames.proofs.inner.coefficients_clear.Goals as goal
+
+pub returns-then-volume-count : goal.returns-then-volume-count
+returns-then-volume-count c = λ e. sym c.bad_coefficients.ensures ∙ not-true _ e
+
+pub returns : goal.returns
+returns c = λ e. absurd (false≢true e)
