@@ -37,7 +37,7 @@ use Rattle.scan.specs.Nearest.{nearest_to, nearer_of, beats}
 use Rattle.scan.specs.declared.Nearest.{Nearest}
 use Rattle.scan.specs.declared.Nearest.TheVariants.{Nothing, At}
 use Rattle.hits.specs.Hits.{hits_of, places_of}
-use Rattle.hits.specs.HitLaws.{places_below}
+use Rattle.hits.proofs.HitLaws.{places_below}
 use Rattle.scan.specs.Transmittance.{transmittance_of, pass_of, transmission_at}
 use Rattle.bounce.specs.declared.Way.{Way}
 use Rattle.bounce.specs.Light.{face_normal, black_of, slant_of}

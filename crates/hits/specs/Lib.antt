@@ -2,7 +2,6 @@
 pub mod Hits
 pub mod Merge
 pub mod Order
-pub mod HitLaws
 pub mod BeforeLaws
 pub mod MergeLaws
 pub mod PairedLaws

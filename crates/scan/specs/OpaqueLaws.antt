@@ -15,7 +15,7 @@ use Rattle.vectors.specs.declared.Ray.{Ray}
 use Rattle.triangle.specs.declared.Meet.TheVariants.{Hit}
 use Rattle.panels.specs.Panels.{kind_at, stops_light, meet_at}
 use Rattle.hits.specs.Hits.{Struck, struck, insert_of, places_of}
-use Rattle.hits.specs.HitLaws.{put_only, hits_all}
+use Rattle.hits.proofs.HitLaws.{put_only, hits_all}
 use Rattle.scan.specs.Transmittance.{transmission_at, pass_of, transmittance_of}
 
 either_way : (b : Bool) (x : Float) → cond b x x ≡ x

@@ -19,7 +19,7 @@ use Rattle.triangle.specs.declared.Meet.{Meet}
 use Rattle.panels.specs.Panels.{kind_at, stops_light, meet_at}
 use Rattle.panels.specs.PanelLaws.{plain_met, by_list}
 use Rattle.hits.specs.Hits.{Struck, with_meet, hits_of, places_of}
-use Rattle.hits.specs.HitLaws.{places_below}
+use Rattle.hits.proofs.HitLaws.{places_below}
 use Rattle.scan.specs.Nearest.{nearer_of, nearest_to, nearest_of}
 use Rattle.scan.specs.Transmittance.{transmission_at, pass_of, transmittance_of}
 use Rattle.scan.specs.declared.Nearest.{Nearest}

@@ -20,7 +20,7 @@ use Rattle.triangle.specs.declared.Meet.TheVariants.{Miss, Hit}
 use Rattle.panels.specs.Panels.{kind_at, counts, stops_light, counted_of, met_at, own_passed, met_by, meet_at}
 use Rattle.panels.specs.PanelLaws.{missed_at, panel_back, by_missed}
 use Rattle.hits.specs.Hits.{Struck, hits_of, places_of}
-use Rattle.hits.specs.HitLaws.{hits_only}
+use Rattle.hits.proofs.HitLaws.{hits_only}
 use Rattle.scan_laws.specs.BaseScans.{NoPanels, nearest_base, transmittance_base, nearest_base_lem, transmittance_base_lem}
 use Rattle.scan.specs.Nearest.{nearest_to, nearest_of}
 use Rattle.scan.specs.Transmittance.{transmission_at, pass_of, transmittance_of}

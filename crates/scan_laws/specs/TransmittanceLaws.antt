@@ -15,7 +15,7 @@ use Rattle.vectors.specs.declared.Ray.{Ray}
 use Rattle.limits.specs.Limits.{up_to, bad_numbers}
 use Rattle.limits.specs.LimitsLaws.{transmission_within}
 use Rattle.hits.specs.Hits.{hits_of, places_of}
-use Rattle.hits.specs.HitLaws.{places_below}
+use Rattle.hits.proofs.HitLaws.{places_below}
 use Rattle.panels.specs.Panels.{kind_at, stops_light}
 use Rattle.scan.specs.Transmittance.{transmission_at, pass_of, transmittance_of}
 

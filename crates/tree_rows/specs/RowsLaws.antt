@@ -36,6 +36,7 @@ module _ (nodes : List ℕ) where
   -- more levels than there are add nothing
   enough : (n e : ℕ) {i : ℕ} → Levels nodes n i → boxes_under nodes n i ≡ boxes_under nodes (n + e) i
   unfolding boxes_under
+  enough zero e {i = i} x' = elim x' [ ]
   enough (suc n) e {i} (leaf q) = let s : suc n + e ≡ suc (n + e) = omega arith in rw (s, q)
   enough (suc n) e {i} (halves q l r) = let s : suc n + e ≡ suc (n + e) = omega arith in rw (s, q, enough n e l, enough n e r)
 

@@ -8,7 +8,7 @@ use Rattle.names.specs.Scene.{Scene}
 use Rattle.vectors.specs.declared.Ray.{Ray}
 use Rattle.triangle.specs.declared.Meet.{Meet}
 use Rattle.triangle.specs.declared.Meet.TheVariants.{Miss, Hit}
-use Rattle.panels.specs.Panels.{own_passed, met_by, meet_at}
+use Rattle.panels.specs.Panels.{own_passed, meet_at}
 use Rattle.hits.specs.Hits.{Struck, struck, before, insert_of, with_meet, hits_of}
 use Rattle.hits.specs.BeforeLaws.{before_trans}
 use Rattle.scan_laws.specs.HitOrder.{Sorted, none, more, hits_sorted, sorted_all}

@@ -15,7 +15,7 @@ use Rattle.triangle.specs.declared.Meet.{Meet}
 use Rattle.triangle.specs.declared.Meet.TheVariants.{Miss, Hit}
 use Rattle.panels.specs.Panels.{kind_at, stops_light}
 use Rattle.hits.specs.Hits.{Struck, struck, insert_of, with_meet, places_of}
-use Rattle.hits.specs.HitLaws.{put_here, put_kept, places_below}
+use Rattle.hits.proofs.HitLaws.{put_here, put_kept, places_below}
 use Rattle.hits.specs.Merge.{insert_all, sort_of, Numbers}
 use Rattle.hits.specs.MergeLaws.{insert_all_append, numbers_append}
 use Rattle.scan.specs.OpaqueLaws.{clear_pass_of, NoneOpaque, opaque_leaves, clear_pass, none_opaque_put}

@@ -51,6 +51,7 @@ module _ (nodes order : List ℕ) where
   -- more levels than there are add nothing
   enough : (n e : ℕ) {i : ℕ} → Levels nodes n i → places_under nodes order n i ≡ places_under nodes order (n + e) i
   unfolding places_under
+  enough zero e {i = i} x' = elim x' [ ]
   enough (suc n) e {i} (leaf q) = let s : suc n + e ≡ suc (n + e) = omega arith in rw (s, q)
   enough (suc n) e {i} (halves q l r) = let s : suc n + e ≡ suc (n + e) = omega arith in rw (s, q, enough n e l, enough n e r)
 

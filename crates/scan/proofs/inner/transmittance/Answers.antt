@@ -16,7 +16,7 @@ use Rattle.panels.specs.Panels.{kind_at, stops_light}
 use Rattle.hits.specs.BeforeLaws.{hit_number}
 use Rattle.scan.specs.FirstHit.{hits_over, hits_first}
 use Rattle.hits.specs.Hits.{Struck, struck, paired, hits_of, places_of}
-use Rattle.hits.specs.HitLaws.{places_below}
+use Rattle.hits.proofs.HitLaws.{places_below}
 use Rattle.hits.specs.Merge.{insert_all, sort_of, Numbers}
 use Rattle.hits.specs.MergeLaws.{insert_all_append, numbers_append}
 use Rattle.scan.specs.OpaqueLaws.{opaque_dark, clear_pass, none_opaque_put, clear_room}

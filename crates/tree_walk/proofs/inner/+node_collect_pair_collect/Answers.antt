@@ -12,17 +12,16 @@ use Rattle.tree_walk.specs.UnderLaws.{places_under}
 use Rattle.tree_walk.specs.CollectLaws.{node_dark}
 use Rattle.tree_walk.specs.Kept.{MetWithin, RoomFor}
 use Rattle.tree_walk.proofs.Steps.{inner_read, leaf_read, no_levels, box_over, box_halves, box_leaf, halves_less, under_halves, under_leaf, met_more}
-use borrow.Author.Rules.{rules}
 use Rattle.tree_walk.proofs.inner.+node_collect_pair_collect.Goals as goal
 
 -- ---- a box
 pub node_collect-returns-then-levels-eq0 : goal.node_collect-returns-then-levels-eq0
 node_collect-returns-then-levels-eq0 t c =
     let s = c in
-    (no_levels _ _ _ _ _ _ _ _ c.if-levels-eq0.true, (omega arith, s.requires.room_for.0.0, s.requires.room_for.0.1))
+    (no_levels _ _ _ _ _ _ _ _ c.if-levels-eq0.true, (omega arith, s.requires.m_in_bounds.0, s.requires.m_in_bounds.1))
 
 pub node_collect-bounds_at-b-requires : goal.node_collect-bounds_at-b-requires
-node_collect-bounds_at-b-requires t c = omega (arith, c.requires.i_bound.boxes_fit)
+node_collect-bounds_at-b-requires t c = omega (arith, c.requires.tree_fits.boxes_fit)
 
 pub node_collect-passed_over-requires : goal.node_collect-passed_over-requires
 node_collect-passed_over-requires t c = tt
@@ -33,7 +32,7 @@ node_collect-returns-then-passed_over t c =
     let b = p.before in
     let s = b in (
       box_over _ _ _ _ _ _ _ _ b.if-levels-eq0.false (ap (passed_over _ _) (sym b.bounds_at-b.ensures) ∙ sym p.passed_over.ensures ∙ c.if-passed_over.true),
-      (omega arith, s.requires.room_for.0.0, s.requires.room_for.0.1),
+      (omega arith, s.requires.m_in_bounds.0, s.requires.m_in_bounds.1),
     )
 
 pub node_collect-overflow_mul-i : goal.node_collect-overflow_mul-i
@@ -52,10 +51,10 @@ pub node_collect-word_at-left-requires : goal.node_collect-word_at-left-requires
 node_collect-word_at-left-requires t c = omega arith
 
 pub node_collect-overflow_mul-i-then-word_at-eq0-2 : goal.node_collect-overflow_mul-i-then-word_at-eq0-2
-node_collect-overflow_mul-i-then-word_at-eq0-2 t c = omega (arith, c.requires.m_in_bounds, c.well_formed.1.1.1.1.0.0)
+node_collect-overflow_mul-i-then-word_at-eq0-2 t c = omega (arith, c.requires.i_bound, c.well_formed.1.1.1.1.0.0)
 
 pub node_collect-overflow_add-i-then-word_at-eq0 : goal.node_collect-overflow_add-i-then-word_at-eq0
-node_collect-overflow_add-i-then-word_at-eq0 t c = omega (arith, c.requires.m_in_bounds, c.well_formed.1.1.1.1.0.0)
+node_collect-overflow_add-i-then-word_at-eq0 t c = omega (arith, c.requires.i_bound, c.well_formed.1.1.1.1.0.0)
 
 pub node_collect-word_at-right-requires : goal.node_collect-word_at-right-requires
 node_collect-word_at-right-requires t c = omega arith
@@ -75,13 +74,13 @@ node_collect-pair_collect-requires t c =
     let a = s.args in
     let q : inner_at a.nodes.now a.i ≡ true = inner_read _ _ _ w.word_at.ensures.0 h.if-word_at-eq0.true in
     let u = under_halves a.nodes.now a.order.now a.levels a.i _ _ e.if-levels-eq0.false q w2.word_at-left.ensures.0 w3.word_at-right.ensures.0 in
-    let f = s.requires.i_bound in (
-      subst (λ (m : ℕ). 2 * (a.levels - 1) + 1 < m) s.requires.tree_fits (halves_less _ e.if-levels-eq0.false),
+    let f = s.requires.tree_fits in (
+      subst (λ (m : ℕ). 2 * (a.levels - 1) + 1 < m) s.decreases (halves_less _ e.if-levels-eq0.false),
       (
         f,
         (
-          (rw w2.word_at-left.ensures.0 (f.left_fits a.i s.requires.m_in_bounds q), rw w3.word_at-right.ensures.0 (f.right_fits a.i s.requires.m_in_bounds q)),
-          (s.requires.room_for.0, subst (λ (n : ℕ). RoomFor a.kinds.now (a.m + n) (length a.distances.now) (length a.places.now)) (sym u) s.requires.room_for.1),
+          (rw w2.word_at-left.ensures.0 (f.left_fits a.i s.requires.i_bound q), rw w3.word_at-right.ensures.0 (f.right_fits a.i s.requires.i_bound q)),
+          (s.requires.m_in_bounds, subst (λ (n : ℕ). RoomFor a.kinds.now (a.m + n) (length a.distances.now) (length a.places.now)) (sym u) s.requires.room_for),
         ),
       ),
     )
@@ -113,10 +112,10 @@ node_collect-run_collect-requires t c =
     let a = s.args in
     let q : inner_at a.nodes.now a.i ≡ false = leaf_read _ _ _ w.word_at.ensures.0 o.if-word_at-eq0.false in
     let u = under_leaf a.nodes.now a.order.now a.levels a.i e.if-levels-eq0.false q in record {
-      tree_fits = s.requires.i_bound;
-      i_bound = (s.requires.m_in_bounds, q);
-      held_in_bounds = (s.requires.room_for.0, subst (λ (n : ℕ). RoomFor a.kinds.now (a.m + n) (length a.distances.now) (length a.places.now)) (sym u) s.requires.room_for.1);
-      room_for = ;
+      tree_fits = s.requires.tree_fits;
+      i_bound = (s.requires.i_bound, q);
+      held_in_bounds = s.requires.m_in_bounds;
+      room_for = subst (λ (n : ℕ). RoomFor a.kinds.now (a.m + n) (length a.distances.now) (length a.places.now)) (sym u) s.requires.room_for;
     }
 
 pub node_collect-returns : goal.node_collect-returns
@@ -138,9 +137,9 @@ node_collect-returns t c =
 pub pair_collect-node_collect-met-requires : goal.pair_collect-node_collect-met-requires
 pair_collect-node_collect-met-requires t c =
     let s = c in
-    let p = s.requires.left_bound in
-    let room = p.1.1.1 in
-    (subst (λ (m : ℕ). 2 * s.args.levels < m) s.requires.tree_fits (omega arith), (p.0, (p.1.0.0, (p.1.1.0, λ o. (omega (arith, (room o).0), omega (arith, (room o).1))))))
+    let p = s.requires in
+    let room = p.room_for in
+    (subst (λ (m : ℕ). 2 * s.args.levels < m) s.decreases (omega arith), (p.tree_fits, (p.left_bound.0, (p.m_in_bounds, λ o. (omega (arith, (room o).0), omega (arith, (room o).1))))))
 
 pub pair_collect-node_collect-requires : goal.pair_collect-node_collect-requires
 pair_collect-node_collect-requires t c =
@@ -149,10 +148,10 @@ pair_collect-node_collect-requires t c =
     let k = rw c.in-Hits.is at g.ensures.1 in
     let d = g.auto.distances in
     let e = g.auto.places in
-    let p = s.requires.left_bound in
-    let room = p.1.1.1 in (
-      subst (λ (m : ℕ). 2 * s.args.levels < m) s.requires.tree_fits (omega arith),
-      (p.0, (p.1.0.1, ((omega (arith, k.1, d), omega (arith, k.2, e)), λ o. (omega (arith, (room o).0, k.0, d), omega (arith, (room o).1, k.0, e))))),
+    let p = s.requires in
+    let room = p.room_for in (
+      subst (λ (m : ℕ). 2 * s.args.levels < m) s.decreases (omega arith),
+      (p.tree_fits, (p.left_bound.1, ((omega (arith, k.1, d), omega (arith, k.2, e)), λ o. (omega (arith, (room o).0, k.0, d), omega (arith, (room o).1, k.0, e))))),
     )
 
 pub pair_collect-returns-in-Dark : goal.pair_collect-returns-in-Dark

@@ -1,4 +1,4 @@
-use Rattle.std.proofs.Common.{length, ◌+◌, ◌-◌, ◌*◌}
+use Rattle.std.proofs.Common.{◌+◌, ◌*◌}
 use Rattle.tree_walk.proofs.inner.+node_collect_pair_collect.Given as goal
 
 abbrev pub decreases-node_collect : goal.decreases-node_collect

@@ -15,7 +15,7 @@ pub node_visit-returns-then-levels-eq0 : goal.node_visit-returns-then-levels-eq0
 node_visit-returns-then-levels-eq0 t c = no_levels _ _ _ _ _ _ _ _ c.if-levels-eq0.true
 
 pub node_visit-bounds_at-b-requires : goal.node_visit-bounds_at-b-requires
-node_visit-bounds_at-b-requires t c = omega (arith, c.requires.i_bound.0.boxes_fit)
+node_visit-bounds_at-b-requires t c = omega (arith, c.requires.tree_fits.boxes_fit)
 
 pub node_visit-passed_over-requires : goal.node_visit-passed_over-requires
 node_visit-passed_over-requires t c = tt
@@ -62,13 +62,13 @@ node_visit-pair_visit-requires t c =
     let s = e in
     let n = s.args.nodes.now in
     let q : inner_at n s.args.i ≡ true = inner_read _ _ _ w.word_at.ensures.0 c.if-word_at-eq0.true in
-    let f = s.requires.i_bound.0 in (
-      subst (λ (m : ℕ). 2 * (s.args.levels - 1) + 1 < m) s.requires.tree_fits (halves_less _ e.if-levels-eq0.false),
+    let f = s.requires.tree_fits in (
+      subst (λ (m : ℕ). 2 * (s.args.levels - 1) + 1 < m) s.decreases (halves_less _ e.if-levels-eq0.false),
       (
         f,
         (
-          rw c.word_at-left.ensures.0 (f.left_fits s.args.i s.requires.i_bound.1 q),
-          rw c.word_at-right.ensures.0 (f.right_fits s.args.i s.requires.i_bound.1 q),
+          rw c.word_at-left.ensures.0 (f.left_fits s.args.i s.requires.i_bound q),
+          rw c.word_at-right.ensures.0 (f.right_fits s.args.i s.requires.i_bound q),
         ),
       ),
     )
@@ -86,8 +86,8 @@ node_visit-returns-then-word_at-eq0 t c =
 pub node_visit-run_visit-requires : goal.node_visit-run_visit-requires
 node_visit-run_visit-requires t c =
     let s = c in record {
-      tree_fits = s.requires.i_bound.0;
-      i_bound = (s.requires.i_bound.1, leaf_read _ _ _ c.word_at.ensures.0 c.if-word_at-eq0.false);
+      tree_fits = s.requires.tree_fits;
+      i_bound = (s.requires.i_bound, leaf_read _ _ _ c.word_at.ensures.0 c.if-word_at-eq0.false);
     }
 
 pub node_visit-returns : goal.node_visit-returns
@@ -103,12 +103,12 @@ node_visit-returns t c =
 pub pair_visit-node_visit-held-requires : goal.pair_visit-node_visit-held-requires
 pair_visit-node_visit-held-requires t c =
     let s = c in
-    (subst (λ (m : ℕ). 2 * s.args.levels < m) s.requires.tree_fits (omega arith), (s.requires.left_bound.0, s.requires.left_bound.1.0))
+    (subst (λ (m : ℕ). 2 * s.args.levels < m) s.decreases (omega arith), (s.requires.tree_fits, s.requires.left_bound.0))
 
 pub pair_visit-node_visit-requires : goal.pair_visit-node_visit-requires
 pair_visit-node_visit-requires t c =
     let s = c in
-    (subst (λ (m : ℕ). 2 * s.args.levels < m) s.requires.tree_fits (omega arith), (s.requires.left_bound.0, s.requires.left_bound.1.1))
+    (subst (λ (m : ℕ). 2 * s.args.levels < m) s.decreases (omega arith), (s.requires.tree_fits, s.requires.left_bound.1))
 
 pub pair_visit-returns : goal.pair_visit-returns
 unfolding pair_visit

@@ -1,4 +1,4 @@
-use Rattle.std.proofs.Common.{length, ◌+◌, ◌-◌, ◌*◌}
+use Rattle.std.proofs.Common.{◌+◌, ◌*◌}
 use Rattle.tree_walk.proofs.inner.+node_visit_pair_visit.Given as goal
 
 abbrev pub decreases-node_visit : goal.decreases-node_visit

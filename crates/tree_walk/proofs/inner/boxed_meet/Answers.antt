@@ -3,7 +3,6 @@ use mathlib.Core.Path.{sym, ◌∙◌}
 use mathlib.Core.Bool.{true}
 use Rattle.panels.specs.Panels.{met_by}
 use Rattle.panels.specs.PanelLaws.{by_missed}
-use borrow.Author.Rules.{rules}
 use Rattle.tree_walk.proofs.inner.boxed_meet.Goals as goal
 
 pub returns-then-own_passed : goal.returns-then-own_passed

@@ -1,6 +1,5 @@
 -- `tree_walk::inner::own_passed` meets its contract: the triangle, its box and the question are the definition's.
 use Rattle.panels.specs.Panels.{own_passed}
-use borrow.Author.Rules.{rules}
 use Rattle.tree_walk.proofs.inner.own_passed.Goals as goal
 
 pub returns : goal.returns

@@ -5,16 +5,15 @@ use Rattle.hits.specs.Hits.{Struck, paired, places_of}
 use Rattle.hits.specs.Merge.{sort_of}
 use Rattle.hits.specs.PairedLaws.{paired_places}
 use Rattle.scan.specs.OpaqueLaws.{clear_pass_of}
-use borrow.Author.Rules.{rules}
 use Rattle.tree_walk.proofs.inner.passing.Goals as goal
 use Rattle.tree_walk.proofs.inner.passing.Goals.{After-in_order}
 
 pub product-requires : goal.product-requires
 product-requires c =
     let sorted_places : let a = c.args in c.in_order.new.places ≡ places_of (sort_of (paired a.distances.now a.places.now)) =
-        let s = c in
-        let o = c.in_order in
-        sym (paired_places o.new.distances o.new.places (o.auto.distances ∙ s.requires.distances_len.0 ∙ sym o.auto.places)) ∙ ap (λ (h : List Struck). places_of h) o.ensures in
+    let s = c in
+    let o = c.in_order in
+    sym (paired_places o.new.distances o.new.places (o.auto.distances ∙ s.requires.distances_len.0 ∙ sym o.auto.places)) ∙ ap (λ (h : List Struck). places_of h) o.ensures in
     let o = c.before.before.before.before.before in
     let s = o in record {
       by_index = s.requires.by_index;
@@ -24,7 +23,7 @@ product-requires c =
 pub returns : goal.returns
 returns c =
     let sorted_places : let a = c.args in c.in_order.new.places ≡ places_of (sort_of (paired a.distances.now a.places.now)) =
-        let s = c in
-        let o = c.in_order in
-        sym (paired_places o.new.distances o.new.places (o.auto.distances ∙ s.requires.distances_len.0 ∙ sym o.auto.places)) ∙ ap (λ (h : List Struck). places_of h) o.ensures in
+    let s = c in
+    let o = c.in_order in
+    sym (paired_places o.new.distances o.new.places (o.auto.distances ∙ s.requires.distances_len.0 ∙ sym o.auto.places)) ∙ ap (λ (h : List Struck). places_of h) o.ensures in
     c.product.ensures ∙ ap (clear_pass_of _ _ _) (sorted_places)

@@ -6,7 +6,6 @@ use lib.ListN.{length}
 use Rattle.tree.specs.Tree.{count_at}
 use Rattle.tree_walk.specs.Kept.{MetWithin, RoomFor}
 use Rattle.tree_walk.proofs.Going.{run_fits_lem, run_visited}
-use borrow.Author.Rules.{rules}
 use Rattle.tree_walk.proofs.inner.run_collect.Goals as goal
 
 pub overflow_mul-i : goal.overflow_mul-i

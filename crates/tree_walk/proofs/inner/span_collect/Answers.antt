@@ -16,7 +16,6 @@ use Rattle.tree_walk.specs.Spans.{span_places}
 use Rattle.tree_walk.specs.Collect.{came, collect_step}
 use Rattle.tree_walk.specs.Kept.{collected_by, MetWithin}
 use Rattle.tree_walk.proofs.Going.{collect_none, collect_clear, collect_dark, dark_stays, clear_other, turned_long, span_missed, span_starts, span_next, span_over, span_ends}
-use borrow.Author.Rules.{rules}
 use Rattle.tree_walk.proofs.inner.span_collect.Goals as goal
 use Rattle.tree_walk.proofs.inner.span_collect.Goals.{After-first_open-j, After-word_at-p, At-loop-k, Else-stops_light}
 
@@ -43,28 +42,28 @@ shape_of-places-then-j-end c = c.loop-k.invariant.3
 pub returns-then-j-end : goal.returns-then-j-end
 returns-then-j-end c =
     let passed_by : let l = c.before.before in
-        let a = l.args in
-        (p : ℕ) → l.loop-k.k ≤ p → p < c.first_open-j.result → boxed_at a.points.now a.uses.now a.kinds.now a.ray (get_or a.order.now p 0) ≡ Miss =
-        let l = c.before.before in
-        let w = l.before in
-        let s = w in
-        span_missed _ _ _ _ _ _ _ s.requires.span_fits _ _ _ l.loop-k.invariant.0 c.first_open-j.ensures.1 c.first_open-j.ensures.2 in
+    let a = l.args in
+    (p : ℕ) → l.loop-k.k ≤ p → p < c.first_open-j.result → boxed_at a.points.now a.uses.now a.kinds.now a.ray (get_or a.order.now p 0) ≡ Miss =
+    let l = c.before.before in
+    let w = l.before in
+    let s = w in
+    span_missed _ _ _ _ _ _ _ s.requires.span_fits _ _ _ l.loop-k.invariant.0 c.first_open-j.ensures.1 c.first_open-j.ensures.2 in
     let held_there : let l = c.before.before in
-        let w = l.before in
-        let a = w.args in
-        collected_by (Hits l.loop-k.m) l.loop-k.distances l.loop-k.places
-        ≡ fold_of (collect_step a.points.now a.uses.now a.kinds.now a.ray) (collected_by (Hits a.held) a.distances.now a.places.now) (span_places a.order.now a.first (c.first_open-j.result - a.first)) =
-        let l = c.before.before in
-        let w = l.before in
-        let s = w in
-        span_over s.args.order.now s.args.first (collect_step s.args.points.now s.args.uses.now s.args.kinds.now s.args.ray) (collected_by (Hits s.args.held) s.args.distances.now s.args.places.now) _ _ _ l.loop-k.invariant.0 c.first_open-j.ensures.0
-        (λ p a b x. collect_none _ _ _ _ _ (passed_by p a b) x) l.loop-k.invariant.7 in
+    let w = l.before in
+    let a = w.args in
+    collected_by (Hits l.loop-k.m) l.loop-k.distances l.loop-k.places
+    ≡ fold_of (collect_step a.points.now a.uses.now a.kinds.now a.ray) (collected_by (Hits a.held) a.distances.now a.places.now) (span_places a.order.now a.first (c.first_open-j.result - a.first)) =
+    let l = c.before.before in
+    let w = l.before in
+    let s = w in
+    span_over s.args.order.now s.args.first (collect_step s.args.points.now s.args.uses.now s.args.kinds.now s.args.ray) (collected_by (Hits s.args.held) s.args.distances.now s.args.places.now) _ _ _ l.loop-k.invariant.0 c.first_open-j.ensures.0
+    (λ p a b x. collect_none _ _ _ _ _ (passed_by p a b) x) l.loop-k.invariant.7 in
     let most : let w = c in
-        let a = w.args in
-        c.loop-k.k ≤ a.first + a.count → MetWithin (Hits c.loop-k.m) (a.held + a.count) (length a.distances.now) (length a.places.now) =
-        let w = c in
-        let i = c.loop-k.invariant in
-        (omega (arith, i.4), omega (arith, i.2, i.5), omega (arith, i.3, i.6)) in
+    let a = w.args in
+    c.loop-k.k ≤ a.first + a.count → MetWithin (Hits c.loop-k.m) (a.held + a.count) (length a.distances.now) (length a.places.now) =
+    λ h. let w = c in
+    let i = c.loop-k.invariant in
+    (omega (arith, i.4), omega (arith, i.2, i.5), omega (arith, i.3, i.6)) in
     let l = c.before.before.before in
     let w = l.before in
     let s = w in
@@ -79,9 +78,9 @@ word_at-p-requires c =
 pub boxed_meet-h-requires : goal.boxed_meet-h-requires
 boxed_meet-h-requires c =
     let within : c.word_at-p.result < length c.args.uses.now =
-        let w = c.before.before.before.before.before in
-        let s = w in
-        rw c.word_at-p.ensures.0 (s.requires.span_fits.place_fits _ (omega arith) (omega arith)) in
+    let w = c.before.before.before.before.before in
+    let s = w in
+    rw c.word_at-p.ensures.0 (s.requires.span_fits.place_fits _ (omega arith) (omega arith)) in
     let w = c.before.before.before.before.before in
     let s = w in
     let d = within in
@@ -96,22 +95,22 @@ loop-k-smaller-in-Miss c = omega arith
 pub loop-k-preserved-in-Miss : goal.loop-k-preserved-in-Miss
 loop-k-preserved-in-Miss c =
     let passed_by : let l = c.before.before in
-        let a = l.args in
-        (p : ℕ) → l.loop-k.k ≤ p → p < c.first_open-j.result → boxed_at a.points.now a.uses.now a.kinds.now a.ray (get_or a.order.now p 0) ≡ Miss =
-        let l = c.before.before in
-        let w = l.before in
-        let s = w in
-        span_missed _ _ _ _ _ _ _ s.requires.span_fits _ _ _ l.loop-k.invariant.0 c.first_open-j.ensures.1 c.first_open-j.ensures.2 in
+    let a = l.args in
+    (p : ℕ) → l.loop-k.k ≤ p → p < c.first_open-j.result → boxed_at a.points.now a.uses.now a.kinds.now a.ray (get_or a.order.now p 0) ≡ Miss =
+    let l = c.before.before in
+    let w = l.before in
+    let s = w in
+    span_missed _ _ _ _ _ _ _ s.requires.span_fits _ _ _ l.loop-k.invariant.0 c.first_open-j.ensures.1 c.first_open-j.ensures.2 in
     let held_there : let l = c.before.before in
-        let w = l.before in
-        let a = w.args in
-        collected_by (Hits l.loop-k.m) l.loop-k.distances l.loop-k.places
-        ≡ fold_of (collect_step a.points.now a.uses.now a.kinds.now a.ray) (collected_by (Hits a.held) a.distances.now a.places.now) (span_places a.order.now a.first (c.first_open-j.result - a.first)) =
-        let l = c.before.before in
-        let w = l.before in
-        let s = w in
-        span_over s.args.order.now s.args.first (collect_step s.args.points.now s.args.uses.now s.args.kinds.now s.args.ray) (collected_by (Hits s.args.held) s.args.distances.now s.args.places.now) _ _ _ l.loop-k.invariant.0 c.first_open-j.ensures.0
-        (λ p a b x. collect_none _ _ _ _ _ (passed_by p a b) x) l.loop-k.invariant.7 in
+    let w = l.before in
+    let a = w.args in
+    collected_by (Hits l.loop-k.m) l.loop-k.distances l.loop-k.places
+    ≡ fold_of (collect_step a.points.now a.uses.now a.kinds.now a.ray) (collected_by (Hits a.held) a.distances.now a.places.now) (span_places a.order.now a.first (c.first_open-j.result - a.first)) =
+    let l = c.before.before in
+    let w = l.before in
+    let s = w in
+    span_over s.args.order.now s.args.first (collect_step s.args.points.now s.args.uses.now s.args.kinds.now s.args.ray) (collected_by (Hits s.args.held) s.args.distances.now s.args.places.now) _ _ _ l.loop-k.invariant.0 c.first_open-j.ensures.0
+    (λ p a b x. collect_none _ _ _ _ _ (passed_by p a b) x) l.loop-k.invariant.7 in
     let m = c.before in
     let f = m.before.before.before in
     let l = f.before.before in
@@ -131,9 +130,9 @@ loop-k-preserved-in-Miss c =
 pub kind_at-requires : goal.kind_at-requires
 kind_at-requires c =
     let within : c.word_at-p.result < length c.args.uses.now =
-        let w = c.before.before.before.before.before in
-        let s = w in
-        rw c.word_at-p.ensures.0 (s.requires.span_fits.place_fits _ (omega arith) (omega arith)) in
+    let w = c.before.before.before.before.before in
+    let s = w in
+    rw c.word_at-p.ensures.0 (s.requires.span_fits.place_fits _ (omega arith) (omega arith)) in
     let w = c.before.before in
     let s = w in
     let d = within in
@@ -148,22 +147,22 @@ shape_of-places-then-stops_light c = c.loop-k.invariant.3
 pub returns-then-stops_light : goal.returns-then-stops_light
 returns-then-stops_light c =
     let passed_by : let l = c.before.before in
-        let a = l.args in
-        (p : ℕ) → l.loop-k.k ≤ p → p < c.first_open-j.result → boxed_at a.points.now a.uses.now a.kinds.now a.ray (get_or a.order.now p 0) ≡ Miss =
-        let l = c.before.before in
-        let w = l.before in
-        let s = w in
-        span_missed _ _ _ _ _ _ _ s.requires.span_fits _ _ _ l.loop-k.invariant.0 c.first_open-j.ensures.1 c.first_open-j.ensures.2 in
+    let a = l.args in
+    (p : ℕ) → l.loop-k.k ≤ p → p < c.first_open-j.result → boxed_at a.points.now a.uses.now a.kinds.now a.ray (get_or a.order.now p 0) ≡ Miss =
+    let l = c.before.before in
+    let w = l.before in
+    let s = w in
+    span_missed _ _ _ _ _ _ _ s.requires.span_fits _ _ _ l.loop-k.invariant.0 c.first_open-j.ensures.1 c.first_open-j.ensures.2 in
     let held_there : let l = c.before.before in
-        let w = l.before in
-        let a = w.args in
-        collected_by (Hits l.loop-k.m) l.loop-k.distances l.loop-k.places
-        ≡ fold_of (collect_step a.points.now a.uses.now a.kinds.now a.ray) (collected_by (Hits a.held) a.distances.now a.places.now) (span_places a.order.now a.first (c.first_open-j.result - a.first)) =
-        let l = c.before.before in
-        let w = l.before in
-        let s = w in
-        span_over s.args.order.now s.args.first (collect_step s.args.points.now s.args.uses.now s.args.kinds.now s.args.ray) (collected_by (Hits s.args.held) s.args.distances.now s.args.places.now) _ _ _ l.loop-k.invariant.0 c.first_open-j.ensures.0
-        (λ p a b x. collect_none _ _ _ _ _ (passed_by p a b) x) l.loop-k.invariant.7 in
+    let w = l.before in
+    let a = w.args in
+    collected_by (Hits l.loop-k.m) l.loop-k.distances l.loop-k.places
+    ≡ fold_of (collect_step a.points.now a.uses.now a.kinds.now a.ray) (collected_by (Hits a.held) a.distances.now a.places.now) (span_places a.order.now a.first (c.first_open-j.result - a.first)) =
+    let l = c.before.before in
+    let w = l.before in
+    let s = w in
+    span_over s.args.order.now s.args.first (collect_step s.args.points.now s.args.uses.now s.args.kinds.now s.args.ray) (collected_by (Hits s.args.held) s.args.distances.now s.args.places.now) _ _ _ l.loop-k.invariant.0 c.first_open-j.ensures.0
+    (λ p a b x. collect_none _ _ _ _ _ (passed_by p a b) x) l.loop-k.invariant.7 in
     let m = c.before.before.before.before in
     let f = m.before.before.before in
     let w = f.before.before.before in
@@ -180,101 +179,101 @@ returns-then-stops_light c =
 pub offset_bounds-distances-m : goal.offset_bounds-distances-m
 offset_bounds-distances-m c =
     let within : c.word_at-p.result < length c.args.uses.now =
-        let w = c.before.before.before.before.before in
-        let s = w in
-        rw c.word_at-p.ensures.0 (s.requires.span_fits.place_fits _ (omega arith) (omega arith)) in
+    let w = c.before.before.before.before.before in
+    let s = w in
+    rw c.word_at-p.ensures.0 (s.requires.span_fits.place_fits _ (omega arith) (omega arith)) in
     let clear_hit : let p = c in
-        let a = p.args in
-        stops_light (kind_at a.uses.now a.kinds.now p.word_at-p.result) ≡ false =
-        rw c.kind_at.ensures at (sym c.stops_light.ensures ∙ c.if-stops_light.false) in
+    let a = p.args in
+    stops_light (kind_at a.uses.now a.kinds.now p.word_at-p.result) ≡ false =
+    rw c.kind_at.ensures at (sym c.stops_light.ensures ∙ c.if-stops_light.false) in
     let more_room : let at = c.loop-k in
-        (at.m < length at.distances) × (at.m < length at.places) =
-        let p = c.before.before.before.before.before in
-        let l = p.before.before.before.before in
-        let w = l.before in
-        let s = w in
-        let room = s.requires.room_for (clear_other s.args.uses.now s.args.kinds.now p.word_at-p.result (s.requires.span_fits.use_fits _ (within)) (clear_hit)) in
-        (omega (arith, room.0, l.loop-k.invariant.2, l.loop-k.invariant.4), omega (arith, room.1, l.loop-k.invariant.3, l.loop-k.invariant.4)) in
+    (at.m < length at.distances) × (at.m < length at.places) =
+    let p = c.before.before.before.before.before in
+    let l = p.before.before.before.before in
+    let w = l.before in
+    let s = w in
+    let room = s.requires.room_for (clear_other s.args.uses.now s.args.kinds.now p.word_at-p.result (s.requires.span_fits.use_fits _ (within)) (clear_hit)) in
+    (omega (arith, room.0, l.loop-k.invariant.2, l.loop-k.invariant.4), omega (arith, room.1, l.loop-k.invariant.3, l.loop-k.invariant.4)) in
     omega (arith, (more_room).0, c.loop-k.invariant.2, c.well_formed.1.1.1.1.1.1.1.1.1.0.1)
 
 pub bounds-distances-m : goal.bounds-distances-m
 bounds-distances-m c =
     let within : c.word_at-p.result < length c.args.uses.now =
-        let w = c.before.before.before.before.before in
-        let s = w in
-        rw c.word_at-p.ensures.0 (s.requires.span_fits.place_fits _ (omega arith) (omega arith)) in
+    let w = c.before.before.before.before.before in
+    let s = w in
+    rw c.word_at-p.ensures.0 (s.requires.span_fits.place_fits _ (omega arith) (omega arith)) in
     let clear_hit : let p = c in
-        let a = p.args in
-        stops_light (kind_at a.uses.now a.kinds.now p.word_at-p.result) ≡ false =
-        rw c.kind_at.ensures at (sym c.stops_light.ensures ∙ c.if-stops_light.false) in
+    let a = p.args in
+    stops_light (kind_at a.uses.now a.kinds.now p.word_at-p.result) ≡ false =
+    rw c.kind_at.ensures at (sym c.stops_light.ensures ∙ c.if-stops_light.false) in
     let more_room : let at = c.loop-k in
-        (at.m < length at.distances) × (at.m < length at.places) =
-        let p = c.before.before.before.before.before in
-        let l = p.before.before.before.before in
-        let w = l.before in
-        let s = w in
-        let room = s.requires.room_for (clear_other s.args.uses.now s.args.kinds.now p.word_at-p.result (s.requires.span_fits.use_fits _ (within)) (clear_hit)) in
-        (omega (arith, room.0, l.loop-k.invariant.2, l.loop-k.invariant.4), omega (arith, room.1, l.loop-k.invariant.3, l.loop-k.invariant.4)) in
+    (at.m < length at.distances) × (at.m < length at.places) =
+    let p = c.before.before.before.before.before in
+    let l = p.before.before.before.before in
+    let w = l.before in
+    let s = w in
+    let room = s.requires.room_for (clear_other s.args.uses.now s.args.kinds.now p.word_at-p.result (s.requires.span_fits.use_fits _ (within)) (clear_hit)) in
+    (omega (arith, room.0, l.loop-k.invariant.2, l.loop-k.invariant.4), omega (arith, room.1, l.loop-k.invariant.3, l.loop-k.invariant.4)) in
     (more_room).0
 
 pub offset_bounds-places-m : goal.offset_bounds-places-m
 offset_bounds-places-m c =
     let within : c.word_at-p.result < length c.args.uses.now =
-        let w = c.before.before.before.before.before in
-        let s = w in
-        rw c.word_at-p.ensures.0 (s.requires.span_fits.place_fits _ (omega arith) (omega arith)) in
+    let w = c.before.before.before.before.before in
+    let s = w in
+    rw c.word_at-p.ensures.0 (s.requires.span_fits.place_fits _ (omega arith) (omega arith)) in
     let clear_hit : let p = c in
-        let a = p.args in
-        stops_light (kind_at a.uses.now a.kinds.now p.word_at-p.result) ≡ false =
-        rw c.kind_at.ensures at (sym c.stops_light.ensures ∙ c.if-stops_light.false) in
+    let a = p.args in
+    stops_light (kind_at a.uses.now a.kinds.now p.word_at-p.result) ≡ false =
+    rw c.kind_at.ensures at (sym c.stops_light.ensures ∙ c.if-stops_light.false) in
     let more_room : let at = c.loop-k in
-        (at.m < length at.distances) × (at.m < length at.places) =
-        let p = c.before.before.before.before.before in
-        let l = p.before.before.before.before in
-        let w = l.before in
-        let s = w in
-        let room = s.requires.room_for (clear_other s.args.uses.now s.args.kinds.now p.word_at-p.result (s.requires.span_fits.use_fits _ (within)) (clear_hit)) in
-        (omega (arith, room.0, l.loop-k.invariant.2, l.loop-k.invariant.4), omega (arith, room.1, l.loop-k.invariant.3, l.loop-k.invariant.4)) in
+    (at.m < length at.distances) × (at.m < length at.places) =
+    let p = c.before.before.before.before.before in
+    let l = p.before.before.before.before in
+    let w = l.before in
+    let s = w in
+    let room = s.requires.room_for (clear_other s.args.uses.now s.args.kinds.now p.word_at-p.result (s.requires.span_fits.use_fits _ (within)) (clear_hit)) in
+    (omega (arith, room.0, l.loop-k.invariant.2, l.loop-k.invariant.4), omega (arith, room.1, l.loop-k.invariant.3, l.loop-k.invariant.4)) in
     omega (arith, (more_room).1, c.loop-k.invariant.3, c.well_formed.1.1.1.1.1.1.1.1.1.1.0.1)
 
 pub bounds-places-m : goal.bounds-places-m
 bounds-places-m c =
     let within : c.word_at-p.result < length c.args.uses.now =
-        let w = c.before.before.before.before.before in
-        let s = w in
-        rw c.word_at-p.ensures.0 (s.requires.span_fits.place_fits _ (omega arith) (omega arith)) in
+    let w = c.before.before.before.before.before in
+    let s = w in
+    rw c.word_at-p.ensures.0 (s.requires.span_fits.place_fits _ (omega arith) (omega arith)) in
     let clear_hit : let p = c in
-        let a = p.args in
-        stops_light (kind_at a.uses.now a.kinds.now p.word_at-p.result) ≡ false =
-        rw c.kind_at.ensures at (sym c.stops_light.ensures ∙ c.if-stops_light.false) in
+    let a = p.args in
+    stops_light (kind_at a.uses.now a.kinds.now p.word_at-p.result) ≡ false =
+    rw c.kind_at.ensures at (sym c.stops_light.ensures ∙ c.if-stops_light.false) in
     let more_room : let at = c.loop-k in
-        (at.m < length at.distances) × (at.m < length at.places) =
-        let p = c.before.before.before.before.before in
-        let l = p.before.before.before.before in
-        let w = l.before in
-        let s = w in
-        let room = s.requires.room_for (clear_other s.args.uses.now s.args.kinds.now p.word_at-p.result (s.requires.span_fits.use_fits _ (within)) (clear_hit)) in
-        (omega (arith, room.0, l.loop-k.invariant.2, l.loop-k.invariant.4), omega (arith, room.1, l.loop-k.invariant.3, l.loop-k.invariant.4)) in
+    (at.m < length at.distances) × (at.m < length at.places) =
+    let p = c.before.before.before.before.before in
+    let l = p.before.before.before.before in
+    let w = l.before in
+    let s = w in
+    let room = s.requires.room_for (clear_other s.args.uses.now s.args.kinds.now p.word_at-p.result (s.requires.span_fits.use_fits _ (within)) (clear_hit)) in
+    (omega (arith, room.0, l.loop-k.invariant.2, l.loop-k.invariant.4), omega (arith, room.1, l.loop-k.invariant.3, l.loop-k.invariant.4)) in
     (more_room).1
 
 pub overflow_add-m : goal.overflow_add-m
 overflow_add-m c =
     let within : c.word_at-p.result < length c.args.uses.now =
-        let w = c.before.before.before.before.before in
-        let s = w in
-        rw c.word_at-p.ensures.0 (s.requires.span_fits.place_fits _ (omega arith) (omega arith)) in
+    let w = c.before.before.before.before.before in
+    let s = w in
+    rw c.word_at-p.ensures.0 (s.requires.span_fits.place_fits _ (omega arith) (omega arith)) in
     let clear_hit : let p = c in
-        let a = p.args in
-        stops_light (kind_at a.uses.now a.kinds.now p.word_at-p.result) ≡ false =
-        rw c.kind_at.ensures at (sym c.stops_light.ensures ∙ c.if-stops_light.false) in
+    let a = p.args in
+    stops_light (kind_at a.uses.now a.kinds.now p.word_at-p.result) ≡ false =
+    rw c.kind_at.ensures at (sym c.stops_light.ensures ∙ c.if-stops_light.false) in
     let more_room : let at = c.loop-k in
-        (at.m < length at.distances) × (at.m < length at.places) =
-        let p = c.before.before.before.before.before in
-        let l = p.before.before.before.before in
-        let w = l.before in
-        let s = w in
-        let room = s.requires.room_for (clear_other s.args.uses.now s.args.kinds.now p.word_at-p.result (s.requires.span_fits.use_fits _ (within)) (clear_hit)) in
-        (omega (arith, room.0, l.loop-k.invariant.2, l.loop-k.invariant.4), omega (arith, room.1, l.loop-k.invariant.3, l.loop-k.invariant.4)) in
+    (at.m < length at.distances) × (at.m < length at.places) =
+    let p = c.before.before.before.before.before in
+    let l = p.before.before.before.before in
+    let w = l.before in
+    let s = w in
+    let room = s.requires.room_for (clear_other s.args.uses.now s.args.kinds.now p.word_at-p.result (s.requires.span_fits.use_fits _ (within)) (clear_hit)) in
+    (omega (arith, room.0, l.loop-k.invariant.2, l.loop-k.invariant.4), omega (arith, room.1, l.loop-k.invariant.3, l.loop-k.invariant.4)) in
     omega (arith, (more_room).0, c.loop-k.invariant.2, c.well_formed.1.1.1.1.1.1.1.1.1.0.0)
 
 pub loop-k-smaller : goal.loop-k-smaller
@@ -283,38 +282,38 @@ loop-k-smaller c = omega arith
 pub loop-k-preserved : goal.loop-k-preserved
 loop-k-preserved c =
     let passed_by : let l = c.before.before in
-        let a = l.args in
-        (p : ℕ) → l.loop-k.k ≤ p → p < c.first_open-j.result → boxed_at a.points.now a.uses.now a.kinds.now a.ray (get_or a.order.now p 0) ≡ Miss =
-        let l = c.before.before in
-        let w = l.before in
-        let s = w in
-        span_missed _ _ _ _ _ _ _ s.requires.span_fits _ _ _ l.loop-k.invariant.0 c.first_open-j.ensures.1 c.first_open-j.ensures.2 in
+    let a = l.args in
+    (p : ℕ) → l.loop-k.k ≤ p → p < c.first_open-j.result → boxed_at a.points.now a.uses.now a.kinds.now a.ray (get_or a.order.now p 0) ≡ Miss =
+    let l = c.before.before in
+    let w = l.before in
+    let s = w in
+    span_missed _ _ _ _ _ _ _ s.requires.span_fits _ _ _ l.loop-k.invariant.0 c.first_open-j.ensures.1 c.first_open-j.ensures.2 in
     let held_there : let l = c.before.before in
-        let w = l.before in
-        let a = w.args in
-        collected_by (Hits l.loop-k.m) l.loop-k.distances l.loop-k.places
-        ≡ fold_of (collect_step a.points.now a.uses.now a.kinds.now a.ray) (collected_by (Hits a.held) a.distances.now a.places.now) (span_places a.order.now a.first (c.first_open-j.result - a.first)) =
-        let l = c.before.before in
-        let w = l.before in
-        let s = w in
-        span_over s.args.order.now s.args.first (collect_step s.args.points.now s.args.uses.now s.args.kinds.now s.args.ray) (collected_by (Hits s.args.held) s.args.distances.now s.args.places.now) _ _ _ l.loop-k.invariant.0 c.first_open-j.ensures.0
-        (λ p a b x. collect_none _ _ _ _ _ (passed_by p a b) x) l.loop-k.invariant.7 in
+    let w = l.before in
+    let a = w.args in
+    collected_by (Hits l.loop-k.m) l.loop-k.distances l.loop-k.places
+    ≡ fold_of (collect_step a.points.now a.uses.now a.kinds.now a.ray) (collected_by (Hits a.held) a.distances.now a.places.now) (span_places a.order.now a.first (c.first_open-j.result - a.first)) =
+    let l = c.before.before in
+    let w = l.before in
+    let s = w in
+    span_over s.args.order.now s.args.first (collect_step s.args.points.now s.args.uses.now s.args.kinds.now s.args.ray) (collected_by (Hits s.args.held) s.args.distances.now s.args.places.now) _ _ _ l.loop-k.invariant.0 c.first_open-j.ensures.0
+    (λ p a b x. collect_none _ _ _ _ _ (passed_by p a b) x) l.loop-k.invariant.7 in
     let clear_hit : let p = c in
-        let a = p.args in
-        stops_light (kind_at a.uses.now a.kinds.now p.word_at-p.result) ≡ false =
-        rw c.kind_at.ensures at (sym c.stops_light.ensures ∙ c.if-stops_light.false) in
+    let a = p.args in
+    stops_light (kind_at a.uses.now a.kinds.now p.word_at-p.result) ≡ false =
+    rw c.kind_at.ensures at (sym c.stops_light.ensures ∙ c.if-stops_light.false) in
     let within : c.word_at-p.result < length c.args.uses.now =
-        let w = c.before.before.before.before.before in
-        let s = w in
-        rw c.word_at-p.ensures.0 (s.requires.span_fits.place_fits _ (omega arith) (omega arith)) in
+    let w = c.before.before.before.before.before in
+    let s = w in
+    rw c.word_at-p.ensures.0 (s.requires.span_fits.place_fits _ (omega arith) (omega arith)) in
     let more_room : let at = c.loop-k in
-        (at.m < length at.distances) × (at.m < length at.places) =
-        let p = c.before.before.before.before.before in
-        let l = p.before.before.before.before in
-        let w = l.before in
-        let s = w in
-        let room = s.requires.room_for (clear_other s.args.uses.now s.args.kinds.now p.word_at-p.result (s.requires.span_fits.use_fits _ (within)) (clear_hit)) in
-        (omega (arith, room.0, l.loop-k.invariant.2, l.loop-k.invariant.4), omega (arith, room.1, l.loop-k.invariant.3, l.loop-k.invariant.4)) in
+    (at.m < length at.distances) × (at.m < length at.places) =
+    let p = c.before.before.before.before.before in
+    let l = p.before.before.before.before in
+    let w = l.before in
+    let s = w in
+    let room = s.requires.room_for (clear_other s.args.uses.now s.args.kinds.now p.word_at-p.result (s.requires.span_fits.use_fits _ (within)) (clear_hit)) in
+    (omega (arith, room.0, l.loop-k.invariant.2, l.loop-k.invariant.4), omega (arith, room.1, l.loop-k.invariant.3, l.loop-k.invariant.4)) in
     let m = c.before.before.before.before in
     let f = m.before.before.before in
     let l = f.before.before in
@@ -342,11 +341,11 @@ shape_of-places c = c.loop-k.invariant.3
 pub returns : goal.returns
 returns c =
     let most : let w = c in
-        let a = w.args in
-        c.loop-k.k ≤ a.first + a.count → MetWithin (Hits c.loop-k.m) (a.held + a.count) (length a.distances.now) (length a.places.now) =
-        let w = c in
-        let i = c.loop-k.invariant in
-        (omega (arith, i.4), omega (arith, i.2, i.5), omega (arith, i.3, i.6)) in
+    let a = w.args in
+    c.loop-k.k ≤ a.first + a.count → MetWithin (Hits c.loop-k.m) (a.held + a.count) (length a.distances.now) (length a.places.now) =
+    λ h. let w = c in
+    let i = c.loop-k.invariant in
+    (omega (arith, i.4), omega (arith, i.2, i.5), omega (arith, i.3, i.6)) in
     let l = c.before in
     let w = l.before in
     let s = w in

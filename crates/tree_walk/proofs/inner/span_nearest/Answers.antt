@@ -9,7 +9,6 @@ use Rattle.tree_walk.specs.Boxed.{boxed_at, nearest_step}
 use Rattle.tree_walk.specs.FoldLaws.{fold_of}
 use Rattle.tree_walk.specs.Spans.{span_places}
 use Rattle.tree_walk.proofs.Going.{nearest_none, turned_long, span_missed, span_starts, span_next, span_over, span_ends}
-use borrow.Author.Rules.{rules}
 use Rattle.tree_walk.proofs.inner.span_nearest.Goals as goal
 use Rattle.tree_walk.proofs.inner.span_nearest.Goals.{After-first_open-j}
 
@@ -29,17 +28,17 @@ first_open-j-requires c =
 pub returns-then-j-end : goal.returns-then-j-end
 returns-then-j-end c =
     let passed_by : let l = c.before.before in
-        let a = l.args in
-        (p : ℕ) → l.loop-k.k ≤ p → p < c.first_open-j.result → boxed_at a.points.now a.uses.now a.kinds.now a.ray (get_or a.order.now p 0) ≡ Miss =
-        let l = c.before.before in
-        let s = l in
-        span_missed _ _ _ _ _ _ _ s.requires _ _ _ l.loop-k.invariant.0 c.first_open-j.ensures.1 c.first_open-j.ensures.2 in
+    let a = l.args in
+    (p : ℕ) → l.loop-k.k ≤ p → p < c.first_open-j.result → boxed_at a.points.now a.uses.now a.kinds.now a.ray (get_or a.order.now p 0) ≡ Miss =
+    let l = c.before.before in
+    let s = l in
+    span_missed _ _ _ _ _ _ _ s.requires _ _ _ l.loop-k.invariant.0 c.first_open-j.ensures.1 c.first_open-j.ensures.2 in
     let held_there : let l = c in
-        let a = l.args in
-        l.loop-k.held ≡ fold_of (nearest_step a.points.now a.uses.now a.kinds.now a.ray) a.best (span_places a.order.now a.first (c.first_open-j.result - a.first)) =
-        let l = c in
-        let a = l.args in
-        span_over a.order.now a.first (nearest_step a.points.now a.uses.now a.kinds.now a.ray) a.best _ _ _ l.loop-k.invariant.0 c.first_open-j.ensures.0 (λ p a b x. nearest_none _ _ _ _ _ (passed_by p a b) x) l.loop-k.invariant.2 in
+    let a = l.args in
+    l.loop-k.held ≡ fold_of (nearest_step a.points.now a.uses.now a.kinds.now a.ray) a.best (span_places a.order.now a.first (c.first_open-j.result - a.first)) =
+    let l = c in
+    let a = l.args in
+    span_over a.order.now a.first (nearest_step a.points.now a.uses.now a.kinds.now a.ray) a.best _ _ _ l.loop-k.invariant.0 c.first_open-j.ensures.0 (λ p a b x. nearest_none _ _ _ _ _ (passed_by p a b) x) l.loop-k.invariant.2 in
     let a = c.args in
     span_ends a.order.now a.first (nearest_step a.points.now a.uses.now a.kinds.now a.ray) a.best _ _ _ c.if-j-end.true (held_there)
 
@@ -63,17 +62,17 @@ loop-k-smaller-in-Miss c = omega arith
 pub loop-k-preserved-in-Miss : goal.loop-k-preserved-in-Miss
 loop-k-preserved-in-Miss c =
     let passed_by : let l = c.before.before in
-        let a = l.args in
-        (p : ℕ) → l.loop-k.k ≤ p → p < c.first_open-j.result → boxed_at a.points.now a.uses.now a.kinds.now a.ray (get_or a.order.now p 0) ≡ Miss =
-        let l = c.before.before in
-        let s = l in
-        span_missed _ _ _ _ _ _ _ s.requires _ _ _ l.loop-k.invariant.0 c.first_open-j.ensures.1 c.first_open-j.ensures.2 in
+    let a = l.args in
+    (p : ℕ) → l.loop-k.k ≤ p → p < c.first_open-j.result → boxed_at a.points.now a.uses.now a.kinds.now a.ray (get_or a.order.now p 0) ≡ Miss =
+    let l = c.before.before in
+    let s = l in
+    span_missed _ _ _ _ _ _ _ s.requires _ _ _ l.loop-k.invariant.0 c.first_open-j.ensures.1 c.first_open-j.ensures.2 in
     let held_there : let l = c in
-        let a = l.args in
-        l.loop-k.held ≡ fold_of (nearest_step a.points.now a.uses.now a.kinds.now a.ray) a.best (span_places a.order.now a.first (c.first_open-j.result - a.first)) =
-        let l = c in
-        let a = l.args in
-        span_over a.order.now a.first (nearest_step a.points.now a.uses.now a.kinds.now a.ray) a.best _ _ _ l.loop-k.invariant.0 c.first_open-j.ensures.0 (λ p a b x. nearest_none _ _ _ _ _ (passed_by p a b) x) l.loop-k.invariant.2 in
+    let a = l.args in
+    l.loop-k.held ≡ fold_of (nearest_step a.points.now a.uses.now a.kinds.now a.ray) a.best (span_places a.order.now a.first (c.first_open-j.result - a.first)) =
+    let l = c in
+    let a = l.args in
+    span_over a.order.now a.first (nearest_step a.points.now a.uses.now a.kinds.now a.ray) a.best _ _ _ l.loop-k.invariant.0 c.first_open-j.ensures.0 (λ p a b x. nearest_none _ _ _ _ _ (passed_by p a b) x) l.loop-k.invariant.2 in
     let m = c.before in
     let f = m.before.before.before in
     let a = f.args in (
@@ -89,17 +88,17 @@ loop-k-smaller c = omega arith
 pub loop-k-preserved : goal.loop-k-preserved
 loop-k-preserved c =
     let passed_by : let l = c.before.before in
-        let a = l.args in
-        (p : ℕ) → l.loop-k.k ≤ p → p < c.first_open-j.result → boxed_at a.points.now a.uses.now a.kinds.now a.ray (get_or a.order.now p 0) ≡ Miss =
-        let l = c.before.before in
-        let s = l in
-        span_missed _ _ _ _ _ _ _ s.requires _ _ _ l.loop-k.invariant.0 c.first_open-j.ensures.1 c.first_open-j.ensures.2 in
+    let a = l.args in
+    (p : ℕ) → l.loop-k.k ≤ p → p < c.first_open-j.result → boxed_at a.points.now a.uses.now a.kinds.now a.ray (get_or a.order.now p 0) ≡ Miss =
+    let l = c.before.before in
+    let s = l in
+    span_missed _ _ _ _ _ _ _ s.requires _ _ _ l.loop-k.invariant.0 c.first_open-j.ensures.1 c.first_open-j.ensures.2 in
     let held_there : let l = c in
-        let a = l.args in
-        l.loop-k.held ≡ fold_of (nearest_step a.points.now a.uses.now a.kinds.now a.ray) a.best (span_places a.order.now a.first (c.first_open-j.result - a.first)) =
-        let l = c in
-        let a = l.args in
-        span_over a.order.now a.first (nearest_step a.points.now a.uses.now a.kinds.now a.ray) a.best _ _ _ l.loop-k.invariant.0 c.first_open-j.ensures.0 (λ p a b x. nearest_none _ _ _ _ _ (passed_by p a b) x) l.loop-k.invariant.2 in
+    let a = l.args in
+    l.loop-k.held ≡ fold_of (nearest_step a.points.now a.uses.now a.kinds.now a.ray) a.best (span_places a.order.now a.first (c.first_open-j.result - a.first)) =
+    let l = c in
+    let a = l.args in
+    span_over a.order.now a.first (nearest_step a.points.now a.uses.now a.kinds.now a.ray) a.best _ _ _ l.loop-k.invariant.0 c.first_open-j.ensures.0 (λ p a b x. nearest_none _ _ _ _ _ (passed_by p a b) x) l.loop-k.invariant.2 in
     let m = c.before.before in
     let f = m.before.before.before in
     let a = f.args in (

@@ -13,91 +13,97 @@ use Rattle.tree_walk.specs.Collect.{dark, came}
 use Rattle.tree_walk.specs.UnderLaws.{tree_places, tree_once}
 use Rattle.tree_walk.specs.CollectLaws.{collected_over, dark_passes, came_passes, came_numbers, came_below}
 use Rattle.tree_walk.proofs.Came.{root_fits, from_root, empty_passes}
-use borrow.Author.Rules.{rules}
 use Rattle.tree_walk.proofs.inner.transmittance.Goals as goal
 use Rattle.tree_walk.proofs.inner.transmittance.Goals.{In-Hits-2, Start}
 
-abbrev scene_at : Start → Scene
-scene_at s = let a = s.args in tree_scene a.points.now a.uses.now a.kinds.now a.numbers.now a.boxes.now a.nodes.now a.order.now
-
 pub returns-then-nodes-eq0 : goal.returns-then-nodes-eq0
 returns-then-nodes-eq0 c =
+    let scene_at : Scene =
+    let a = c.args in tree_scene a.points.now a.uses.now a.kinds.now a.numbers.now a.boxes.now a.nodes.now a.order.now in
     let s = c.before.before.before.before.before.before.before.before.before.before.before in
-    empty_passes (scene_at s) s.requires.sound _ _ _ s.requires.accepted_tree _ c.if-nodes-eq0.true
+    empty_passes (scene_at) s.requires.sound _ _ _ s.requires.accepted_tree _ c.if-nodes-eq0.true
 
 pub node_collect-met-requires : goal.node_collect-met-requires
 node_collect-met-requires c =
+    let scene_at : Scene =
+    let a = c.args in tree_scene a.points.now a.uses.now a.kinds.now a.numbers.now a.boxes.now a.nodes.now a.order.now in
     let s = c.before.before.before.before.before.before.before.before.before.before.before.before.before in
-    let h = positive _ c.if-nodes-eq0.false in (
-      accepted_fits (scene_at s) s.requires.sound _ _ _ s.requires.accepted_tree _ s.requires.turned,
-      (h, ((omega arith, omega arith), root_fits (scene_at s) s.requires.sound _ _ _ s.requires.accepted_tree c.if-nodes-eq0.false _ _ s.requires.hits_fit)),
-    )
+    let h = positive _ c.if-nodes-eq0.false in record {
+      tree_fits = accepted_fits (scene_at) s.requires.sound _ _ _ s.requires.accepted_tree _ s.requires.turned;
+      i_bound = h;
+      m_in_bounds = (omega arith, omega arith);
+      room_for = root_fits (scene_at) s.requires.sound _ _ _ s.requires.accepted_tree c.if-nodes-eq0.false _ _ s.requires.hits_fit;
+    }
 
 pub returns-in-Dark : goal.returns-in-Dark
 returns-in-Dark c =
+    let scene_at : Scene =
+    let a = c.args in tree_scene a.points.now a.uses.now a.kinds.now a.numbers.now a.boxes.now a.nodes.now a.order.now in
     let n = c.before.before.before.before.before in
     let s = n.before.before.before.before.before.before.before.before.before.before.before.before.before.before in
-    dark_passes (scene_at s) s.requires.sound (tree_places s.args.nodes.now s.args.order.now) (tree_once _ _ _ _ s.requires.accepted_tree) s.args.ray
-    (from_root (scene_at s) s.requires.sound _ _ _ s.requires.accepted_tree _ n.if-nodes-eq0.false dark s.args.distances.now s.args.places.now (rw c.in-Dark.is at n.node_collect-met.ensures.0))
+    dark_passes (scene_at) s.requires.sound (tree_places s.args.nodes.now s.args.order.now) (tree_once _ _ _ _ s.requires.accepted_tree) s.args.ray
+    (from_root (scene_at) s.requires.sound _ _ _ s.requires.accepted_tree _ n.if-nodes-eq0.false dark s.args.distances.now s.args.places.now (rw c.in-Dark.is at n.node_collect-met.ensures.0))
 
 pub slice_bounds-passing-end : goal.slice_bounds-passing-end
 slice_bounds-passing-end c =
     let within : let l = c.node_collect-met.new in
-        (c.in-Hits.m ≤ length l.1.1.1.1.1.1.1.1.1.1.1.0) × (c.in-Hits.m ≤ length l.1.1.1.1.1.1.1.1.1.1.1.1.0) =
-        let n = c.node_collect-met in
-        let k = rw c.in-Hits.is at n.ensures.1 in
-        (omega (arith, k.1, n.auto.distances), omega (arith, k.2, n.auto.places)) in
+    (c.in-Hits.m ≤ length l.distances) × (c.in-Hits.m ≤ length l.places) =
+    let n = c.node_collect-met in
+    let k = rw c.in-Hits.is at n.ensures.1 in
+    (omega (arith, k.1, n.auto.distances), omega (arith, k.2, n.auto.places)) in
     (within).0
 
 pub slice_bounds-passing-end-in-Hits : goal.slice_bounds-passing-end-in-Hits
 slice_bounds-passing-end-in-Hits c =
     let within : let l = c.node_collect-met.new in
-        (c.in-Hits.m ≤ length l.1.1.1.1.1.1.1.1.1.1.1.0) × (c.in-Hits.m ≤ length l.1.1.1.1.1.1.1.1.1.1.1.1.0) =
-        let n = c.node_collect-met in
-        let k = rw c.in-Hits.is at n.ensures.1 in
-        (omega (arith, k.1, n.auto.distances), omega (arith, k.2, n.auto.places)) in
+    (c.in-Hits.m ≤ length l.distances) × (c.in-Hits.m ≤ length l.places) =
+    let n = c.node_collect-met in
+    let k = rw c.in-Hits.is at n.ensures.1 in
+    (omega (arith, k.1, n.auto.distances), omega (arith, k.2, n.auto.places)) in
     sym (length-take-le _ _ (within).0)
 
 pub slice_bounds-passing-end-in-Hits-2 : goal.slice_bounds-passing-end-in-Hits-2
 slice_bounds-passing-end-in-Hits-2 c =
     let within : let l = c.node_collect-met.new in
-        (c.in-Hits.m ≤ length l.1.1.1.1.1.1.1.1.1.1.1.0) × (c.in-Hits.m ≤ length l.1.1.1.1.1.1.1.1.1.1.1.1.0) =
-        let n = c.node_collect-met in
-        let k = rw c.in-Hits.is at n.ensures.1 in
-        (omega (arith, k.1, n.auto.distances), omega (arith, k.2, n.auto.places)) in
+    (c.in-Hits.m ≤ length l.distances) × (c.in-Hits.m ≤ length l.places) =
+    let n = c.node_collect-met in
+    let k = rw c.in-Hits.is at n.ensures.1 in
+    (omega (arith, k.1, n.auto.distances), omega (arith, k.2, n.auto.places)) in
     (within).1
 
 pub slice_bounds-passing-end-in-Hits-3 : goal.slice_bounds-passing-end-in-Hits-3
 slice_bounds-passing-end-in-Hits-3 c =
     let within : let l = c.node_collect-met.new in
-        (c.in-Hits.m ≤ length l.1.1.1.1.1.1.1.1.1.1.1.0) × (c.in-Hits.m ≤ length l.1.1.1.1.1.1.1.1.1.1.1.1.0) =
-        let n = c.node_collect-met in
-        let k = rw c.in-Hits.is at n.ensures.1 in
-        (omega (arith, k.1, n.auto.distances), omega (arith, k.2, n.auto.places)) in
+    (c.in-Hits.m ≤ length l.distances) × (c.in-Hits.m ≤ length l.places) =
+    let n = c.node_collect-met in
+    let k = rw c.in-Hits.is at n.ensures.1 in
+    (omega (arith, k.1, n.auto.distances), omega (arith, k.2, n.auto.places)) in
     sym (length-take-le _ _ (within).1)
 
 pub passing-requires : goal.passing-requires
 passing-requires c =
+    let scene_at : Scene =
+    let a = c.args in tree_scene a.points.now a.uses.now a.kinds.now a.numbers.now a.boxes.now a.nodes.now a.order.now in
     let within : let l = c.node_collect-met.new in
-        (c.in-Hits.m ≤ length l.1.1.1.1.1.1.1.1.1.1.1.0) × (c.in-Hits.m ≤ length l.1.1.1.1.1.1.1.1.1.1.1.1.0) =
-        let n = c.node_collect-met in
-        let k = rw c.in-Hits.is at n.ensures.1 in
-        (omega (arith, k.1, n.auto.distances), omega (arith, k.2, n.auto.places)) in
+    (c.in-Hits.m ≤ length l.distances) × (c.in-Hits.m ≤ length l.places) =
+    let n = c.node_collect-met in
+    let k = rw c.in-Hits.is at n.ensures.1 in
+    (omega (arith, k.1, n.auto.distances), omega (arith, k.2, n.auto.places)) in
     let came_there : let n = c.before.before.before.before.before in
-        let l = n.node_collect-met.new in
-        let s = n.before.before.before.before.before.before.before.before.before.before.before.before.before.before in
-        let m = c.in-Hits.m in
-        came (paired (take m l.1.1.1.1.1.1.1.1.1.1.1.0) (take m l.1.1.1.1.1.1.1.1.1.1.1.1.0)) ≡ collected_over (scene_at s) s.args.ray (tree_places s.args.nodes.now s.args.order.now) =
-        let n = c.before.before.before.before.before in
-        let s = n.before.before.before.before.before.before.before.before.before.before.before.before.before.before in
-        from_root (scene_at s) s.requires.sound _ _ _ s.requires.accepted_tree _ n.if-nodes-eq0.false _ s.args.distances.now s.args.places.now
-        (rw c.in-Hits.is at n.node_collect-met.ensures.0) in
+    let l = n.node_collect-met.new in
+    let s = n.before.before.before.before.before.before.before.before.before.before.before.before.before.before in
+    let m = c.in-Hits.m in
+    came (paired (take m l.distances) (take m l.places)) ≡ collected_over (scene_at) s.args.ray (tree_places s.args.nodes.now s.args.order.now) =
+    let n = c.before.before.before.before.before in
+    let s = n.before.before.before.before.before.before.before.before.before.before.before.before.before.before in
+    from_root (scene_at) s.requires.sound _ _ _ s.requires.accepted_tree _ n.if-nodes-eq0.false _ s.args.distances.now s.args.places.now
+    (rw c.in-Hits.is at n.node_collect-met.ensures.0) in
     let m = c.before.before.before in
     let s = m.before.before.before.before.before.before.before.before.before.before.before.before.before.before.before.before.before.before.before in
     let w = within in record {
-      distances_len = (length-take-le _ _ w.0 ∙ sym (length-take-le _ _ w.1), came_numbers (scene_at s) s.requires.sound (tree_places s.args.nodes.now s.args.order.now) (tree_once _ _ _ _ s.requires.accepted_tree) s.args.ray _ (came_there));
+      distances_len = (length-take-le _ _ w.0 ∙ sym (length-take-le _ _ w.1), came_numbers (scene_at) s.requires.sound (tree_places s.args.nodes.now s.args.order.now) (tree_once _ _ _ _ s.requires.accepted_tree) s.args.ray _ (came_there));
       by_index = (λ i h. omega (arith, s.requires.sound.within i h, s.requires.sound.numbers));
-      by_index_2 = came_below (scene_at s) s.requires.sound (tree_places s.args.nodes.now s.args.order.now) (tree_once _ _ _ _ s.requires.accepted_tree) s.args.ray _ (came_there);
+      by_index_2 = came_below (scene_at) s.requires.sound (tree_places s.args.nodes.now s.args.order.now) (tree_once _ _ _ _ s.requires.accepted_tree) s.args.ray _ (came_there);
     }
 
 pub shape_of-distances-in-Hits : goal.shape_of-distances-in-Hits
@@ -116,16 +122,18 @@ shape_of-places-in-Hits c =
 
 pub returns-in-Hits : goal.returns-in-Hits
 returns-in-Hits c =
+    let scene_at : Scene =
+    let a = c.args in tree_scene a.points.now a.uses.now a.kinds.now a.numbers.now a.boxes.now a.nodes.now a.order.now in
     let came_there : let n = c.before.before.before.before.before in
-        let l = n.node_collect-met.new in
-        let s = n.before.before.before.before.before.before.before.before.before.before.before.before.before.before in
-        let m = c.in-Hits.m in
-        came (paired (take m l.1.1.1.1.1.1.1.1.1.1.1.0) (take m l.1.1.1.1.1.1.1.1.1.1.1.1.0)) ≡ collected_over (scene_at s) s.args.ray (tree_places s.args.nodes.now s.args.order.now) =
-        let n = c.before.before.before.before.before in
-        let s = n.before.before.before.before.before.before.before.before.before.before.before.before.before.before in
-        from_root (scene_at s) s.requires.sound _ _ _ s.requires.accepted_tree _ n.if-nodes-eq0.false _ s.args.distances.now s.args.places.now
-        (rw c.in-Hits.is at n.node_collect-met.ensures.0) in
+    let l = n.node_collect-met.new in
+    let s = n.before.before.before.before.before.before.before.before.before.before.before.before.before.before in
+    let m = c.in-Hits.m in
+    came (paired (take m l.distances) (take m l.places)) ≡ collected_over (scene_at) s.args.ray (tree_places s.args.nodes.now s.args.order.now) =
+    let n = c.before.before.before.before.before in
+    let s = n.before.before.before.before.before.before.before.before.before.before.before.before.before.before in
+    from_root (scene_at) s.requires.sound _ _ _ s.requires.accepted_tree _ n.if-nodes-eq0.false _ s.args.distances.now s.args.places.now
+    (rw c.in-Hits.is at n.node_collect-met.ensures.0) in
     let p = c.before.before.before.before in
     let m = p.before.before.before.before in
     let s = m.before.before.before.before.before.before.before.before.before.before.before.before.before.before.before.before.before.before.before in
-    p.passing.ensures ∙ came_passes (scene_at s) s.requires.sound (tree_places s.args.nodes.now s.args.order.now) (tree_once _ _ _ _ s.requires.accepted_tree) s.args.ray _ (came_there)
+    p.passing.ensures ∙ came_passes (scene_at) s.requires.sound (tree_places s.args.nodes.now s.args.order.now) (tree_once _ _ _ _ s.requires.accepted_tree) s.args.ray _ (came_there)

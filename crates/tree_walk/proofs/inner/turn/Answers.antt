@@ -1,9 +1,6 @@
 -- `tree_walk::inner::turn` meets its contract. The loop's invariant: the numbers of the first k triangles are there.
-use mathlib.Core.Path.{◌≡◌, refl, ◌∙◌}
-use Prim.Native.Nat.{◌*◌, ◌-◌, ◌≤◌}
+use mathlib.Core.Path.{refl, ◌∙◌}
 use native.Mathlib.Omega.{arith}
-use lib.ListN.{length}
-use Rattle.tree_walk.specs.Turned.{TurnedTo}
 use Rattle.tree_walk.proofs.Turning.{turned_whole}
 use Rattle.tree_walk.proofs.inner.turn.Goals as goal
 

@@ -1,10 +1,9 @@
 -- `tree_walk::inner::turn_one` meets its contract. The loop's invariant: the first i numbers of the triangle are there.
 use mathlib.Core.Path.{◌≡◌, refl, ap, ◌∙◌}
-use Prim.Native.Nat.{ℕ, ◌+◌, ◌*◌, ◌/◌, ◌%◌, ◌-◌, ◌≤◌}
+use Prim.Native.Nat.{ℕ, ◌+◌, ◌*◌, ◌/◌, ◌%◌}
 use native.Mathlib.Omega.{arith}
-use lib.ListN.{length, get_or, length-set}
+use lib.ListN.{get_or, length-set}
 use lib.Ieee.{nan}
-use Rattle.tree_walk.specs.Turned.{TurnedTo}
 use Rattle.tree_walk.proofs.Turning.{turned_more, turned_past}
 use Rattle.tree_walk.proofs.inner.turn_one.Goals as goal
 
