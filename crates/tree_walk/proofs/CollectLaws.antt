@@ -29,7 +29,7 @@ use Rattle.tree_walk.specs.BoxedLaws.{boxed_over, boxed_number}
 use Rattle.tree_walk.specs.FoldLaws.{stands_in, fold_of}
 use Rattle.tree_walk.specs.UnderLaws.{tree_places}
 use Rattle.tree_walk.specs.ListedLaws.{listed_room, listed_hits}
-use Rattle.tree_walk.specs.WalkLaws.{walk_listed}
+use Rattle.tree_walk.proofs.WalkLaws.{walk_listed}
 use Rattle.tree_walk.specs.Collect.{Collected, dark, came, collect_meet, collect_step, pass_collected}
 use Rattle.tree_walk.specs.Kept.{RoomFor}
 
