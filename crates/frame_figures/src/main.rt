@@ -184,7 +184,14 @@ fn empty(rt: &impl Print) -> io::Result<()> {
     let light = lights(0.0, 23.0);
     let all = positions(1.5, 3.0);
     let mut answers = [7.0f32; 4];
-    show(rt, hall(), corners(3.0), &light, &all[0..0], &mut answers[0..0])
+    show(
+        rt,
+        hall(),
+        corners(3.0),
+        &light,
+        &all[0..0],
+        &mut answers[0..0],
+    )
 }
 
 // The first and the last number of each position's sixteen and, where the frame is accepted, whether all are the single call's; last is the volume's last

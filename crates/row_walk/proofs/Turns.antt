@@ -19,7 +19,7 @@ use Rattle.tree_walk.specs.FoldLaws.{fold_of, fold_append}
 use Rattle.tree_walk.specs.Spans.{span_places}
 use Rattle.tree_walk.specs.ListedLaws.{listed_room}
 use Rattle.tree_walk.specs.Collect.{Collected, dark, collect_meet, collect_step}
-use Rattle.tree_walk.specs.CollectLaws.{listed_fits}
+use Rattle.tree_walk.proofs.CollectLaws.{listed_fits}
 use Rattle.tree_walk.specs.Kept.{RoomFor}
 use Rattle.tree_walk.proofs.Going.{span_missed}
 use Rattle.tree_rows.specs.Rows.{row_bounds, row_after, row_first, row_count, row_places, places_to, Rowed}

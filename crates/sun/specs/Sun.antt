@@ -2,7 +2,7 @@
 -- the in-grid 3×3×3, divide by the count, square. No active voxel: all 1.0, no blur. Rays reported: the active count." The light is the direction
 -- normalised. The figures before the blur are a definition of their own, which the light's scratch list holds afterwards; where no voxel is active
 -- that list stays as it was.
-use Rattle.std.specs.Prelude.{◌≡◌, Bool, true, false, cond, ◌||◌, List, [], ◌∷◌, ℕ, ◌≤◌, eqb, length, Float}
+use Rattle.std.specs.Prelude.{◌≡◌, Bool, true, false, cond, ◌||◌, List, [], ◌∷◌, ℕ, eqb, length, Float}
 use Rattle.std.specs.Float.Ieee as Ieee
 use Rattle.std.specs.Float.{binary32}
 use Rattle.names.specs.Bits.{one32}

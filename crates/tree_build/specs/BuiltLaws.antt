@@ -68,8 +68,8 @@ module _ {points boxes : List Float} {nodes order : List ℕ} where
   built_within (suc k) g (leaf {at} {first} {count} a b h) = rw (le-leb count leaf_limit b) refl
   built_within zero g (pair {at} {first} {count} {next} middle a h x y) = absurd (omega arith)
   built_within (suc k) g (pair {at} {first} {count} {next} middle a h x y) =
-      let p = built_within k (omega arith) x in
-      let q = built_within k (omega arith) y in
+      let p = built_within {at = at + 1} {first = first} {count = count / 2} {next = middle} k (omega arith) x in
+      let q = built_within {at = middle} {first = first + count / 2} {count = count - count / 2} {next = next} k (omega arith) y in
       rw (lt-leb count leaf_limit a) (omega arith)
 
   pub built_boxes : {at first count next : ℕ} → Built points boxes nodes order at first count next → next ≡ at + boxes_for count

@@ -22,7 +22,7 @@ use Rattle.tree.specs.Tree.{box_count, count_at, inner_at, left_at, place_at}
 use Rattle.tree_walk.specs.Boxed.{boxed_at, nearest_step}
 use Rattle.tree_walk.specs.FoldLaws.{fold_of, fold_append}
 use Rattle.tree_walk.specs.ListedLaws.{nearer_missed}
-use Rattle.tree_walk.specs.CollectLaws.{collect_missed}
+use Rattle.tree_walk.proofs.CollectLaws.{collect_missed}
 use Rattle.tree_walk.specs.Spans.{span_places, SpanFits, run_span}
 use Rattle.tree_walk.specs.Walk.{run_visit, TreeFits}
 use Rattle.tree_walk.specs.Collect.{Collected, dark, came, collect_meet, collect_step}

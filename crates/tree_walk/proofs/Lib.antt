@@ -3,3 +3,5 @@ pub mod Steps
 pub mod Going
 pub mod Turning
 pub mod Came
+pub mod WalkLaws
+pub mod CollectLaws

@@ -10,8 +10,6 @@ pub mod Spans
 pub mod CountLaws
 pub mod UnderLaws
 pub mod ListedLaws
-pub mod WalkLaws
 pub mod Collect
 pub mod Kept
-pub mod CollectLaws
 pub mod BoxedFigures

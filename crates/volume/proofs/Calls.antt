@@ -23,7 +23,6 @@ use Rattle.volume_file.specs.VolumeFile.{voxels_at, faulty}
 use Rattle.volume_file.specs.VolumeFileLaws.{Accepted, accepted_row, accepted_axes, accepted_laid}
 use Rattle.volume_write.specs.FileBytes.{bytes_for, file_bytes, Lent}
 use Rattle.volume.specs.declared.Head.{Head}
-use Rattle.volume.specs.declared.Needed.{Needed}
 use Rattle.volume.specs.declared.Figures.{Figures}
 use Rattle.volume.specs.Volume.{no_head, head_answer, file_refusal, FileAxes, needed_refusal, VolumeBytes, wrong_volume_lists, read_refusal, VolumeRead, wrong_bytes, bad_lists, write_refusal, VolumeWritten, zero_count, no_figures, figures_answer, figures_refusal, FileFigures}
 use Rattle.volume.specs.VolumeLaws.{lists_row, lights_numbers, coefficients_numbers, BodiesRead}

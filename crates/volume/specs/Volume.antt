@@ -2,7 +2,7 @@
 -- beside it or 0 with what was asked, and each lent list afterwards. The definitions take the four lists in the order of the file's kinds: light,
 -- coefficients, active, occupied; the calls take the masks as every call does, occupied first. A mask is lent as words, and the file has its entries, a
 -- byte each. Assumes nothing.
-use Rattle.std.specs.Prelude.{◌≡◌, Bool, cond, not, ◌||◌, List, [], ◌∷◌, ℕ, ◌+◌, ◌*◌, ltb, length, Float}
+use Rattle.std.specs.Prelude.{◌≡◌, Bool, cond, ◌||◌, List, [], ◌∷◌, ℕ, ◌+◌, ◌*◌, ltb, length, Float}
 use Rattle.std.specs.Float.Ieee as Ieee
 use Rattle.names.specs.Bits.{zero32}
 use Rattle.names.specs.Numbers.{figures_limit}

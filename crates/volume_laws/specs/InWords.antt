@@ -1,8 +1,8 @@
 -- Good contents in document 01's words: known kinds that ascend strictly, 1 to 5 all among them; each body right after the one before
 -- it, the first after the contents and the last at the file's end; bodies 1 to 5 of the lengths that the axes ask for. The judge goes
 -- by an entry's place, and here it is shown to say the same, both ways.
-use Rattle.std.specs.Prelude.{◌≡◌, refl, Bool, false, ◌&&◌, List, ◌⊎◌, ◌↔◌, eqb, ltb, length}
-use Rattle.std.proofs.Common.{sym, ap, ◌∙◌, subst, inl, inr, ⊎_elim, add-zero, zero-add, eq-or-lt_of_le}
+use Rattle.std.specs.Prelude.{◌≡◌, refl, Bool, false, List, ◌⊎◌, ◌↔◌, ltb, length}
+use Rattle.std.proofs.Common.{sym, ◌∙◌, subst, inl, inr, ⊎_elim, add-zero, zero-add, eq-or-lt_of_le}
 use Rattle.std.proofs.Math.Bool.{true}
 use Prim.Native.Nat.{ℕ, zero, suc, ◌+◌, ◌-◌, ◌*◌, ◌<◌, ◌≤◌}
 use Rattle.std.proofs.Math.Nat.{sub-zero}
@@ -10,7 +10,7 @@ use Rattle.std.proofs.Math.Numerals.{add-one}
 use native.Mathlib.Omega.{arith}
 use borrow.Author.Tests.{eqb-true, eq-eqb, lt-ltb, ltb-true, ltb-false}
 use Rattle.contents.specs.Contents.{bodies_from, entry_kind_at, offset_at, length_at, entry_good, contents_from, contents_good}
-use Rattle.contents.proofs.ContentsLaws.{Fit, light, coefficients, active, occupied, corners, foreign, fit_kind, fit_long, fit_given, Entry, entry_found}
+use Rattle.contents.proofs.ContentsLaws.{Fit, light, coefficients, active, occupied, corners, foreign, fit_kind, fit_given, Entry, entry_found}
 
 -- 1 to 5, or 128 to 255
 pub data Known (k : ℕ) : Type 0 where

@@ -1,7 +1,7 @@
 -- A file of kinds 1 to 5 that is accepted is what the writer writes of what it holds: part by part the bytes are those that stand
 -- there already.
-use Rattle.std.specs.Prelude.{◌≡◌, refl, Bool, true, false, not, List, [], ◌∷◌, ◌++◌, ℕ, zero, suc, ◌+◌, ◌-◌, ◌*◌, ◌<◌, ◌≤◌, eqb, length, get_or, take, drop, Float}
-use Rattle.std.proofs.Common.{sym, ap, ◌∙◌, add-zero, zero-add, arith, eqb-true, take-add, drop-drop, take_all}
+use Rattle.std.specs.Prelude.{◌≡◌, refl, true, false, List, ◌∷◌, ◌++◌, ℕ, zero, suc, ◌+◌, ◌-◌, ◌*◌, ◌<◌, ◌≤◌, eqb, length, get_or, take, drop, Float}
+use Rattle.std.proofs.Common.{sym, ap, ◌∙◌, zero-add, arith, eqb-true, take-add, drop-drop, take_all}
 use Rattle.std.proofs.Math.Bool.{and-eq-true_iff}
 use Rattle.std.specs.Float.Ieee as Ieee
 use Rattle.std.specs.Float.Ieee.Scale.{finite}
@@ -10,13 +10,12 @@ use Rattle.std.specs.Float.Ieee.{is_nan}
 use Rattle.floats.specs.FiniteLaws.{finite_number}
 use Rattle.names.specs.Numbers.{point_limit}
 use Rattle.lists.specs.Fold.{tab, length_tab, get_or_tab}
-use Rattle.grid.specs.Grid.{voxels}
-use Rattle.bytes_le.specs.Bytes.{word, u16_at, u32_at, f32_at, floats_at, bytes_at, bytes2, bytes4, encode, NoneNan}
+use Rattle.bytes_le.specs.Bytes.{u16_at, u32_at, f32_at, floats_at, bytes_at, bytes2, bytes4, encode, NoneNan}
 use Rattle.bytes_le.specs.BytesLaws.{half_bytes, word_bytes}
 use Rattle.bytes_le.specs.RoundTrip.{AllBytes, one_cons, floats_kept}
 use Rattle.limits.specs.Limits.{within}
 use Rattle.limits.specs.LimitsLaws.{limit_finite, grid_row, vector_row}
-use Rattle.contents.specs.Contents.{mark, marked, axes_at, entries_at, entry_kind_at, offset_at, length_at, contents_from, head_of, entry_of, bodies_from}
+use Rattle.contents.specs.Contents.{mark, marked, axes_at, entries_at, offset_at, contents_from, head_of, entry_of, bodies_from}
 use Rattle.contents.specs.Laid.{Laid}
 use Rattle.volume_file.specs.VolumeFile.{voxels_at, light_at, volume_at, active_at, occupied_at, corners_at}
 use Rattle.volume_file.specs.VolumeFileLaws.{Accepted, accepted_laid}

@@ -1,6 +1,6 @@
 -- What the public calls of a file give back. Written and then read: every bit returns. Read and then written, for a file of kinds 1 to 5: every
 -- byte returns. Masks are lent as words and stand in the file as entries; what the reader leaves of them is tidy, so every call that takes a mask takes it.
-use Rattle.std.specs.Prelude.{◌≡◌, refl, ◌⊎◌, Bool, true, false, cond, not, ◌||◌, List, [], ◌∷◌, ℕ, ◌+◌, ◌*◌, ◌<◌, ◌≤◌, eqb, length, get_or, drop, Float}
+use Rattle.std.specs.Prelude.{◌≡◌, refl, ◌⊎◌, Bool, true, false, cond, List, ℕ, ◌+◌, ◌*◌, ◌<◌, ◌≤◌, eqb, length, get_or, drop, Float}
 use Rattle.std.proofs.Common.{sym, ap, ◌∙◌, subst, inl, inr, arith, eq-eqb, eqb-true, length-drop, length-take-le}
 use Rattle.std.proofs.Math.ListN.{get_or-eq_default}
 use Rattle.names.specs.Refusals.{first_of, unless_refused, given}
@@ -24,7 +24,7 @@ use Rattle.volume_write.specs.FileBytes.{bytes_for, corners_list, file_bytes}
 use Rattle.volume.specs.declared.Head.{Head}
 use Rattle.volume.specs.Volume.{no_head, head_answer, wrong_volume_lists, wrong_bytes, bad_lists, read_rows, read_refusal, VolumeRead, write_rows, write_refusal, VolumeWritten}
 use Rattle.volume.specs.VolumeLaws.{lists_row}
-use Rattle.volume_laws.specs.Written.{Givens, Gives, Back, written_back}
+use Rattle.volume_laws.specs.Written.{Givens, Back, written_back}
 use Rattle.volume_laws.specs.Kept.{kept_back, file_ended}
 
 -- ---- what row 3 and row 13 say

@@ -1,7 +1,7 @@
 -- Document 01's file of 166 bytes: 1 by 1 by 1, light.25, zero coefficients, masks 1, corners 0,0,0 and 1,1,1. In words each mask is the one word 1. Each call that
 -- reads a file accepts it, its figures are 1 1 1 1 1 0, the writer accepts what it holds, asks for 166 bytes and writes it. The empty input is
 -- refused 12. All by computation.
-use Rattle.std.specs.Prelude.{◌≡◌, refl, Bool, false, List, [], ◌∷◌, ◌++◌, ℕ, ltb, length, replicate, Float}
+use Rattle.std.specs.Prelude.{◌≡◌, refl, Bool, false, List, [], ◌∷◌, ℕ, ltb, length, replicate, Float}
 use Rattle.std.proofs.Common.{ap}
 use Rattle.std.specs.Float.Ieee as Ieee
 use Rattle.names.specs.Bits.{lit, zero32, one32}

@@ -1,22 +1,21 @@
 -- What the bytes that the writer writes hold: head, contents and bodies as they were given. So they are accepted, and reading them
 -- gives the lists, the axes and the corners back.
-use Rattle.std.specs.Prelude.{◌≡◌, refl, Bool, true, false, not, List, [], ◌∷◌, ◌++◌, ℕ, ◌+◌, ◌-◌, ◌*◌, ◌/◌, ◌%◌, ◌<◌, ◌≤◌, eqb, length, get_or, take, drop, Float}
-use Rattle.std.proofs.Common.{sym, ap, ◌∙◌, append_assoc, append-nil, add-zero, add_assoc, arith, eq-eqb, length-append, take_at, drop_at}
+use Rattle.std.specs.Prelude.{◌≡◌, refl, true, false, List, [], ◌++◌, ℕ, ◌+◌, ◌-◌, ◌*◌, ◌<◌, ◌≤◌, length, get_or, Float}
+use Rattle.std.proofs.Common.{sym, ap, ◌∙◌, append_assoc, append-nil, add-zero, arith, eq-eqb, length-append, take_at, drop_at}
 use Rattle.std.specs.Float.{nan}
 use Rattle.names.specs.Numbers.{voxel_limit}
 use Rattle.lists.specs.Fold.{tab}
-use Rattle.vectors.specs.Vectors.{vec}
 use Rattle.grid.specs.declared.Axes.{Axes}
 use Rattle.grid.specs.declared.Corners.{Corners}
 use Rattle.grid.specs.Grid.{voxels, AxesWithin}
 use Rattle.grid.specs.GridLaws.{voxels_most}
-use Rattle.bytes_le.specs.Bytes.{u16_at, u32_at, f32_at, floats_at, bytes_at, bytes4, encode}
+use Rattle.bytes_le.specs.Bytes.{u16_at, f32_at, floats_at, bytes_at, encode}
 use Rattle.bytes_le.specs.BytesLaws.{half_back, word_back, length_encode}
 use Rattle.bytes_le.specs.RoundTrip.{AllFit, floats_back}
 use Rattle.limits.specs.Limits.{bad_axes, bad_grid, bad_lights, bad_coefficients, bad_mask}
 use Rattle.limits.specs.LimitsLaws.{axes_row}
-use Rattle.contents.specs.Contents.{marked, headed, axes_at, entries_at, entry_kind_at, offset_at, length_at, contents_from, contents_good, head_of}
-use Rattle.contents.proofs.ContentsLaws.{Fit, light, coefficients, active, occupied, corners, Entry, entry_given, Headed}
+use Rattle.contents.specs.Contents.{marked, axes_at, entries_at, entry_kind_at, offset_at, length_at, contents_from, contents_good, head_of}
+use Rattle.contents.proofs.ContentsLaws.{light, coefficients, active, occupied, corners, entry_given}
 use Rattle.volume_file.specs.VolumeFile.{voxels_at, light_at, volume_at, active_at, occupied_at, corners_at}
 use Rattle.volume_file.specs.VolumeFileLaws.{Accepted}
 use Rattle.volume_write.specs.FileBytes.{bytes_for, contents_of, corners_list, file_bytes}

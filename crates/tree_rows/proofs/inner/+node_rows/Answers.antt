@@ -1,6 +1,5 @@
 -- `tree_rows::inner::node_rows` meets its contract; the measure is the levels left.
 use mathlib.Core.Path.{◌∙◌}
-use Prim.Native.Nat.{ℕ, ◌<◌}
 use native.Mathlib.Omega.{arith}
 use Rattle.tree_rows.proofs.Steps.{none_under, none_written, left_within, right_within, halves_under, halves_written, run_small_lem, leaf_under, leaf_written}
 use Rattle.tree_rows.proofs.inner.+node_rows.Goals as goal

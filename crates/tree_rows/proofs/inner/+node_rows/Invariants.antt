@@ -1,4 +1,3 @@
-use Rattle.std.proofs.Common.{length, ◌+◌, ◌-◌, ◌*◌}
 use Rattle.tree_rows.proofs.inner.+node_rows.Given as goal
 
 abbrev pub decreases-node_rows : goal.decreases-node_rows

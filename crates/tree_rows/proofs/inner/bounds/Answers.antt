@@ -1,6 +1,5 @@
 -- `tree_rows::inner::bounds` meets its contract: each corner stands where the definition reads it.
 use Rattle.tree_rows.specs.Rows.{row_bounds}
-use borrow.Author.Rules.{rules}
 use Rattle.tree_rows.proofs.inner.bounds.Goals as goal
 
 pub returns : goal.returns

@@ -1,5 +1,4 @@
 -- `tree_rows::inner::of_pattern` meets its contract: below 2^23 no bit of the exponent is set, so that the pattern is no NaN's.
-use borrow.Author.Rules.{rules}
 use Rattle.tree_rows.specs.LayoutLaws.{no_nan_pattern}
 use Rattle.tree_rows.proofs.inner.of_pattern.Goals as goal
 

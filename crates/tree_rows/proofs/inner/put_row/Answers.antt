@@ -1,6 +1,5 @@
 -- `tree_rows::inner::put_row` meets its contract: a row is three times three numbers.
 use Rattle.tree_rows.specs.Layout.{with_row}
-use borrow.Author.Rules.{rules}
 use Rattle.tree_rows.proofs.inner.put_row.Goals as goal
 
 pub returns : goal.returns

@@ -3,7 +3,6 @@ use native.Mathlib.Omega.{arith}
 use mathlib.Core.Path.{refl}
 use lib.ListN.{length-set}
 use Rattle.tree_rows.specs.Layout.{with_vec}
-use borrow.Author.Rules.{rules}
 use Rattle.tree_rows.proofs.inner.put_vec.Goals as goal
 
 pub bounds-rows-j-2 : goal.bounds-rows-j-2

@@ -9,7 +9,7 @@ use Rattle.boxes.specs.Boxes.{passed_over}
 use Rattle.tree.specs.Tree.{inner_at, left_at, right_at}
 use Rattle.tree_walk.specs.Walk.{node_visit, pair_visit}
 use Rattle.tree_walk.specs.UnderLaws.{places_under}
-use Rattle.tree_walk.specs.CollectLaws.{node_dark}
+use Rattle.tree_walk.proofs.CollectLaws.{node_dark}
 use Rattle.tree_walk.specs.Kept.{MetWithin, RoomFor}
 use Rattle.tree_walk.proofs.Steps.{inner_read, leaf_read, no_levels, box_over, box_halves, box_leaf, halves_less, under_halves, under_leaf, met_more}
 use Rattle.tree_walk.proofs.inner.+node_collect_pair_collect.Goals as goal

@@ -12,7 +12,7 @@ use Rattle.tree.specs.Tree.{box_count, AcceptedTree}
 use Rattle.tree.specs.SumLaws.{positive}
 use Rattle.tree_walk.specs.Boxed.{nearest_step, nearest_boxed}
 use Rattle.tree_walk.specs.Walk.{node_visit, tree_visit, nearest_through}
-use Rattle.tree_walk.specs.WalkLaws.{accepted_fits, walk_nearest}
+use Rattle.tree_walk.proofs.WalkLaws.{accepted_fits, walk_nearest}
 use Rattle.tree_walk.proofs.inner.nearest.Goals as goal
 
 module _ (scene : Scene) (sound : Sound scene) (boxes : List Float) (nodes order : List ℕ) (t : AcceptedTree scene.points boxes nodes order) (ray : Ray) where

@@ -8,10 +8,10 @@ use lib.Seq.{length-take-le, length_front}
 use Rattle.names.specs.Scene.{Scene, tree_scene}
 use Rattle.hits.specs.Hits.{paired}
 use Rattle.tree.specs.SumLaws.{positive}
-use Rattle.tree_walk.specs.WalkLaws.{accepted_fits}
+use Rattle.tree_walk.proofs.WalkLaws.{accepted_fits}
 use Rattle.tree_walk.specs.Collect.{dark, came}
 use Rattle.tree_walk.specs.UnderLaws.{tree_places, tree_once}
-use Rattle.tree_walk.specs.CollectLaws.{collected_over, dark_passes, came_passes, came_numbers, came_below}
+use Rattle.tree_walk.proofs.CollectLaws.{collected_over, dark_passes, came_passes, came_numbers, came_below}
 use Rattle.tree_walk.proofs.Came.{root_fits, from_root, empty_passes}
 use Rattle.tree_walk.proofs.inner.transmittance.Goals as goal
 use Rattle.tree_walk.proofs.inner.transmittance.Goals.{In-Hits-2, Start}
