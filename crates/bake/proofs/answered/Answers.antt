@@ -1,6 +1,5 @@
 -- The rays so far are added; that they fit is asked.
 use mathlib.Core.Path.{refl}
-use borrow.Author.Rules.{rules}
 use Rattle.bake.proofs.answered.Goals as goal
 
 pub returns : goal.returns

@@ -2,7 +2,6 @@
 use Rattle.bake.proofs.Parts.{total_fits, refused, accepts, answers}
 use mathlib.Core.Path.{refl}
 use mathlib.Core.Bool.{false≢true}
-use borrow.Author.Rules.{rules}
 use Rattle.bake.proofs.bake.Goals as goal
 
 pub returns-then-refusal-ne0 : goal.returns-then-refusal-ne0
@@ -10,9 +9,9 @@ returns-then-refusal-ne0 c = rw c.refused.ensures (refused c.judge-refusal.ensur
 
 pub go_on-r-requires : goal.go_on-r-requires
 go_on-r-requires c = record {
-      fits = accepts c.judge-refusal.ensures c.if-refusal-ne0.false;
-      through = λ e. absurd (false≢true e);
-    }
+  fits = accepts c.judge-refusal.ensures c.if-refusal-ne0.false;
+  through = λ e. absurd (false≢true e);
+}
 
 pub answered-requires : goal.answered-requires
 answered-requires c =

@@ -1,7 +1,6 @@
 -- Where the last voxel is passed the bake is finished, elsewhere nothing is written.
 use mathlib.Core.Path.{refl, sym, ◌∙◌}
 use Rattle.words.specs.WordsLaws.{entries_length}
-use borrow.Author.Rules.{rules}
 use Rattle.bake.proofs.end.Goals as goal
 
 pub returns-then-reached-n : goal.returns-then-reached-n

@@ -6,7 +6,6 @@ use Rattle.intake.specs.Intake.{BakeInput, solid_input}
 use Rattle.bake.proofs.Parts.{total_fits, refused, accepts, answers, fits_with_hits, accepts_without, lends_none}
 use mathlib.Core.Path.{refl}
 use mathlib.Core.Bool.{false≢true}
-use borrow.Author.Rules.{rules}
 use Rattle.bake.proofs.solid_bake.Goals as goal
 use Rattle.bake.proofs.solid_bake.Goals.{Start}
 
@@ -23,10 +22,10 @@ go_on-r-requires c =
 pub answered-requires : goal.answered-requires
 answered-requires c =
     let input : BakeInput =
-        let a = c.args in
-        solid_input a.axes a.corners (scene_of a.points.now a.uses.now a.kinds.now a.numbers.now) a.light a.ambient a.sky.now a.lamps.now a.active.now a.lights.now in
+    let a = c.args in
+    solid_input a.axes a.corners (scene_of a.points.now a.uses.now a.kinds.now a.numbers.now) a.light a.ambient a.sky.now a.lamps.now a.active.now a.lights.now in
     let begun : Stage Float =
-        stage c.args.progress c.args.volume.now c.args.scratch.now in
+    stage c.args.progress c.args.volume.now c.args.scratch.now in
     let g = c.before.before.before.before.before.before in
     let l = g.before.before.before.before.before.before.before.before.before in
     let s = l.before.before.before.before.before.before.before.before.before.before.before.before.before.before.before in
@@ -35,10 +34,10 @@ answered-requires c =
 pub returns : goal.returns
 returns c =
     let input : BakeInput =
-        let a = c.args in
-        solid_input a.axes a.corners (scene_of a.points.now a.uses.now a.kinds.now a.numbers.now) a.light a.ambient a.sky.now a.lamps.now a.active.now a.lights.now in
+    let a = c.args in
+    solid_input a.axes a.corners (scene_of a.points.now a.uses.now a.kinds.now a.numbers.now) a.light a.ambient a.sky.now a.lamps.now a.active.now a.lights.now in
     let begun : Stage Float =
-        stage c.args.progress c.args.volume.now c.args.scratch.now in
+    stage c.args.progress c.args.volume.now c.args.scratch.now in
     let g = c.before.before.before.before.before.before.before in
     let l = g.before.before.before.before.before.before.before.before.before in
     let s = l.before.before.before.before.before.before.before.before.before.before.before.before.before.before.before in

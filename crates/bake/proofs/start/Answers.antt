@@ -1,7 +1,6 @@
 -- At 0 the fill, elsewhere nothing.
 use mathlib.Core.Path.{refl}
 use borrow.Author.Tests.{eq-eqb, ne_eqb}
-use borrow.Author.Rules.{rules}
 use Rattle.bake.proofs.start.Goals as goal
 
 pub returns-then-next-eq0 : goal.returns-then-next-eq0

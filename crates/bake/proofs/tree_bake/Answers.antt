@@ -2,7 +2,6 @@
 use Rattle.bake.proofs.Parts.{total_fits, refused, accepts, answers}
 use mathlib.Core.Path.{refl}
 use native.Mathlib.Omega.{arith}
-use borrow.Author.Rules.{rules}
 use Rattle.bake.proofs.tree_bake.Goals as goal
 
 pub returns-then-refusal-ne0 : goal.returns-then-refusal-ne0
