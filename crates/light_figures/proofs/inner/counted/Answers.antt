@@ -19,26 +19,22 @@ loop-i-init c = (c.none-figures.ensures ∙ nothing _, omega arith)
 
 pub units_of-units-requires : goal.units_of-units-requires
 units_of-units-requires c =
-    let s = c in
     let loop = c.loop-i in
-    rw c.f32_at.ensures (inside_at (λ k. f32_at s.args.bytes.now (s.args.at + k * 4)) s.args.n loop.i s.requires.2 c.loop-i-test.true)
+    rw c.f32_at.ensures (inside_at (λ k. f32_at c.args.bytes.now (c.args.at + k * 4)) c.args.n loop.i c.requires.2 c.loop-i-test.true)
 
 pub with_light-figures-requires : goal.with_light-figures-requires
 with_light-figures-requires c =
-    let s = c in
     let loop = c.loop-i in
-    (rw loop.invariant.0 (run_sized (λ k. f32_at s.args.bytes.now (s.args.at + k * 4)) s.args.n loop.i s.requires.2 loop.invariant.1 s.requires.1), c.units_of-units.ensures.1)
+    (rw loop.invariant.0 (run_sized (λ k. f32_at c.args.bytes.now (c.args.at + k * 4)) c.args.n loop.i c.requires.2 loop.invariant.1 c.requires.1), c.units_of-units.ensures.1)
 
 pub loop-i-preserved : goal.loop-i-preserved
 loop-i-preserved c =
-    let s = c in
     let loop = c.loop-i in
     let units = c.units_of-units.ensures.0 ∙ ap units_of c.f32_at.ensures in
-    (c.with_light-figures.ensures ∙ rw (loop.invariant.0, units) (sym (run_next (λ k. units_of (f32_at s.args.bytes.now (s.args.at + k * 4))) loop.i)), omega arith)
+    (c.with_light-figures.ensures ∙ rw (loop.invariant.0, units) (sym (run_next (λ k. units_of (f32_at c.args.bytes.now (c.args.at + k * 4))) loop.i)), omega arith)
 
 pub returns : goal.returns
 returns c =
-    let s = c in
     let loop = c.loop-i in
-    let all : loop.i ≡ s.args.n = omega arith in
-    loop.invariant.0 ∙ rw all (ap figures_of (sym (each_tab (λ k. f32_at s.args.bytes.now (s.args.at + k * 4)) s.args.n 0)))
+    let all : loop.i ≡ c.args.n = omega arith in
+    loop.invariant.0 ∙ rw all (ap figures_of (sym (each_tab (λ k. f32_at c.args.bytes.now (c.args.at + k * 4)) c.args.n 0)))

@@ -4,10 +4,9 @@ use Rattle.light_figures.proofs.Counting.{light_added}
 use Rattle.light_figures.proofs.inner.with_light.Goals as goal
 
 pub overflow_add-bands : goal.overflow_add-bands
-overflow_add-bands c = let s = c in omega (arith, s.requires.0.band c.band_of-band.result, s.requires.0.voxels)
+overflow_add-bands c = omega (arith, c.requires.0.band c.band_of-band.result, c.requires.0.voxels)
 
 pub returns : goal.returns
 returns c =
-    let s = c in
     let band_of_lem = c.band_of-band in
-    light_added s.args.figures s.args.units band_of_lem.result _ _ s.requires.0 band_of_lem.ensures.0 band_of_lem.ensures.1 c.lowest_of_both.ensures c.higher.ensures
+    light_added c.args.figures c.args.units band_of_lem.result _ _ c.requires.0 band_of_lem.ensures.0 band_of_lem.ensures.1 c.lowest_of_both.ensures c.higher.ensures

@@ -6,5 +6,4 @@ use Rattle.lookup.proofs.inner.bad_light_cells.Goals as goal
 
 pub returns : goal.returns
 unfolding bad_light_cells
-returns c = let k = c in
-    rw (k.bad_light_cell-b000.ensures, k.bad_light_cell-b100.ensures, k.bad_light_cell-b010.ensures, k.bad_light_cell-b110.ensures, k.bad_light_cell-b001.ensures, c.bad_light_cell-b101.ensures, c.bad_light_cell-b011.ensures, c.bad_light_cell-b111.ensures) (sym (some_read _ k.args.c))
+returns c = rw (c.bad_light_cell-b000.ensures, c.bad_light_cell-b100.ensures, c.bad_light_cell-b010.ensures, c.bad_light_cell-b110.ensures, c.bad_light_cell-b001.ensures, c.bad_light_cell-b101.ensures, c.bad_light_cell-b011.ensures, c.bad_light_cell-b111.ensures) (sym (some_read _ c.args.c))

@@ -6,5 +6,4 @@ use Rattle.lookup.proofs.inner.bad_volume_cells.Goals as goal
 
 pub returns : goal.returns
 unfolding bad_volume_cells
-returns c = let k = c in
-    rw (k.bad_volume_cell-b000.ensures, k.bad_volume_cell-b100.ensures, k.bad_volume_cell-b010.ensures, k.bad_volume_cell-b110.ensures, k.bad_volume_cell-b001.ensures, c.bad_volume_cell-b101.ensures, c.bad_volume_cell-b011.ensures, c.bad_volume_cell-b111.ensures) (sym (some_read _ k.args.c))
+returns c = rw (c.bad_volume_cell-b000.ensures, c.bad_volume_cell-b100.ensures, c.bad_volume_cell-b010.ensures, c.bad_volume_cell-b110.ensures, c.bad_volume_cell-b001.ensures, c.bad_volume_cell-b101.ensures, c.bad_volume_cell-b011.ensures, c.bad_volume_cell-b111.ensures) (sym (some_read _ c.args.c))

@@ -4,5 +4,4 @@ use Rattle.lookup.proofs.inner.blended.Goals as goal
 
 pub returns : goal.returns
 unfolding blended_of
-returns c = let k = c in
-    rw (c.blend.ensures, c.blend-v0.ensures, c.blend-v1.ensures, k.pair-v00.ensures, k.pair-v10.ensures, k.pair-v01.ensures, k.pair-v11.ensures)
+returns c = rw (c.blend.ensures, c.blend-v0.ensures, c.blend-v1.ensures, c.pair-v00.ensures, c.pair-v10.ensures, c.pair-v01.ensures, c.pair-v11.ensures)

@@ -5,14 +5,10 @@ use Rattle.lookup.proofs.inner.cells.Goals as goal
 
 pub returns : goal.returns
 unfolding cells_of
-returns c = let z = c.before in
-    let y = z.before.before.before.before in
-    let x = y.before.before.before.before in
-    let e = x in
-    let p = x.between-x.ensures in
-    let q = y.between-y.ensures in
-    let r = z.between-z.ensures in
+returns c = let p = c.between-x.ensures in
+    let q = c.between-y.ensures in
+    let r = c.between-z.ensures in
     record {
-      same = rw (c.cells_from.ensures, p.same, q.same, r.same, e.edges-e.ensures);
+      same = rw (c.cells_from.ensures, p.same, q.same, r.same, c.edges-e.ensures);
       inside = rw c.cells_from.ensures (cells_inside _ _ _ _ (record { x = p.cell; x' = p.next; y = q.cell; y' = q.next; z = r.cell; z' = r.next }));
     }

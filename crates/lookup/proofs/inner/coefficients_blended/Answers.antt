@@ -18,10 +18,9 @@ bounds-numbers-k c = omega arith
 
 pub loop-k-preserved : goal.loop-k-preserved
 loop-k-preserved c =
-    let k = c in
-    let a = k.args in
-    let i = k.loop-k.invariant in
-    (omega arith, simp length-set i.1, rw (length-set, c.blended.ensures) (tab_step (number_blend a.volume.now a.c) k.loop-k.numbers k.loop-k.k (omega arith) ∙ i.2))
+    let a = c.args in
+    let i = c.loop-k.invariant in
+    (omega arith, simp length-set i.1, rw (length-set, c.blended.ensures) (tab_step (number_blend a.volume.now a.c) c.loop-k.numbers c.loop-k.k (omega arith) ∙ i.2))
 
 pub returns : goal.returns
 returns c =

@@ -9,9 +9,8 @@ overflow_add-cell c = let h : c.clamp_cell-cell.result < c.args.n = rw c.clamp_c
 
 pub returns : goal.returns
 unfolding clamped_cell between_of
-returns c = let k = c in
-    record {
-      same = rw (c.clamp_cell-next.ensures, c.clamp_cell-cell.ensures, c.whole.ensures, c.floor-floor.ensures);
-      cell = rw c.clamp_cell-cell.ensures (clamped_within _ _ k.requires.0);
-      next = rw c.clamp_cell-next.ensures (clamped_within _ _ k.requires.0);
-    }
+returns c = record {
+  same = rw (c.clamp_cell-next.ensures, c.clamp_cell-cell.ensures, c.whole.ensures, c.floor-floor.ensures);
+  cell = rw c.clamp_cell-cell.ensures (clamped_within _ _ c.requires.0);
+  next = rw c.clamp_cell-next.ensures (clamped_within _ _ c.requires.0);
+}
