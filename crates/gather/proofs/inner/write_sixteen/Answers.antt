@@ -5,13 +5,11 @@ use Prim.Native.Nat.{ℕ, ◌+◌}
 use native.Mathlib.Omega.{arith}
 use lib.ListN.{length}
 use lib.Ieee.{Float}
-use borrow.Author.Rules.{rules}
 use Rattle.names.specs.Bits.{zero32}
 use Rattle.vectors.specs.declared.Vec3.{Vec3}
 use Rattle.harmonics.specs.declared.Coefficients.{Coefficients}
 use Rattle.gather.specs.Gather.{with_four, sixteen_of}
-use Rattle.gather.proofs.inner.write_sixteen.Statement.{statement}
-use Rattle.gather.proofs.inner.write_sixteen.Tie as tie
+use Rattle.gather.proofs.inner.write_sixteen.Goals as goal
 
 -- the first four of a list that has four and n more
 four : (n : ℕ) (l : List Float) → length l ≡ 4 + n
@@ -37,28 +35,8 @@ laid l c light seen h =
     let t = four 0 r.0 r.1 in
     rw (p.2 c.c0 light, q.2 c.c1 seen, r.2 c.c2 zero32, t.2 c.c3 zero32, none t.0 t.1)
 
-write-four-requires : tie.Need-write-four-requires
-write-four-requires c κs = search rules
-
-write-four-requires-2 : tie.Need-write-four-requires-2
-write-four-requires-2 c κs = search rules
-
-write-four-requires-3 : tie.Need-write-four-requires-3
-write-four-requires-3 c κs = search rules
-
-write-four-requires-4 : tie.Need-write-four-requires-4
-write-four-requires-4 c κs = search rules
-
-same_length : tie.Need-same-length
-same_length c = search rules
-
-returns : tie.Need-returns
+pub returns : goal.returns
 returns c =
-    let s = c.before.before.before.before.before.before.before.before.before.before.before.before.before.before.before.before.before in
-    rw (c.before.before.write-four4.ensures, c.before.before.before.before.before.before.write-four3.ensures, c.before.before.before.before.before.before.before.before.before.before.write-four2.ensures, c.before.before.before.before.before.before.before.before.before.before.before.before.before.before.write-four.ensures)
+    let s = c in
+    rw (c.write_four-4.ensures, c.write_four-3.ensures, c.write_four-2.ensures, c.write_four.ensures)
     (laid _ s.args.coefficients s.args.light s.args.seen s.requires)
-
-pub write_sixteen_spec : {M : Type 1} → statement M
-write_sixteen_spec =
-    tie.close
-    (tie.spec write-four-requires write-four-requires-2 write-four-requires-3 write-four-requires-4 same_length returns)
