@@ -1,6 +1,6 @@
 -- The contract leaves one answer; which row refuses; a refusal and a finished bake fire no ray and leave all as it was; and what record an accepted call is
 -- handed and answers.
-use Rattle.std.specs.Prelude.{◌≡◌, refl, false, List, [], ℕ, zero, suc, ◌≤◌, eqb, length, Float}
+use Rattle.std.specs.Prelude.{◌≡◌, refl, false, List, [], ℕ, zero, suc, ◌≤◌, length, Float}
 use Rattle.std.proofs.Common.{sym, ap, ◌∙◌, arith, eq-eqb}
 use Rattle.names.specs.Refusals.{RefusedBy, refused_by}
 use Rattle.names.specs.Scene.{other_kind}

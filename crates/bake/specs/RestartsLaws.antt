@@ -1,7 +1,7 @@
 -- Results of calls on one desk or another do what is demanded of restarts. Refused or not, a call leaves a record that row 9 passes; an accepted one carries on
 -- what any desk's would.
 use Rattle.std.specs.Prelude.{◌≡◌, refl, Bool, true, false, cond, take, Float}
-use Rattle.std.proofs.Common.{sym, ap, ap₂, ◌∙◌, ne_eqb}
+use Rattle.std.proofs.Common.{sym, ap, ◌∙◌, ne_eqb}
 use Rattle.std.proofs.lemmas.Bool.{false≢true}
 use mathlib.Core.List.{List, [], ◌∷◌}
 use Prim.Native.Nat.{ℕ, zero, suc, ◌+◌, ◌<◌}

@@ -1,6 +1,6 @@
 -- Results of successive calls do what demand 3 asks. They are `run` of the bake, since the hit lists keep their lengths, so that every call has the first
 -- one's input; and of `run` it is shown.
-use Rattle.std.specs.Prelude.{◌≡◌, ◌⊎◌, ℕ, ◌+◌, ◌-◌, ◌≤◌, ◌<◌, length, Float}
+use Rattle.std.specs.Prelude.{◌≡◌, ℕ, ◌+◌, ◌-◌, ◌≤◌, ◌<◌, length, Float}
 use Rattle.std.proofs.Math.Path.{refl, ap}
 use Rattle.std.proofs.Common.{sym, ap₂, ◌∙◌, subst, inl, inr, ⊎_elim, arith, zero-add, eq-or-lt_of_le}
 use mathlib.Core.List.{List, [], ◌∷◌, map}

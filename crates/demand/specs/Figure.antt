@@ -1,7 +1,7 @@
 -- Document 01's figure: 3×1×1 all active, no triangles: allowance 384 takes three calls of 64 rays; 448 takes two, 128 then 64; 383 is refused 10.
 -- With one lamp the same 64 higher. At the end 192 rays are known. What the rays come to follows from the costs alone, so the figures are read off the bare bake of three voxels of
 -- 64 rays each.
-use Rattle.std.specs.Prelude.{◌≡◌, true, false, List, [], ◌∷◌, ℕ, zero, suc, ◌≤◌, ◌<◌, get_or, Float}
+use Rattle.std.specs.Prelude.{◌≡◌, true, List, [], ◌∷◌, ℕ, zero, suc, ◌≤◌, ◌<◌, get_or, Float}
 use Rattle.std.proofs.Math.Path.{refl}
 use Rattle.std.proofs.Common.{ap, ap₂, ◌∙◌, arith, lit≤}
 use Rattle.std.proofs.lemmas.Bool.{false≢true}

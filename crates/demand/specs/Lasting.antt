@@ -1,7 +1,7 @@
 -- "no call refused" is no empty hope: after an accepted call the next, with the same input and an allowance for one voxel, is not refused. What the
 -- fill and the gather write lies within ±2^96, the lists keep their lengths, the answered progress knows its rays, and a finished bake's volume is not
 -- tested.
-use Rattle.std.specs.Prelude.{◌≡◌, Bool, cond, ◌⊎◌, ltb, length, get_or, take, drop, Float}
+use Rattle.std.specs.Prelude.{◌≡◌, Bool, cond, ltb, length, get_or, take, drop, Float}
 use Rattle.std.proofs.Math.Path.{refl}
 use Rattle.std.proofs.Common.{sym, ◌∙◌, arith, eq-or-lt_of_le, lit≤, eq-eqb, ne_eqb, lt-ltb, le-ltb}
 use Rattle.std.proofs.Math.Bool.{true, false, and-false}

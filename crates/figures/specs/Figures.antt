@@ -14,7 +14,6 @@ use Rattle.floats.specs.Choice.{magnitude_of, larger_of, smaller_of}
 use Rattle.floats.specs.Whole.{toward}
 use Rattle.floats.specs.Root.{root_of}
 use Rattle.vectors.specs.Vectors.{vec, add_v, sub_v, scale_v, dot_v, cross_v, length_v}
-use Rattle.vectors.specs.declared.Vec3.{Vec3}
 use Rattle.vectors.specs.declared.Ray.{Ray}
 use Rattle.vectors.specs.declared.Triangle.{Triangle}
 use Rattle.grid.specs.declared.Axes.{Axes}

@@ -1,7 +1,7 @@
 -- "L=0 gives every old bit": document 01's gather alone, without lamps, and that a voxel baked with no lamp has its numbers and its rays.
 use Rattle.std.specs.Prelude.{◌≡◌, get_or, Float}
 use Rattle.std.proofs.Math.Path.{refl, ap}
-use Rattle.std.proofs.Common.{sym, ◌∙◌}
+use Rattle.std.proofs.Common.{◌∙◌}
 use mathlib.Core.List.{List, []}
 use Prim.Native.Nat.{ℕ, zero, suc, ◌+◌, ◌*◌}
 use Rattle.std.specs.Float.{nan}

@@ -1,9 +1,8 @@
 -- What gather writes stays within ±2^96, where the rows of the public call have passed: so a resumed call is never refused for it. A ray
 -- brings at most 10 · 2^79, so that 64 of them sum to at most 1280 · 2^79 in each coefficient; irradiance at most doubles that, and the floor
 -- at most doubles it again.
-use Rattle.std.specs.Prelude.{◌≡◌, Bool, true, false, ◌&&◌, ◌||◌, List, [], ◌∷◌, length, get_or, Float}
+use Rattle.std.specs.Prelude.{◌≡◌, true, false, ◌||◌, List, [], ◌∷◌, length, get_or, Float}
 use Rattle.std.proofs.Math.Path.{refl}
-use Rattle.std.proofs.lemmas.Bool.{false≢true}
 use Rattle.std.proofs.Math.Bool.{and-eq-true_iff}
 use Prim.Native.Nat.{ℕ, zero, suc, ◌+◌, ◌*◌, ◌/◌, ◌%◌, ◌<◌, ◌≤◌}
 use Rattle.std.proofs.Common.{le_of_lt, le_trans, mul-le-mul_right, add-zero, lit<, lit≤}

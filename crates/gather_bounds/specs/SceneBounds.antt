@@ -92,7 +92,7 @@ module _ (s : Scene) (m : Modest s) where
   pass_small w [] h b = h
   pass_small w (i ∷ is) h b =
       let x = mul_at_most w (transmission_at s.uses s.numbers i) 1 0 1 0 (lit< tt) (lit< tt) h (transmission_small i b.0) in
-      go (stops_light (kind_at s.uses s.kinds i)) (Ieee.le (Ieee.mul binary32 w (transmission_at s.uses s.numbers i)) faint_limit) _ (pass_small _ is x b.1)
+      go (stops_light (kind_at s.uses s.kinds i)) (Ieee.le (Ieee.mul binary32 w (transmission_at s.uses s.numbers i)) faint_limit) _ (pass_small (Ieee.mul binary32 w (transmission_at s.uses s.numbers i)) is x b.1)
     where
       go : (p q : Bool) (r : Float) → AtMost 1 0 r → AtMost 1 0 (cond p zero32 (cond q zero32 r))
       go true q r k = zero_at_most 1 0
