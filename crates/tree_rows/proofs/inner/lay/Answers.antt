@@ -12,7 +12,7 @@ use Rattle.tree.specs.SumLaws.{positive}
 use Rattle.tree_walk.specs.Turned.{Turned}
 use Rattle.tree_rows.specs.Rows.{Rowed}
 use Rattle.tree_rows.specs.Layout.{with_rows, with_tree}
-use Rattle.tree_rows.specs.RowsLaws.{root_boxes, boxes_small, accepted_lays, tree_rowed}
+use Rattle.tree_rows.proofs.RowsLaws.{root_boxes, boxes_small, accepted_lays, tree_rowed}
 use Rattle.tree_rows.proofs.inner.lay.Goals as goal
 
 module _ (points boxes : List Float) (nodes order : List ℕ) (t : AcceptedTree points boxes nodes order) (small : length points ≤ triangle_limit * 9) (rows : List Float) (long : triangle_limit * 27 ≤ length rows)
