@@ -41,7 +41,7 @@ use Rattle.lookup.specs.Lookup.{bad_light_cells, light_at_of}
 use Rattle.spread.specs.Spread.{run}
 use Rattle.intake.specs.Three.{three, begun}
 use Rattle.demand.specs.Bake.{bake_of}
-use Rattle.demand.specs.Figure.{figure_384, figure_448, figure_383}
+use Rattle.demand.proofs.Figure.{figure_384, figure_448, figure_383}
 
 -- the bits of floats
 abbrev pub bits : List Float → List ℕ

@@ -28,7 +28,7 @@ use Rattle.intake.specs.Intake.{BakeInput, input_for, voxel_numbers, voxel_count
 use Rattle.intake.specs.IntakeLaws.{BakePassed, progress_row, good_at_zero, fits, none_refused}
 use Rattle.demand.specs.Bake.{bake_of, bake_call}
 use Rattle.demand.specs.Calls.{answers_refusal}
-use Rattle.demand.specs.Demanded.{good_knows, bake_fair, bake_demand}
+use Rattle.demand.proofs.Demanded.{good_knows, bake_fair, bake_demand}
 use Rattle.bake.specs.Baked.{Baked}
 use Rattle.bake.specs.GoesOn.{accepted_unblurred, never_refused}
 use Rattle.bake.specs.Results.{Result, handed_on, lending, Successive, allowances_of, refusals_of, reported_by, rays_below, DemandOfResults}
