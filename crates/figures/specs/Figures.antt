@@ -165,33 +165,8 @@ bakes =
     ∷ figure (bake_answers (383 ∷ [])) (10 ∷ 0 ∷ 0 ∷ 0 ∷ [])
     ∷ []
 
-abbrev answers : List Figure → List (List ℕ)
+abbrev pub answers : List Figure → List (List ℕ)
 answers l = map (λ (f : Figure). f.answer) l
 
-abbrev givens : List Figure → List (List ℕ)
+abbrev pub givens : List Figure → List (List ℕ)
 givens l = map (λ (f : Figure). f.given) l
-
-computed_figures : answers computed ≡ givens computed
-unfolding computed meet_answer passing sampled masked blur_answer looked triangle_q points_q down_from stacked sheets up_to_corner first_of unless_refused fold tab any magnitude_of larger_of smaller_of toward root_of add_v sub_v scale_v dot_v cross_v length_v edges_of within up_to outside_v bad_axes bad_corners bad_edges wrong_share wrong_scene too_many bad_points bad_triangle bad_kinds bad_from bad_uses bad_materials bad_ray bad_lights some absent_of solved_of front_of judged_of meet_of triangle_at counts stops_light counted_of met_at met_by before insert_of with_meet hits_of pass_of transmittance_of meet_refusal values_of_test meet_values wrong_scratch transmittance_refusal light_blur_of square_at mean_at mean_in around along wrong_blur_lists light_blur_refusal smallest_edge_of density_of count_of side_from side_of share_of point_of cell_on index_within cell_of sample_cell sampled_in touches occupied_in occupied_entry occupied_of active_in active_entry active_of marked_count packed words_of wrong_masks masks_refusal clamped clamped_cell between_of cells_from cells_of blend_of blended_of bad_light_cells light_at_of Ieee.of_bits Ieee.of_fields Ieee.odd Ieee.to_bits Ieee.neg Ieee.le Ieee.lt Ieee.eq Ieee.is_nan Ieee.add Ieee.sub Ieee.mul Ieee.div Ieee.of_int Ieee.to_unsigned Ieee.round Ieee.sum Ieee.units Ieee.size Ieee.span Ieee.climb not_accepted
-computed_figures = refl
-
-bake_figures : answers bakes ≡ givens bakes
-unfolding bakes bake_answers
-bake_figures =
-    rw (
-      figure_384.0,
-      figure_384.1,
-      figure_384.2,
-      figure_448.0,
-      figure_448.1,
-      figure_448.2,
-      figure_383.0,
-      figure_383.1,
-      figure_383.2,
-    )
-    refl
-
--- every answer is the one given
-pub figures : answers (computed ++ bakes) ≡ givens (computed ++ bakes)
-unfolding computed bakes
-figures = ap₂ (λ (a b : List (List ℕ)). a ++ b) computed_figures bake_figures
