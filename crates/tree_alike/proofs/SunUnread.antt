@@ -1,19 +1,17 @@
 -- The sun's light and what its scratch list holds do not read a tree's lists, since no figure of the sun's does (specs/SunUnread.antt).
 use Rattle.std.specs.Prelude.{◌≡◌, Bool, Float}
-use Rattle.std.proofs.Math.Path.{refl, ap, fun_ext}
+use Rattle.std.proofs.Math.Path.{ap, fun_ext}
 use Rattle.std.proofs.Math.Bool.{cond}
 use mathlib.Core.List.{List}
 use Prim.Native.Nat.{ℕ}
 use Rattle.names.specs.Scene.{Scene, scene_for}
 use Rattle.lists.specs.Fold.{tab}
-use Rattle.vectors.specs.Vectors.{normal_v}
 use Rattle.vectors.specs.declared.Vec3.{Vec3}
-use Rattle.grid.specs.Grid.{voxels, x_of, y_of, z_of, edges_of, centre_from}
+use Rattle.grid.specs.Grid.{voxels}
 use Rattle.grid.specs.declared.Axes.{Axes}
 use Rattle.grid.specs.declared.Corners.{Corners}
 use Rattle.means.specs.Box.{light_blur_of}
-use Rattle.tracing.specs.UnreadLaws.{transmittance_unread}
-use Rattle.sun.specs.Sun.{ahead_of, sun_ray, figure_of, sun_at, sun_before, none_active, all_ones, sun_light, sun_scratch}
+use Rattle.sun.specs.Sun.{sun_before, none_active, all_ones, sun_light, sun_scratch}
 use Rattle.tree_alike.specs.SunUnread.{figure_unread}
 
 module _ (boxed : Bool) (points : List Float) (uses kinds : List ℕ) (numbers boxes boxes' : List Float) (nodes order nodes' order' : List ℕ) (axes : Axes) (corners : Corners) (direction : Vec3)
