@@ -1,4 +1,4 @@
-//! Links libgeaidnosa.a: from GEAIDNOSA_LIB (the file, or the folder that has it), else from the repository's target/staticlib.
+//! Links libgeaidnosa.a: from GEAIDNOSA_LIB (the file, or the folder that has it), else from the repository's crates/geaidnosa/out.
 use std::{env, path::PathBuf, process::exit};
 
 fn main() {
@@ -8,13 +8,13 @@ fn main() {
         exit(1);
     }
     let here = PathBuf::from(env::var("CARGO_MANIFEST_DIR").expect("cargo sets it"));
-    let named = env::var_os("GEAIDNOSA_LIB").map_or_else(|| here.join("../target/staticlib"), PathBuf::from);
+    let named = env::var_os("GEAIDNOSA_LIB").map_or_else(|| here.join("../crates/geaidnosa/out"), PathBuf::from);
     let archive = if named.is_dir() { named.join("libgeaidnosa.a") } else { named };
     println!("cargo:rerun-if-changed={}", archive.display());
     let named_right = archive.file_name().map_or(false, |name| name == "libgeaidnosa.a");
     if !archive.is_file() || !named_right {
         eprintln!("geaidnosa: no libgeaidnosa.a at {}.", archive.display());
-        eprintln!("Make it with `rt staticlib geaidnosa` in the repository's folder, or set GEAIDNOSA_LIB to the folder that has it.");
+        eprintln!("Make it with `rt lib` in the repository's crates/geaidnosa, or set GEAIDNOSA_LIB to the folder that has it.");
         exit(1);
     }
     let folder = archive.parent().expect("a file has a folder").canonicalize().expect("the archive's folder");
