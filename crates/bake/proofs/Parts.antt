@@ -26,7 +26,7 @@ use Rattle.intake.specs.IntakeLaws.{Fits, fits, none_refused}
 use Rattle.walk.specs.declared.Reached.{Reached}
 use Rattle.demand.specs.Bake.{bake_of, bake_call}
 use Rattle.demand.specs.Calls.{refused_call, accepted_call, accepted_none}
-use Rattle.demand.specs.Lasting.{call_leaves}
+use Rattle.demand.proofs.Lasting.{call_leaves}
 use Rattle.walk.specs.Reports.{Walkable, Reports, Accepts}
 use Rattle.bake.specs.declared.BakeAnswer.{BakeAnswer}
 use Rattle.bake.specs.Baked.{Baked, SolidBaked, Ends}

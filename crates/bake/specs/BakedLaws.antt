@@ -11,7 +11,7 @@ use Rattle.intake.specs.Intake.{BakeInput, solid_of, voxel_count, triangle_count
 use Rattle.intake.specs.IntakeLaws.{fits, none_refused, bake_refusal_same}
 use Rattle.demand.specs.Bake.{bake_of, bake_call}
 use Rattle.demand.specs.Calls.{refused_call, accepted_call, answers_refusal}
-use Rattle.demand.specs.Lasting.{call_leaves}
+use Rattle.demand.proofs.Lasting.{call_leaves}
 use Rattle.bake.specs.declared.BakeAnswer.{BakeAnswer}
 use Rattle.bake.specs.Baked.{Baked, SolidBaked}
 

@@ -16,8 +16,8 @@ use Rattle.gather_bounds.specs.GatherBounds.{Rows, gathered_within}
 use Rattle.intake.specs.Intake.{BakeInput, voxel_count, bake_cost, wrong_bake_lists, bad_lighting, bad_contents, bake_refusal}
 use Rattle.intake.specs.IntakeLaws.{BakePassed, fits, none_refused, still_passed}
 use Rattle.demand.specs.Bake.{gather_input, bake_of}
-use Rattle.demand.specs.Demanded.{bake_fair, bake_demand}
-use Rattle.demand.specs.Lasting.{GathersWithin, unblurred_good, bake_lasts}
+use Rattle.demand.proofs.Demanded.{bake_fair, bake_demand}
+use Rattle.demand.proofs.Lasting.{GathersWithin, unblurred_good, bake_lasts}
 
 -- what the rows of an accepted input say of what is gathered
 pub gather_rows : (b : BakeInput) (s : Stage Float) (a : ℕ) → BakePassed b s a → Rows (gather_input b)

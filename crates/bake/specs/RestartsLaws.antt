@@ -18,8 +18,8 @@ use Rattle.intake.specs.Intake.{BakeInput, voxel_count, bake_rows, bake_refusal,
 use Rattle.intake.specs.IntakeLaws.{progress_row, good_at_zero, zero_at_zero, fits, none_refused}
 use Rattle.demand.specs.Bake.{gather_input, bake_of, bake_call}
 use Rattle.demand.specs.Calls.{refused_call, answers_refusal}
-use Rattle.demand.specs.Demanded.{bake_fair}
-use Rattle.demand.specs.Lasting.{call_leaves}
+use Rattle.demand.proofs.Demanded.{bake_fair}
+use Rattle.demand.proofs.Lasting.{call_leaves}
 use Rattle.bake.specs.Results.{Result, lending_for, refusals_of, reported_by}
 use Rattle.bake.specs.Restarts.{CalledFrom, Restarted, record_after, volume_after, NoneIs, DemandOfRestarts}
 

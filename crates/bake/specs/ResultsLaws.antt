@@ -9,13 +9,13 @@ use Rattle.spread.specs.declared.Progress.{Progress}
 use Rattle.spread.specs.Spread.{at_zero, Stage, stage, Called, Ran, then, actives, costs, stands, run, sum, EachAtLeast, NoneRefused}
 use Rattle.spread.specs.Demand.{Demand}
 use Rattle.spread.proofs.Walks.{call_adds, actives_split, costs_split, costs_least, costs_most}
-use Rattle.gather.specs.CostLaws.{cost_counted}
+use Rattle.gather.proofs.CostLaws.{cost_counted}
 use Rattle.intake.specs.Intake.{BakeInput, input_for, solid_of, voxel_count, bake_cost, bake_refusal}
 use Rattle.intake.specs.IntakeLaws.{zero_at_zero, fits, none_refused}
 use Rattle.demand.specs.Bake.{gather_input, bake_of, bake_call}
 use Rattle.demand.specs.Calls.{answers_refusal}
-use Rattle.demand.specs.Demanded.{bake_fair, bake_demand}
-use Rattle.demand.specs.Lasting.{call_leaves}
+use Rattle.demand.proofs.Demanded.{bake_fair, bake_demand}
+use Rattle.demand.proofs.Lasting.{call_leaves}
 use Rattle.bake.specs.Baked.{Baked}
 use Rattle.bake.specs.Results.{Result, handed_on, lending, Successive, SolidResult, SolidSuccessive, result_of, left_by, allowances_of, refusals_of, reported_by, OneCall, EachCall, EachKnows, DemandOfResults}
 use Rattle.bake.specs.GoesOn.{never_refused}

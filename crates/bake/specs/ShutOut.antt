@@ -18,8 +18,8 @@ use Rattle.ends.specs.Ends.{ambient_voxel, ambient_at}
 use Rattle.gather.specs.Gather.{gathered_of}
 use Rattle.intake.specs.Three.{three, begun, three_accepted}
 use Rattle.demand.specs.Bake.{gather_input, bake_of}
-use Rattle.demand.specs.Demanded.{bake_demand}
-use Rattle.demand.specs.Figure.{figure_first, gathered_differs}
+use Rattle.demand.proofs.Demanded.{bake_demand}
+use Rattle.demand.proofs.Figure.{figure_first, gathered_differs}
 use Rattle.bake.specs.declared.BakeAnswer.{BakeAnswer}
 use Rattle.bake.specs.Baked.{Baked}
 

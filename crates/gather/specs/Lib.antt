@@ -2,5 +2,4 @@
 pub mod Gather
 pub mod Cost
 pub mod GatherLaws
-pub mod CostLaws
 pub mod BaseLaws

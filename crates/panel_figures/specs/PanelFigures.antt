@@ -11,7 +11,6 @@ use Rattle.lists.specs.Some.{some}
 use Rattle.floats.specs.Choice.{magnitude_of}
 use Rattle.vectors.specs.Vectors.{vec, sub_v, dot_v, cross_v}
 use Rattle.vectors.specs.declared.Ray.{Ray}
-use Rattle.vectors.specs.declared.Triangle.{Triangle}
 use Rattle.limits.specs.Limits.{within, up_to, outside_v, wrong_share, wrong_scene, too_many, bad_points, bad_triangle, bad_kinds, bad_from, bad_uses, bad_materials, bad_ray}
 use Rattle.tree.specs.Trees.{not_accepted}
 use Rattle.triangle.specs.Meet.{absent_of, solved_of, front_of, judged_of, meet_of}

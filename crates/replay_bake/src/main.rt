@@ -5,8 +5,8 @@
 
 use bake::BakeAnswer;
 use replay::Tally;
-use std::io;
 use spread::Progress;
+use std::io;
 
 // Where the lists begin: points, uses, kinds, numbers, sky, lamps, active, light, volume, scratch, distances, places, and of a tree boxes,
 // nodes, order.

@@ -1,6 +1,5 @@
 -- What an accepted call writes before the blur lies from 0 to 1.
 use Rattle.std.specs.Prelude.{◌≡◌, refl, Bool, true, false, List, ℕ, ◌<◌, get_or}
-use Rattle.std.proofs.Common.{arith}
 use Rattle.std.specs.Float.{nan}
 use Rattle.names.specs.Bits.{one32}
 use Rattle.names.specs.Scene.{Scene}

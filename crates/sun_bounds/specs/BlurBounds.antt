@@ -1,5 +1,5 @@
 -- The light's blur of numbers within ±1 stays within ±1: the sum of as many numbers as are counted is at most the count, so the mean is at most 1.
-use Rattle.std.specs.Prelude.{◌≡◌, List, ℕ, zero, suc, ◌+◌, ◌-◌, ◌*◌, ◌^◌, ◌≤◌, ◌<◌, length, get_or, Float}
+use Rattle.std.specs.Prelude.{◌≡◌, List, ℕ, zero, suc, ◌+◌, ◌*◌, ◌^◌, ◌≤◌, ◌<◌, length, get_or, Float}
 use Rattle.std.proofs.Common.{sym, ap, suc-mul, zero-mul, div-one, lt_of_le_of_lt, arith, lit<}
 use Rattle.std.proofs.Math.Nat.{min-le_left, min-le_right, le-min, mul-pos, mul-le-mul, mul-one, one-mul, zero-add, mod-one}
 use Rattle.std.specs.Float.{nan}

@@ -1,6 +1,6 @@
 -- Between solid walls a voxel sees the whole sun or none of it: before the blur each figure of an accepted call is 1.0 or 0.
-use Rattle.std.specs.Prelude.{◌≡◌, refl, Bool, true, false, ◌⊎◌, List, ℕ, ◌<◌, length, get_or}
-use Rattle.std.proofs.Common.{◌∙◌, inl, inr}
+use Rattle.std.specs.Prelude.{◌≡◌, refl, Bool, true, false, ◌⊎◌, List, ℕ, ◌<◌, get_or}
+use Rattle.std.proofs.Common.{inl, inr}
 use Rattle.std.specs.Float.{nan}
 use Rattle.names.specs.Bits.{zero32, one32}
 use Rattle.names.specs.Passed.{passed}

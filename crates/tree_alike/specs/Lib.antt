@@ -4,5 +4,4 @@ pub mod GatherUnread
 pub mod BakeUnread
 pub mod RefusalsAlike
 pub mod TreesRays
-pub mod TreesSun
 pub mod TreesBake

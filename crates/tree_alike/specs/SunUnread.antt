@@ -1,19 +1,16 @@
--- The sun's figures, its light and what its scratch list holds do not read a tree's lists: each is the same function of what the scans give.
+-- The sun's figures do not read a tree's lists: each is the same function of what the scans give. So do its light and what its scratch list holds (proofs/SunUnread.antt).
 use Rattle.std.specs.Prelude.{◌≡◌, Bool, Float}
-use Rattle.std.proofs.Math.Path.{refl, ap, fun_ext}
-use Rattle.std.proofs.Math.Bool.{cond}
+use Rattle.std.proofs.Math.Path.{refl}
 use mathlib.Core.List.{List}
 use Prim.Native.Nat.{ℕ}
 use Rattle.names.specs.Scene.{Scene, scene_for}
-use Rattle.lists.specs.Fold.{tab}
 use Rattle.vectors.specs.Vectors.{normal_v}
 use Rattle.vectors.specs.declared.Vec3.{Vec3}
-use Rattle.grid.specs.Grid.{voxels, x_of, y_of, z_of, edges_of, centre_from}
+use Rattle.grid.specs.Grid.{x_of, y_of, z_of, edges_of, centre_from}
 use Rattle.grid.specs.declared.Axes.{Axes}
 use Rattle.grid.specs.declared.Corners.{Corners}
-use Rattle.means.specs.Box.{light_blur_of}
 use Rattle.tracing.specs.UnreadLaws.{transmittance_unread}
-use Rattle.sun.specs.Sun.{ahead_of, sun_ray, figure_of, sun_at, sun_before, none_active, all_ones, sun_light, sun_scratch}
+use Rattle.sun.specs.Sun.{ahead_of, sun_ray, figure_of, sun_at}
 
 module _ (boxed : Bool) (points : List Float) (uses kinds : List ℕ) (numbers boxes boxes' : List Float) (nodes order nodes' order' : List ℕ) (axes : Axes) (corners : Corners) (direction : Vec3)
     (active : List ℕ) where
@@ -29,17 +26,3 @@ module _ (boxed : Bool) (points : List Float) (uses kinds : List ℕ) (numbers b
   figure_unread i =
       rw (transmittance_unread boxed points uses kinds numbers boxes boxes' nodes order nodes' order' (sun_ray (normal_v direction) (ahead_of (edges_of corners axes)) (centre_from corners.min (edges_of corners axes) (x_of axes i) (y_of axes i) (z_of axes i))))
       refl
-
-  -- and all of them, before the blur
-  pub before_unread : sun_before axes corners one direction active ≡ sun_before axes corners other direction active
-  unfolding sun_before
-  before_unread = ap (λ (f : ℕ → Float). tab f (voxels axes) 0) (fun_ext figure_unread)
-
-  -- the light after it, and scratch
-  pub light_unread : sun_light axes corners one direction active ≡ sun_light axes corners other direction active
-  unfolding sun_light
-  light_unread = ap (λ (l : List Float). cond (none_active active) (all_ones axes) (light_blur_of l axes.width axes.height axes.depth)) before_unread
-
-  pub scratch_unread : (scratch : List Float) → sun_scratch axes corners one direction active scratch ≡ sun_scratch axes corners other direction active scratch
-  unfolding sun_scratch
-  scratch_unread scratch = ap (λ (l : List Float). cond (none_active active) scratch l) before_unread

@@ -1,6 +1,6 @@
 -- Results of public calls over shares do what is demanded. Each share's calls end as the unbroken bake over its voxels, of which the joins take the unblurred
 -- volumes; these joined are the whole bake's (crate shares). No join and no blur is refused, since what an accepted bake writes lies within ±2^96.
-use Rattle.std.specs.Prelude.{◌≡◌, Bool, true, false, not, ◌||◌, ℕ, zero, suc, ◌+◌, ◌-◌, ◌*◌, ◌/◌, ◌≤◌, length, Float}
+use Rattle.std.specs.Prelude.{◌≡◌, Bool, true, false, not, ◌||◌, ℕ, zero, suc, ◌+◌, ◌-◌, ◌*◌, ◌≤◌, length, Float}
 use Rattle.std.proofs.Math.Path.{refl, ap, ap₂}
 use Rattle.std.proofs.Common.{sym, ◌∙◌, suc-mul, le-div_iff_mul-le, eq-eqb}
 use Rattle.std.proofs.Math.Bool.{cond}
@@ -28,12 +28,12 @@ use Rattle.intake.specs.Intake.{BakeInput, input_for, voxel_numbers, voxel_count
 use Rattle.intake.specs.IntakeLaws.{BakePassed, progress_row, good_at_zero, fits, none_refused}
 use Rattle.demand.specs.Bake.{bake_of, bake_call}
 use Rattle.demand.specs.Calls.{answers_refusal}
-use Rattle.demand.specs.Demanded.{good_knows, bake_fair, bake_demand}
+use Rattle.demand.proofs.Demanded.{good_knows, bake_fair, bake_demand}
 use Rattle.bake.specs.Baked.{Baked}
 use Rattle.bake.specs.GoesOn.{accepted_unblurred, never_refused}
 use Rattle.bake.specs.Results.{Result, handed_on, lending, Successive, allowances_of, refusals_of, reported_by, rays_below, DemandOfResults}
 use Rattle.bake.specs.ResultsLaws.{demand_of_results}
-use Rattle.shared_bake.specs.SharedBake.{sharing_for, sharing, ShareBake, calls_of, end_of, BakedToEnd, EachBaked, has_voxel, as_share, unblurred_of, JoinedShare, JoinedOnto, last_joined, shares_of, Shared, all_joined, all_known, some_active, EndsUnbroken, DemandOfShares, AsOne, Halves, Brought, by_calls, by_join}
+use Rattle.shared_bake.specs.SharedBake.{sharing_for, sharing, ShareBake, calls_of, end_of, BakedToEnd, EachBaked, has_voxel, as_share, unblurred_of, JoinedShare, JoinedOnto, last_joined, shares_of, Shared, all_joined, all_known, some_active, EndsUnbroken, DemandOfShares, AsOne, Brought, by_calls, by_join}
 
 -- the sum of one number
 alone : (n : ℕ) → sum (n ∷ []) ≡ n

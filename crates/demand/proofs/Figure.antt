@@ -19,7 +19,7 @@ use Rattle.floats.specs.Choice.{larger_of, smaller_of}
 use Rattle.scan.specs.Nearest.{nearest_of, nearest_to}
 use Rattle.harmonics.specs.Harmonics.{added_to, irradiance_of, raised_of, raised_v, floored_of, luminance_of, shortfall_of, blended_each, blended_v}
 use Rattle.gather.specs.Gather.{setting_of, incoming_by, gathered_along, gathering_of, voxel_of, finished_of, sixteen_of, gathered_of}
-use Rattle.gather.specs.CostLaws.{cost_of_nothing}
+use Rattle.gather.proofs.CostLaws.{cost_of_nothing}
 use Rattle.names.specs.Bits.{one32}
 use Rattle.marks.specs.Marks.{is_marked}
 use Rattle.words.specs.Words.{entries_of}
@@ -31,8 +31,8 @@ use Rattle.intake.specs.IntakeLaws.{fits, none_refused, still_passed}
 use Rattle.intake.specs.Three.{three_with, three, one_lamp, three_lit, begun, three_accepted, lit_accepted}
 use Rattle.demand.specs.Bake.{gather_input, bake_of}
 use Rattle.demand.specs.Calls.{refused_call}
-use Rattle.demand.specs.Demanded.{bake_fair, bake_demand}
-use Rattle.demand.specs.Lasting.{GathersWithin, bake_lasts}
+use Rattle.demand.proofs.Demanded.{bake_fair, bake_demand}
+use Rattle.demand.proofs.Lasting.{GathersWithin, bake_lasts}
 
 -- ---- no call is refused
 

@@ -13,7 +13,7 @@ use Rattle.tree.specs.Tree.{AcceptedTree}
 use Rattle.sun.specs.declared.Sunned.{Sunned}
 use Rattle.sun.specs.Sun.{TreeSunAnswered}
 use Rattle.sun.specs.SunLaws.{SameSun, sun_answered_once, sun_ready}
-use Rattle.tree_alike.specs.SunUnread.{light_unread, scratch_unread}
+use Rattle.tree_alike.proofs.SunUnread.{light_unread, scratch_unread}
 use Rattle.tree_alike.specs.RefusalsAlike.{sun_refusals_alike}
 
 module _ (axes : Axes) (corners : Corners) (points : List Float) (uses kinds : List ℕ) (numbers : List Float) (direction : Vec3) (active : List ℕ) (light scratch distances : List Float)

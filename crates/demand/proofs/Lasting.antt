@@ -34,7 +34,7 @@ use Rattle.intake.specs.Intake.{BakeInput, voxel_numbers, voxel_count, bad_light
 use Rattle.intake.specs.IntakeLaws.{BakePassed, Fits, fits, none_refused, still_passed}
 use Rattle.demand.specs.Bake.{gather_input, bake_of, bake_call}
 use Rattle.demand.specs.Calls.{accepted_call, answers_refusal}
-use Rattle.demand.specs.Demanded.{good_knows, bake_demand}
+use Rattle.demand.proofs.Demanded.{good_knows, bake_demand}
 
 -- ---- tests of a list whose parts are known
 

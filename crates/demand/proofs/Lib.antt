@@ -1,0 +1,3 @@
+pub mod Demanded
+pub mod Lasting
+pub mod Figure

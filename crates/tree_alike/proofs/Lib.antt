@@ -1,0 +1,2 @@
+pub mod SunUnread
+pub mod TreesSun
