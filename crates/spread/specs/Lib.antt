@@ -2,3 +2,4 @@
 pub mod Spread
 pub mod Demand
 pub mod Refusing
+pub mod Bare
