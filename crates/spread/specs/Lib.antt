@@ -3,3 +3,4 @@ pub mod Spread
 pub mod Demand
 pub mod Refusing
 pub mod Bare
+pub mod Carried
