@@ -17,7 +17,8 @@ use Rattle.intake.specs.Intake.{BakeInput, voxel_count, bake_cost, wrong_bake_li
 use Rattle.intake.specs.IntakeLaws.{BakePassed, fits, none_refused, still_passed}
 use Rattle.demand.specs.Bake.{gather_input, bake_of}
 use Rattle.demand.proofs.Demanded.{bake_fair, bake_demand}
-use Rattle.demand.proofs.Lasting.{GathersWithin, unblurred_good, bake_lasts}
+use Rattle.demand.specs.Lasting.{GathersWithin}
+use Rattle.demand.proofs.Lasting.{unblurred_good, bake_lasts}
 
 -- what the rows of an accepted input say of what is gathered
 pub gather_rows : (b : BakeInput) (s : Stage Float) (a : ℕ) → BakePassed b s a → Rows (gather_input b)

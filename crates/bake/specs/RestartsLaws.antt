@@ -11,7 +11,8 @@ use Rattle.spread.specs.declared.Progress.{Progress}
 use Rattle.spread.specs.Spread.{at_zero, Stage, stage, Called, filled, unblurred, unbroken, costs, stands, sum}
 use Rattle.spread.proofs.Walks.{unbroken_progress, call_adds}
 use Rattle.spread.specs.Demand.{Sized}
-use Rattle.spread.proofs.Carried.{Carried, short, over, carried_from_zero, carried_on}
+use Rattle.spread.specs.Carried.{Carried, short, over}
+use Rattle.spread.proofs.Carried.{carried_from_zero, carried_on}
 use Rattle.ends.specs.EndsLaws.{length_ambient}
 use Rattle.gather.specs.GatherLaws.{length_gathered}
 use Rattle.intake.specs.Intake.{BakeInput, voxel_count, bake_rows, bake_refusal, GoodProgress}

@@ -8,17 +8,7 @@ use Rattle.lists.specs.Fold.{ahead}
 use Rattle.contents.specs.Contents.{marked, entries_at, bodies_from, headed, entry_kind_at, offset_at, length_at, kind_of, body_fits, entry_good, contents_from, contents_good}
 use Rattle.contents.specs.declared.Kind.TheVariants.{Light, Coefficients, Active, Occupied, Corners, Foreign, Refused}
 use Rattle.contents.specs.Laid.{Laid}
-
--- ---- one entry
-
--- entry i of kind k and so long is one of these, in a file of n voxels
-pub data Fit (k i long n : ℕ) : Type 0 where
-  light : k ≡ 1 → i ≡ 0 → long ≡ n * 4 → Fit k i long n
-  coefficients : k ≡ 2 → i ≡ 1 → long ≡ n * 64 → Fit k i long n
-  active : k ≡ 3 → i ≡ 2 → long ≡ n → Fit k i long n
-  occupied : k ≡ 4 → i ≡ 3 → long ≡ n → Fit k i long n
-  corners : k ≡ 5 → i ≡ 4 → long ≡ 24 → Fit k i long n
-  foreign : 128 ≤ k → k ≤ 255 → 5 ≤ i → Fit k i long n
+use Rattle.contents.specs.ContentsLaws.{Fit, light, coefficients, active, occupied, corners, foreign, long_of, Entry, Headed}
 
 pub fit_found : (k i long n : ℕ) → body_fits (kind_of k) i long n ≡ true → Fit k i long n
 unfolding body_fits kind_of
@@ -53,10 +43,6 @@ fit_kind k i long n (occupied p q r) h = omega arith
 fit_kind k i long n (corners p q r) h = omega arith
 fit_kind k i long n (foreign p q r) h = absurd (omega arith)
 
--- how long the body of kind i + 1 is
-abbrev pub long_of : ℕ → ℕ → ℕ
-long_of i n = cond (eqb i 0) (n * 4) (cond (eqb i 1) (n * 64) (cond (ltb i 4) n 24))
-
 pub fit_long : (k i long n : ℕ) → Fit k i long n → i < 5 → long ≡ long_of i n
 fit_long k i long n (light p q r) h = rw q r
 fit_long k i long n (coefficients p q r) h = rw q r
@@ -72,13 +58,6 @@ pub contents_step : (s : List ℕ) (n to i previous start : ℕ) → i < to
     ≡ entry_good (entry_kind_at s i) previous (offset_at s i) start (length_at s i) i n && contents_from s n (to - (i + 1)) (i + 1) (entry_kind_at s i) (start + length_at s i)
 unfolding contents_from
 contents_step s n to i previous start h = rw (ahead i to h) refl
-
--- what one entry says
-pub record Entry (s : List ℕ) (n to i previous start : ℕ) : Type 0 where
-  pub above : previous < entry_kind_at s i
-  pub offset : offset_at s i ≡ start
-  pub fit : Fit (entry_kind_at s i) i (length_at s i) n
-  pub rest : contents_from s n (to - (i + 1)) (i + 1) (entry_kind_at s i) (start + length_at s i) ≡ true
 
 pub entry_found : (s : List ℕ) (n to i previous start : ℕ) → i < to → contents_from s n (to - i) i previous start ≡ true → Entry s n to i previous start
 unfolding entry_good
@@ -147,15 +126,6 @@ contents_laid s n h e =
       long₄ = l₄;
       rest = rest;
     }
-
--- ---- the head
-
-pub record Headed (s : List ℕ) : Type 0 where
-  pub long : 12 ≤ length s
-  pub mark : marked s ≡ true
-  pub least : 5 ≤ entries_at s
-  pub most : entries_at s ≤ 16
-  pub contents : bodies_from (entries_at s) ≤ length s
 
 pub headed_found : (s : List ℕ) → headed s ≡ true → Headed s
 unfolding headed

@@ -10,7 +10,8 @@ use Rattle.std.specs.Float.{nan}
 use Rattle.std.specs.Float.Ieee.{of_bits, of_int}
 use Rattle.spread.specs.Spread.{progress_of, at_zero, stage, Bake, Called, walk, call, run, sum, EachAtLeast, NoneRefused}
 use Rattle.lists.specs.Any.{any}
-use Rattle.spread.proofs.Bare.{bare, Agree, run_same}
+use Rattle.spread.specs.Bare.{bare}
+use Rattle.spread.proofs.Bare.{Agree, run_same}
 use Rattle.lists.specs.Some.{some}
 use Rattle.limits.specs.Limits.{within, bad_coefficients}
 use Rattle.lists.specs.Fold.{fold, tab}
@@ -32,7 +33,8 @@ use Rattle.intake.specs.Three.{three_with, three, one_lamp, three_lit, begun, th
 use Rattle.demand.specs.Bake.{gather_input, bake_of}
 use Rattle.demand.specs.Calls.{refused_call}
 use Rattle.demand.proofs.Demanded.{bake_fair, bake_demand}
-use Rattle.demand.proofs.Lasting.{GathersWithin, bake_lasts}
+use Rattle.demand.specs.Lasting.{GathersWithin}
+use Rattle.demand.proofs.Lasting.{bake_lasts}
 
 -- ---- no call is refused
 

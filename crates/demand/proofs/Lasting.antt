@@ -35,6 +35,7 @@ use Rattle.intake.specs.IntakeLaws.{BakePassed, Fits, fits, none_refused, still_
 use Rattle.demand.specs.Bake.{gather_input, bake_of, bake_call}
 use Rattle.demand.specs.Calls.{accepted_call, answers_refusal}
 use Rattle.demand.proofs.Demanded.{good_knows, bake_demand}
+use Rattle.demand.specs.Lasting.{GathersWithin}
 
 -- ---- tests of a list whose parts are known
 
@@ -124,10 +125,6 @@ ambient_within a light h l =
 record Good (b : BakeInput) (v : List Float) : Type 0 where
   long : length v ≡ voxel_count b * voxel_numbers
   within : bad_coefficients v ≡ false
-
--- what the gather writes of each voxel lies within ±2^96
-abbrev pub GathersWithin : BakeInput → Type 0
-GathersWithin b = (i : ℕ) → i < voxel_count b → bad_coefficients (gathered_of (gather_input b) i) ≡ false
 
 module _ (b : BakeInput) (gathers : GathersWithin b) where
   fits_place : (i n m : ℕ) → i < n → m ≡ n * voxel_numbers → i * voxel_numbers + voxel_numbers ≤ m

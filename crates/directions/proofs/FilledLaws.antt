@@ -7,12 +7,7 @@ use Rattle.names.specs.Refusals.{first_of, RefusedBy, refused_by, kept, given}
 use Rattle.directions.specs.Table.{directions}
 use Rattle.directions.specs.Filled.{fill_rows, fill_refusal, DirectionsFilled}
 use Rattle.directions.proofs.RuleLaws.{directions_length}
-
--- ---- one result
-
-pub record SameFill (r s : ℕ) (out' out'' : List Float) : Type 0 where
-  pub same_answer : r ≡ s
-  pub same_list : out' ≡ out''
+use Rattle.directions.specs.FilledLaws.{SameFill}
 
 pub directions_filled_once : (out : List Float) (r s : ℕ) (out' out'' : List Float)
     → DirectionsFilled out r out' → DirectionsFilled out s out'' → SameFill r s out' out''

@@ -16,6 +16,7 @@ use Rattle.floats.specs.RootLaws.Units.{count_exact}
 use Rattle.directions.specs.Table.{patterns, directions}
 use Rattle.directions.specs.Rule.{Close, AtHeight, Ruled, step_of}
 use Rattle.directions.specs.Triples.{both, both_left, both_right, every3, at, get_d_map}
+use Rattle.directions.specs.RuleLaws.{Small}
 
 pub patterns_length : length patterns ≡ 1728
 unfolding patterns
@@ -121,11 +122,6 @@ root_below a b h = go (dec_lt a b)
     go : Dec (a < b) → a < b
     go (yes p) = p
     go (no q) = absurd (omega (arith, mul-le-mul {n₁ = b} {m₁ = b} {n₂ = a} {m₂ = a} (omega arith) (omega arith)))
-
--- each number of a ruled triple is below 1 + 2^-21 in magnitude: its square is at most the squared length
-pub record Small (x : Float) : Type 0 where
-  pub in_units : InUnits (2 ^ 149) x
-  pub below : in_units.size < 2 ^ 149 + 2 ^ 128
 
 parts : (a b c t : ℕ) → a + b + c ≤ t → (a ≤ t) × (b ≤ t) × (c ≤ t)
 parts a b c t h = (omega arith, omega arith, omega arith)

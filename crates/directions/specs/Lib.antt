@@ -4,3 +4,5 @@ pub mod Sets
 pub mod Filled
 pub mod Rule
 pub mod Triples
+pub mod RuleLaws
+pub mod FilledLaws

@@ -25,7 +25,8 @@ use Rattle.bounds.specs.NormalLaws.{thin_normal_within}
 use Rattle.grid_laws.specs.RowBounds.{within_at_most, at_most_within, within_each}
 use Rattle.directions.specs.Table.{directions}
 use Rattle.directions.specs.Sets.{set_below}
-use Rattle.directions.proofs.RuleLaws.{Small, number_small}
+use Rattle.directions.specs.RuleLaws.{Small}
+use Rattle.directions.proofs.RuleLaws.{number_small}
 use Rattle.grid.specs.Grid.{x_of, y_of, z_of, float_of, edges_of}
 use Rattle.limits.specs.Limits.{within, up_to, wrong_scene, too_many, bad_points, bad_materials, bad_direction, bad_colour, bad_light, bad_ambient, bad_sky, bad_lights, lamp_at, bad_lamps}
 use Rattle.limits.specs.LimitsLaws.{either, any_of_three, points_row, materials_row, transmission_within, colour_within, sound, direction_row, sky_row, lights_row, lamp_row, lamps_row}

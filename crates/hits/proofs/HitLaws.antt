@@ -9,6 +9,7 @@ use Rattle.triangle.specs.declared.Meet.{Meet}
 use Rattle.triangle.specs.declared.Meet.TheVariants.{Miss, Hit}
 use Rattle.panels.specs.Panels.{meet_at}
 use Rattle.hits.specs.Hits.{Struck, struck, before, insert_of, with_meet, hits_of, places_of}
+use Rattle.hits.specs.HitLaws.{Stands}
 
 -- ---- one inserted
 
@@ -42,16 +43,6 @@ put_only h {k} (g ∷ gs) m = by (before h g) m (λ n. put_only h gs n)
     by false n r =
         ⊎_elim (λ e. inr (Memᴰ.head e)) (λ l. ⊎_elim (λ e. inl e) (λ q. inr (Memᴰ.tail q)) (r l))
         (Memᴰ.cases_cons n)
-
--- ---- all of them
-
--- a hit of the ray at a place below n
-pub record Stands (scene : Scene) (ray : Ray) (n : ℕ) (h : Struck) : Type 0 where
-  pub within : h.place < n
-  pub first : Float
-  pub second : Float
-  pub front : Bool
-  pub met : meet_at scene ray h.place ≡ Hit h.distance first second front
 
 wider : {scene : Scene} {ray : Ray} {n : ℕ} {h : Struck} → Stands scene ray n h → Stands scene ray (suc n) h
 wider s = record { within = omega arith; first = s.first; second = s.second; front = s.front; met = s.met }

@@ -5,3 +5,4 @@ pub mod Order
 pub mod BeforeLaws
 pub mod MergeLaws
 pub mod PairedLaws
+pub mod HitLaws

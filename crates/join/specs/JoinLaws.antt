@@ -27,7 +27,7 @@ use Rattle.words.specs.ByWords.{next_from}
 use Rattle.words.specs.NextLaws.{next_carries, next_there}
 use Rattle.shares.specs.LaidBelow.{voxel_long, laid_parts, replaced_below}
 use Rattle.shares.specs.Shares.{joined_by}
-use Rattle.shares.proofs.SharesLaws.{joined_voxel, length_joined}
+use Rattle.shares.specs.SharesLaws.{joined_voxel, length_joined}
 use Rattle.join.specs.Join.{wrong_join_lists, bad_share, join_rows, join_refusal, joined_of, Joined}
 
 -- ---- one result

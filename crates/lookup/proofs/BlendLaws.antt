@@ -24,6 +24,7 @@ use Rattle.lookup.specs.declared.Cells.{Cells}
 use Rattle.lookup.specs.Place.{clamped, clamped_cell, between_of, coordinate_of, Inside, cells_from, cells_of, blend_of, blended_of}
 use Rattle.lookup.specs.PlaceLaws.{clamped_same, cells_read_inside}
 use Rattle.lookup.specs.Lookup.{light_blend, number_blend}
+use Rattle.lookup.specs.BlendLaws.{Plain, Kept, same, zeros}
 
 -- ---- a float that fits is written in one way
 
@@ -130,16 +131,6 @@ ones a c = rw (mul-one a, mul-one c)
 
 noughts : (a c : ℕ) → a * 0 * 1 ≡ 0 * c
 noughts a c = rw (mul-zero a, zero-mul c)
-
--- a finite f32
-pub record Plain (x : Float) : Type 0 where
-  pub fit : T (fits binary32 x)
-  pub number : finite x ≡ true
-
--- the same number; or both are zeros
-pub data Kept : Float → Float → Type 0 where
-  same : {a : Float} → Kept a a
-  zeros : (s t : Bool) → Kept (fin s 0 (pos 0)) (fin t 0 (pos 0))
 
 -- they are equal as numbers
 pub kept_equal : {a r : Float} → Plain a → Kept a r → eq r a ≡ true

@@ -4,3 +4,4 @@ pub mod Lookup
 pub mod PlaceLaws
 pub mod LookupLaws
 pub mod LookupFigures
+pub mod BlendLaws

@@ -12,7 +12,8 @@ use Rattle.triangle.specs.declared.Meet.{Meet}
 use Rattle.triangle.specs.declared.Meet.TheVariants.{Miss, Hit}
 use Rattle.panels.specs.Panels.{meet_at}
 use Rattle.hits.specs.Hits.{Struck, struck, before, insert_of, with_meet, hits_of}
-use Rattle.hits.proofs.HitLaws.{Stands, hits_only, hits_all}
+use Rattle.hits.specs.HitLaws.{Stands}
+use Rattle.hits.proofs.HitLaws.{hits_only, hits_all}
 use Rattle.hits.specs.Order.{otherwise_below}
 use Rattle.hits.specs.BeforeLaws.{hit_number, before_trans}
 

@@ -19,7 +19,7 @@ use Rattle.spread.specs.Spread.{progress_of, at_zero, Stage, stage, Bake, unblur
 use Rattle.spread.specs.Demand.{Sized, rounded_up, all_active}
 use Rattle.spread.proofs.Walks.{costs_least, costs_most}
 use Rattle.shares.specs.Shares.{Share, bake_by, holders, Parted, joined_by, unblurred_in, joined_all, added_over}
-use Rattle.shares.proofs.SharesLaws.{unblurred_in_lem, length_unblurred, length_joined, either_of, two_joined, same_voxels, same_unbroken, all_joined_lem, rays_add_up}
+use Rattle.shares.specs.SharesLaws.{unblurred_in_lem, length_unblurred, length_joined, either_of, two_joined, same_voxels, same_unbroken, all_joined_lem, rays_add_up}
 use Rattle.join.specs.Join.{Joined}
 use Rattle.join.specs.JoinLaws.{join_accepted}
 use Rattle.ends.specs.Ends.{mean_over}

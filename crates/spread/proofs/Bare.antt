@@ -10,21 +10,7 @@ use borrow.Author.Tests.{ne_eqb}
 use Rattle.lists.specs.Laid.{replaced}
 use Rattle.spread.specs.Spread.{Stage, Bake, Walked, walked, more, started, walk, reached_by, accepted, call, run, NoneRefused}
 use Rattle.spread.proofs.Walks.{ended_progress, walks, walk_to}
-
--- a bake of nothing but voxels and their costs
-abbrev pub bare : ℕ → ℕ → (ℕ → Bool) → (ℕ → ℕ) → Bake Unit
-bare count most active cost =
-    record {
-      count = count;
-      size = 0;
-      active = active;
-      cost = cost;
-      most = most;
-      ambient = λ i. [];
-      gathered = λ i. [];
-      mean = λ v. v;
-      refusal = λ s a. 0;
-    }
+use Rattle.spread.specs.Bare.{bare}
 
 -- an accepted call
 module _ {A : Type 0} (b : Bake A) where

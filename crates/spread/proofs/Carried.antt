@@ -7,17 +7,12 @@ use Rattle.std.proofs.Math.Bool.{true, false}
 use Rattle.spread.specs.declared.Progress.{Progress}
 use Rattle.spread.specs.Spread.{progress_of, at_zero, Stage, stage, Bake, started, any_active, call, unblurred, unbroken, costs, stands}
 use Rattle.spread.specs.Demand.{Sized, Fair}
+use Rattle.spread.specs.Carried.{Carried, short, over}
 use Rattle.spread.proofs.Contents.{stands_filled}
 use Rattle.spread.proofs.Walks.{unbroken_progress}
 use Rattle.spread.proofs.Holds.{StandsWhere, along_call, rests_done}
 
 module _ {A : Type 0} (b : Bake A) where
-  -- what a begun bake carries on: short of the end the voxels below next as they stand, the others ambient, and the rays fired for them; then the unbroken
-  -- bake's progress and volume, which hang on no scratch
-  pub data Carried : Progress → List A → Type 0 where
-    short : {p : Progress} {v : List A} → p.next < b.count → p.rays ≡ costs b p.next 0 → started b p.next v ≡ stands b p.next → Carried p v
-    over : {p : Progress} {v : List A} → p ≡ progress_of b.count (costs b b.count 0) → v ≡ (unbroken b []).volume → Carried p v
-
   same_volume : (x y : List A) → (unbroken b x).volume ≡ (unbroken b y).volume
   unfolding unbroken
   same_volume x y = go (any_active b.active b.count) (progress_of b.count (costs b b.count 0))
@@ -27,14 +22,14 @@ module _ {A : Type 0} (b : Bake A) where
       go true p = refl
       go false p = refl
 
-  pub carried_from_zero : Sized b → 0 < b.count → (v : List A) → Carried at_zero v
+  pub carried_from_zero : Sized b → 0 < b.count → (v : List A) → Carried b at_zero v
   unfolding costs
   carried_from_zero sized some v = short some refl (stands_filled b sized)
 
-  pub carried_on : Fair b → (a : ℕ) (x : List A) {p : Progress} {v : List A} → Carried p v → Carried (call b a (stage p v x)).stage.progress (call b a (stage p v x)).stage.volume
+  pub carried_on : Fair b → (a : ℕ) (x : List A) {p : Progress} {v : List A} → Carried b p v → Carried b (call b a (stage p v x)).stage.progress (call b a (stage p v x)).stage.volume
   carried_on fair a x {p} {v} (short h k e) = go (along_call b fair a x (stage p v x) (inl (record { before = h; known = k; volume = e; scratch = refl })))
     where
-      go : {s : Stage A} → StandsWhere b fair x s → Carried s.progress s.volume
+      go : {s : Stage A} → StandsWhere b fair x s → Carried b s.progress s.volume
       go (inl s) = short s.before s.known s.volume
       go (inr e) = over (ap (λ (s : Stage A). s.progress) e ∙ unbroken_progress b x) (ap (λ (s : Stage A). s.volume) e ∙ same_volume x [])
   carried_on fair a x {p} {v} (over e f) =

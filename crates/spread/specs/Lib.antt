@@ -2,3 +2,5 @@
 pub mod Spread
 pub mod Demand
 pub mod Refusing
+pub mod Bare
+pub mod Carried

@@ -15,7 +15,8 @@ use Rattle.boxes.specs.Boxes.{bounds_at}
 use Rattle.tree.specs.Tree.{box_count, count_at, inner_at, left_at, right_at, place_at, present_at, one, halves_of, parents_to, run_to, stands_to, Deep, root, left, right, AcceptedTree}
 use Rattle.tree.specs.Test.{mark_pair, depths_to, see_run, seen_to}
 use Rattle.tree.specs.SumLaws.{one_most, one_other, positive, sum_more}
-use Rattle.tree.proofs.TestLaws.{present_within, GoodBox, GoodPair, GoodHalf, GoodPlace, GoodLists}
+use Rattle.tree.specs.TestLaws.{GoodPair, GoodHalf, GoodPlace, GoodLists}
+use Rattle.tree.proofs.TestLaws.{present_within, GoodBox}
 use Rattle.tree.specs.MarkLaws.{run_shows, Start, depths_after, seen_after_lem}
 
 -- before the first box no triangle stands

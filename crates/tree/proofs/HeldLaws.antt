@@ -14,7 +14,8 @@ use Rattle.boxes.specs.Boxes.{bounds_at}
 use Rattle.tree.specs.Tree.{box_count, count_at, inner_at, left_at, right_at, place_at, present_at, one, halves_of, parents_to, stands_to, Deep, root, left, right, AcceptedTree}
 use Rattle.tree.specs.Test.{mark_pair, depths_to, see_run, seen_to}
 use Rattle.tree.specs.SumLaws.{one_self, one_other, sum_more}
-use Rattle.tree.proofs.TestLaws.{present_within, GoodBox, GoodPair, GoodRun, GoodPlace}
+use Rattle.tree.specs.TestLaws.{GoodPair, GoodPlace}
+use Rattle.tree.proofs.TestLaws.{present_within, GoodBox, GoodRun}
 use Rattle.tree.proofs.AcceptedLaws.{stands_here, leaf_present}
 use Rattle.tree.specs.MarkLaws.{run_shows, Start, depths_after, seen_after_lem}
 

@@ -13,6 +13,7 @@ use Rattle.boxes.specs.declared.Bounds.{Bounds}
 use Rattle.boxes.specs.Boxes.{bounds_at, padded_of, inside_of}
 use Rattle.tree.specs.Tree.{box_count, count_at, inner_at, left_at, right_at, first_at, place_at, present_at}
 use Rattle.tree.specs.Test.{see_run, bad_half, bad_pair, bad_place, bad_place_at, bad_run, bad_box, wrong_lists}
+use Rattle.tree.specs.TestLaws.{GoodLists, GoodHalf, GoodPair, GoodPlace}
 
 -- ---- none of two, none of many
 
@@ -36,13 +37,6 @@ none_any f m n = go (any f m 0) refl
     go : (b : Bool) → any f m 0 ≡ b → any f m 0 ≡ false
     go false p = p
     go true p = let s = any_out f m 0 p in absurd (false≢true (sym (n s.0 (omega (arith, s.2))) ∙ s.3))
-
--- ---- the lists
-
-pub record GoodLists (points boxes : List Float) (nodes order : List ℕ) : Type 0 where
-  pub nodes_fit : length nodes ≡ box_count nodes * 3
-  pub boxes_fit : length boxes ≡ box_count nodes * 6
-  pub order_fits : length order ≤ length points / 9
 
 pub lists_out : (points boxes : List Float) (nodes order : List ℕ) → wrong_lists points boxes nodes order ≡ false → GoodLists points boxes nodes order
 unfolding wrong_lists
@@ -68,14 +62,6 @@ pub present_within : (points : List Float) (p : ℕ) → present_at points p ≡
 unfolding present_at
 present_within points p h = ltb-true p (length points / 9) ((and-eq-true_iff (ltb p (length points / 9)) (not (absent_of (triangle_at points p)))).0 h).0
 
--- ---- a half
-
-pub record GoodHalf (boxes : List Float) (n : ℕ) (depths : List ℕ) (i h : ℕ) : Type 0 where
-  pub follows : i < h
-  pub within : h < n
-  pub orphan : get_or depths h 0 ≡ 0
-  pub inside : inside_of (bounds_at boxes h) (bounds_at boxes i) ≡ true
-
 pub half_out : (boxes : List Float) (n : ℕ) (depths : List ℕ) (i h : ℕ) → bad_half boxes n depths i h ≡ false → GoodHalf boxes n depths i h
 unfolding bad_half
 half_out boxes n depths i h e =
@@ -94,14 +80,6 @@ half_out boxes n depths i h e =
 pub half_in : (boxes : List Float) (n : ℕ) (depths : List ℕ) (i h : ℕ) → GoodHalf boxes n depths i h → bad_half boxes n depths i h ≡ false
 unfolding bad_half
 half_in boxes n depths i h g = rw (lt-leb h i g.follows, lt-leb n h g.within, eq-eqb (get_or depths h 0) 0 g.orphan, g.inside) refl
-
--- ---- two halves
-
-pub record GoodPair (boxes : List Float) (nodes : List ℕ) (i : ℕ) (depths : List ℕ) : Type 0 where
-  pub left : GoodHalf boxes (box_count nodes) depths i (left_at nodes i)
-  pub right : GoodHalf boxes (box_count nodes) depths i (right_at nodes i)
-  pub apart : left_at nodes i ≡ right_at nodes i → ⊥
-  pub shallow : get_or depths i 0 ≤ depth_limit
 
 pub pair_out : (boxes : List Float) (nodes : List ℕ) (i : ℕ) (depths : List ℕ) → bad_pair boxes nodes i depths ≡ false → GoodPair boxes nodes i depths
 unfolding bad_pair
@@ -122,13 +100,6 @@ pub pair_in : (boxes : List Float) (nodes : List ℕ) (i : ℕ) (depths : List �
 unfolding bad_pair
 pair_in boxes nodes i depths g =
     rw (half_in boxes (box_count nodes) depths i (left_at nodes i) g.left, half_in boxes (box_count nodes) depths i (right_at nodes i) g.right, ne_eqb (left_at nodes i) (right_at nodes i) g.apart, le-ltb depth_limit (get_or depths i 0) g.shallow) refl
-
--- ---- a triangle of a leaf
-
-pub record GoodPlace (points : List Float) (b : Bounds) (seen : List ℕ) (p : ℕ) : Type 0 where
-  pub present : present_at points p ≡ true
-  pub unseen : get_or seen p 0 ≡ 0
-  pub inside : inside_of (padded_of (triangle_at points p)) b ≡ true
 
 pub place_out : (points : List Float) (b : Bounds) (seen : List ℕ) (p : ℕ) → bad_place points b seen p ≡ false → GoodPlace points b seen p
 unfolding bad_place

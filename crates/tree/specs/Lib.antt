@@ -5,3 +5,4 @@ pub mod SumLaws
 pub mod MarkLaws
 pub mod Trees
 pub mod TreeFigures
+pub mod TestLaws

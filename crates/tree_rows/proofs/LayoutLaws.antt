@@ -20,6 +20,7 @@ use Rattle.boxes.specs.declared.Bounds.{Bounds}
 use Rattle.tree.specs.Tree.{count_at, inner_at, left_at, right_at, first_at}
 use Rattle.tree_rows.specs.Rows.{row_start, pattern_at, row_bounds, row_after, row_first, row_count}
 use Rattle.tree_rows.specs.Layout.{whole_limit, with_vec, with_row, boxes_under, with_rows}
+use Rattle.tree_rows.specs.LayoutLaws.{KeptRows, RowAt}
 
 -- ---- a whole number as a pattern
 
@@ -34,14 +35,6 @@ no_nan n h = sym (nan_bits_is binary32 n) ∙ no_nan_bits n h
 
 pattern_back : (n : ℕ) → n < whole_limit → to_bits binary32 (lit n) ≡ n
 pattern_back n h = to_bits-of_bits binary32 n (omega arith) (subst (λ (b : Bool). T (not b)) (sym (no_nan n h)) tt)
-
--- ---- what is kept
-
--- past a piece of the list nothing changed
-pub record KeptRows (rows rows' : List Float) (from to : ℕ) : Type 0 where
-  pub same : length rows' ≡ length rows
-  pub below : (j : ℕ) → j < from → get_or rows' j nan ≡ get_or rows j nan
-  pub above : (j : ℕ) → to ≤ j → get_or rows' j nan ≡ get_or rows j nan
 
 kept_self : (rows : List Float) (from to : ℕ) → KeptRows rows rows from to
 kept_self rows from to = record { same = refl; below = λ j h. refl; above = λ j h. refl }
@@ -92,13 +85,6 @@ module _ (rows : List Float) (j : ℕ) (v : Vec3) where
 
 pub vec_same : (rows rows' : List Float) (j : ℕ) → ((i : ℕ) → j ≤ i → i < j + 3 → get_or rows' i nan ≡ get_or rows i nan) → vec_at rows' j ≡ vec_at rows j
 vec_same rows rows' j h = rw (h j (omega arith) (omega arith), h (j + 1) (omega arith) (omega arith), h (j + 2) (omega arith) (omega arith)) refl
-
--- ---- one row
-
--- row k holds a box and three whole numbers
-pub record RowAt (rows : List Float) (k : ℕ) (b : Bounds) (after first count : ℕ) : Type 0 where
-  pub box : row_bounds rows k ≡ b
-  pub wholes : vec_at rows (row_start k + 6) ≡ vec (lit after) (lit first) (lit count)
 
 row_same : (rows rows' : List Float) (k : ℕ) (b : Bounds) (after first count : ℕ) → ((j : ℕ) → row_start k ≤ j → j < row_start (suc k) → get_or rows' j nan ≡ get_or rows j nan)
     → RowAt rows k b after first count → RowAt rows' k b after first count

@@ -28,7 +28,8 @@ use Rattle.tree_walk.specs.Turned.{Turned}
 use Rattle.tree_walk.specs.UnderLaws.{run_places, places_under, Levels, leaf, halves, depth_levels, follow_levels, root_stands}
 use Rattle.tree_rows.specs.Rows.{row_start, row_bounds, row_after, row_first, row_count, row_places, places_to, Rowed}
 use Rattle.tree_rows.specs.Layout.{whole_limit, boxes_under, with_rows, with_tree, Lays}
-use Rattle.tree_rows.proofs.LayoutLaws.{KeptRows, vec_same, reads_after, reads_first, reads_count, no_nans, RowsOf, none, one_row, two_halves, goes_up, rows_kept, rows_written}
+use Rattle.tree_rows.specs.LayoutLaws.{KeptRows}
+use Rattle.tree_rows.proofs.LayoutLaws.{vec_same, reads_after, reads_first, reads_count, no_nans, RowsOf, none, one_row, two_halves, goes_up, rows_kept, rows_written}
 
 -- ---- as many rows as boxes
 

@@ -19,7 +19,8 @@ use Rattle.tree_walk.specs.Boxed.{transmittance_boxed}
 use Rattle.tree_walk.specs.Walk.{node_visit, tree_visit}
 use Rattle.tree_walk.specs.UnderLaws.{places_under, tree_places, tree_once}
 use Rattle.tree_walk.specs.Collect.{Collected, collect_step, pass_collected}
-use Rattle.tree_walk.proofs.CollectLaws.{collected_over, listed_fits, listed_collected, walk_collects}
+use Rattle.tree_walk.specs.CollectLaws.{collected_over}
+use Rattle.tree_walk.proofs.CollectLaws.{listed_fits, listed_collected, walk_collects}
 use Rattle.tree_walk.specs.Kept.{collected_by, RoomFor}
 
 module _ (scene : Scene) (sound : Sound scene) (boxes : List Float) (nodes order : List ℕ) (t : AcceptedTree scene.points boxes nodes order) where

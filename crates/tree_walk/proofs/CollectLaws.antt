@@ -32,6 +32,7 @@ use Rattle.tree_walk.specs.ListedLaws.{listed_room, listed_hits}
 use Rattle.tree_walk.proofs.WalkLaws.{walk_listed}
 use Rattle.tree_walk.specs.Collect.{Collected, dark, came, collect_meet, collect_step, pass_collected}
 use Rattle.tree_walk.specs.Kept.{RoomFor}
+use Rattle.tree_walk.specs.CollectLaws.{collected_over}
 
 -- what the steps keep, two goings keep
 fold_both : {A B : Type 0} (f : A → ℕ → A) (g : B → ℕ → B) (R : A → B → Type 0) → ((a : A) (b : B) (p : ℕ) → R a b → R (f a p) (g b p))
@@ -105,11 +106,6 @@ module _ (scene : Scene) where
   pass_collected_lem (came gs) hs r =
       ap (λ (ks : List Struck). clear_pass_of scene.uses scene.numbers one32 (places_of ks)) (sym r.0)
       ∙ sym (clear_pass scene.uses scene.kinds scene.numbers one32 hs r.1)
-
--- ---- of a list in which each present triangle stands once
-
-abbrev pub collected_over : Scene → Ray → List ℕ → Collected
-collected_over scene ray = fold_of (collect_step scene.points scene.uses scene.kinds ray) (came [])
 
 module _ (scene : Scene) (sound : Sound scene) (l : List ℕ) (once : (p : ℕ) → stands_in p l ≡ one (present_at scene.points p)) where
   -- there is room for as many hits as stand in it

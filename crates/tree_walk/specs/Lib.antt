@@ -13,3 +13,4 @@ pub mod ListedLaws
 pub mod Collect
 pub mod Kept
 pub mod BoxedFigures
+pub mod CollectLaws

@@ -13,7 +13,8 @@ use Rattle.limits.specs.Limits.{bad_axes}
 use Rattle.limits.specs.LimitsLaws.{axes_row}
 use Rattle.contents.specs.Contents.{headed, axes_at, entries_at, bodies_from, contents_good}
 use Rattle.contents.specs.Laid.{Laid}
-use Rattle.contents.proofs.ContentsLaws.{Headed, headed_found, contents_laid}
+use Rattle.contents.specs.ContentsLaws.{Headed}
+use Rattle.contents.proofs.ContentsLaws.{headed_found, contents_laid}
 use Rattle.contents.proofs.Step.{held, failed}
 use Rattle.volume_file.specs.VolumeFile.{bad_bodies, faulty}
 

@@ -7,7 +7,8 @@ use Rattle.limits.specs.Limits.{bad_axes, bad_grid, bad_lights, bad_coefficients
 use Rattle.limits.specs.LimitsLaws.{either, axes_row}
 use Rattle.contents.specs.Contents.{axes_at, entries_at, contents_good}
 use Rattle.contents.specs.Laid.{Laid}
-use Rattle.contents.proofs.ContentsLaws.{Headed, headed_found, headed_given, contents_laid}
+use Rattle.contents.specs.ContentsLaws.{Headed}
+use Rattle.contents.proofs.ContentsLaws.{headed_found, headed_given, contents_laid}
 use Rattle.volume_file.specs.VolumeFile.{voxels_at, light_at, volume_at, active_at, occupied_at, corners_at, bad_bodies, faulty}
 
 pub record Accepted (s : List ℕ) : Type 0 where

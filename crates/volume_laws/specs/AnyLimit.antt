@@ -43,40 +43,6 @@ pub record VolumeReadUnder (most : ℕ) (s : List ℕ) (l v : List Float) (m o :
 pub record FileFiguresUnder (most : ℕ) (s : List ℕ) (r : Figures) : Type 0 where
   pub answer : r ≡ unless_refused (figures_refusal_under most s) (figures_answer s) (no_figures (figures_refusal_under most s))
 
--- ---- at `axis_limit` they are these calls
-
-pub axes_under_this : (s : List ℕ) (r : Head) → FileAxes s r ↔ FileAxesUnder axis_limit s r
-unfolding file_refusal faulty bad_axes
-axes_under_this s r = (λ d. record { answer = d.answer }, λ d. record { answer = d.answer })
-
-pub read_under_this : (s : List ℕ) (l v : List Float) (m o : List ℕ) (r : Head) (l' v' : List Float) (m' o' : List ℕ)
-    → VolumeRead s l v m o r l' v' m' o' ↔ VolumeReadUnder axis_limit s l v m o r l' v' m' o'
-unfolding read_refusal faulty bad_axes
-read_under_this s l v m o r l' v' m' o' = (
-  λ d. record { answer = d.answer; light = d.light; volume = d.volume; active = d.active; occupied = d.occupied },
-  λ d. record { answer = d.answer; light = d.light; volume = d.volume; active = d.active; occupied = d.occupied },
-)
-
-pub figures_under_this : (s : List ℕ) (r : Figures) → FileFigures s r ↔ FileFiguresUnder axis_limit s r
-unfolding figures_refusal faulty bad_axes
-figures_under_this s r = (λ d. record { answer = d.answer }, λ d. record { answer = d.answer })
-
--- ---- an axis above the limit: 12, and nothing is written
-
-faulty_where_bad : (s : List ℕ) → faulty_where true s ≡ true
-faulty_where_bad s = by (headed s)
-  where
-    by : (b : Bool) → (not b || true) ≡ true
-    by true = refl
-    by false = refl
-
-faulty_above : (most : ℕ) (s : List ℕ) → Above most (axes_at s) → faulty_under most s ≡ true
-faulty_above most s h = ap (λ (b : Bool). faulty_where b s) (above_limit most (axes_at s) h) ∙ faulty_where_bad s
-
-pub axes_above : (most : ℕ) (s : List ℕ) (r : Head) → Above most (axes_at s) → FileAxesUnder most s r → r ≡ no_head 12
-unfolding first_of unless_refused
-axes_above most s r h d = d.answer ∙ rw (faulty_above most s h) refl
-
 -- the answer, and the four lists as they were lent: never a partial volume
 pub record NothingRead (l v : List Float) (m o : List ℕ) (r : Head) (l' v' : List Float) (m' o' : List ℕ) : Type 0 where
   pub answer : r ≡ no_head 12
@@ -84,58 +50,3 @@ pub record NothingRead (l v : List Float) (m o : List ℕ) (r : Head) (l' v' : L
   pub volume : v' ≡ v
   pub active : m' ≡ m
   pub occupied : o' ≡ o
-
-pub read_above : (most : ℕ) (s : List ℕ) (l v : List Float) (m o : List ℕ) (r : Head) (l' v' : List Float) (m' o' : List ℕ)
-    → Above most (axes_at s) → VolumeReadUnder most s l v m o r l' v' m' o' → NothingRead l v m o r l' v' m' o'
-unfolding first_of unless_refused
-read_above most s l v m o r l' v' m' o' h d =
-    let e = faulty_above most s h in
-    record {
-      answer = d.answer ∙ rw e refl;
-      light = d.light ∙ rw e refl;
-      volume = d.volume ∙ rw e refl;
-      active = d.active ∙ rw e refl;
-      occupied = d.occupied ∙ rw e refl;
-    }
-
--- volstat's, for a file that it takes at all
-pub figures_above : (most : ℕ) (s : List ℕ) (r : Figures) → length s ≤ figures_limit → Above most (axes_at s) → FileFiguresUnder most s r → r ≡ no_figures 12
-unfolding first_of unless_refused
-figures_above most s r l h d = d.answer ∙ rw (le-ltb figures_limit (length s) l, faulty_above most s h) refl
-
--- ---- no axis above the limit: a higher one says the same
-
-same_fault : (old new : ℕ) (s : List ℕ) → old ≤ new → NoneAbove old (axes_at s) → faulty_under new s ≡ faulty_under old s
-same_fault old new s l e = ap (λ (b : Bool). faulty_where b s) (raised_limit old new (axes_at s) l e)
-
-pub axes_raised : (old new : ℕ) (s : List ℕ) (r : Head) → old ≤ new → NoneAbove old (axes_at s) → FileAxesUnder old s r ↔ FileAxesUnder new s r
-axes_raised old new s r l e =
-    let f = same_fault old new s l e in
-    (λ d. record { answer = d.answer ∙ rw f refl }, λ d. record { answer = d.answer ∙ rw f refl })
-
-pub read_raised : (old new : ℕ) (s : List ℕ) (l v : List Float) (m o : List ℕ) (r : Head) (l' v' : List Float) (m' o' : List ℕ)
-    → old ≤ new → NoneAbove old (axes_at s) → VolumeReadUnder old s l v m o r l' v' m' o' ↔ VolumeReadUnder new s l v m o r l' v' m' o'
-read_raised old new s l v m o r l' v' m' o' b e =
-    let f = same_fault old new s b e in (
-      λ d.
-          record {
-            answer = d.answer ∙ rw f refl;
-            light = d.light ∙ rw f refl;
-            volume = d.volume ∙ rw f refl;
-            active = d.active ∙ rw f refl;
-            occupied = d.occupied ∙ rw f refl;
-          },
-      λ d.
-          record {
-            answer = d.answer ∙ rw f refl;
-            light = d.light ∙ rw f refl;
-            volume = d.volume ∙ rw f refl;
-            active = d.active ∙ rw f refl;
-            occupied = d.occupied ∙ rw f refl;
-          },
-    )
-
-pub figures_raised : (old new : ℕ) (s : List ℕ) (r : Figures) → old ≤ new → NoneAbove old (axes_at s) → FileFiguresUnder old s r ↔ FileFiguresUnder new s r
-figures_raised old new s r l e =
-    let f = same_fault old new s l e in
-    (λ d. record { answer = d.answer ∙ rw f refl }, λ d. record { answer = d.answer ∙ rw f refl })

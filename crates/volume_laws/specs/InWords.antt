@@ -10,7 +10,9 @@ use Rattle.std.proofs.Math.Numerals.{add-one}
 use native.Mathlib.Omega.{arith}
 use borrow.Author.Tests.{eqb-true, eq-eqb, lt-ltb, ltb-true, ltb-false}
 use Rattle.contents.specs.Contents.{bodies_from, entry_kind_at, offset_at, length_at, entry_good, contents_from, contents_good}
-use Rattle.contents.proofs.ContentsLaws.{Fit, light, coefficients, active, occupied, corners, foreign, fit_kind, fit_given, Entry, entry_found}
+use Rattle.contents.specs.ContentsLaws.{Fit, Entry}
+use Rattle.contents.specs.ContentsLaws.{light, coefficients, active, occupied, corners, foreign}
+use Rattle.contents.proofs.ContentsLaws.{fit_kind, fit_given, entry_found}
 
 -- 1 to 5, or 128 to 255
 pub data Known (k : ℕ) : Type 0 where

@@ -15,7 +15,8 @@ use Rattle.bytes_le.specs.RoundTrip.{AllFit, floats_back}
 use Rattle.limits.specs.Limits.{bad_axes, bad_grid, bad_lights, bad_coefficients, bad_mask}
 use Rattle.limits.specs.LimitsLaws.{axes_row}
 use Rattle.contents.specs.Contents.{marked, axes_at, entries_at, entry_kind_at, offset_at, length_at, contents_from, contents_good, head_of}
-use Rattle.contents.proofs.ContentsLaws.{light, coefficients, active, occupied, corners, entry_given}
+use Rattle.contents.specs.ContentsLaws.{light, coefficients, active, occupied, corners}
+use Rattle.contents.proofs.ContentsLaws.{entry_given}
 use Rattle.volume_file.specs.VolumeFile.{voxels_at, light_at, volume_at, active_at, occupied_at, corners_at}
 use Rattle.volume_file.specs.VolumeFileLaws.{Accepted}
 use Rattle.volume_write.specs.FileBytes.{bytes_for, contents_of, corners_list, file_bytes}

@@ -8,7 +8,8 @@ use Rattle.names.specs.Scene.{Scene, tree_scene}
 use Rattle.hits.specs.Hits.{paired}
 use Rattle.tree.specs.Tree.{box_count}
 use Rattle.tree_walk.specs.Collect.{came}
-use Rattle.tree_walk.proofs.CollectLaws.{collected_over, dark_passes, came_passes, came_numbers, came_below}
+use Rattle.tree_walk.specs.CollectLaws.{collected_over}
+use Rattle.tree_walk.proofs.CollectLaws.{dark_passes, came_passes, came_numbers, came_below}
 use Rattle.tree_rows.specs.Rows.{places_to}
 use Rattle.row_walk.proofs.inner.transmittance.Goals as goal
 use Rattle.row_walk.proofs.inner.transmittance.Goals.{In-Hits-2, Start}

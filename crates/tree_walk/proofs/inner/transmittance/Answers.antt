@@ -11,7 +11,8 @@ use Rattle.tree.specs.SumLaws.{positive}
 use Rattle.tree_walk.proofs.WalkLaws.{accepted_fits}
 use Rattle.tree_walk.specs.Collect.{dark, came}
 use Rattle.tree_walk.specs.UnderLaws.{tree_places, tree_once}
-use Rattle.tree_walk.proofs.CollectLaws.{collected_over, dark_passes, came_passes, came_numbers, came_below}
+use Rattle.tree_walk.specs.CollectLaws.{collected_over}
+use Rattle.tree_walk.proofs.CollectLaws.{dark_passes, came_passes, came_numbers, came_below}
 use Rattle.tree_walk.proofs.Came.{root_fits, from_root, empty_passes}
 use Rattle.tree_walk.proofs.inner.transmittance.Goals as goal
 use Rattle.tree_walk.proofs.inner.transmittance.Goals.{In-Hits-2, Start}

@@ -9,7 +9,8 @@ use Rattle.limits.specs.Limits.{up_to}
 use Rattle.bounds.specs.BoundsLaws.{at_most_finite}
 use Rattle.lookup.specs.declared.Cells.{Cells}
 use Rattle.lookup.specs.Place.{blend_of, blended_of}
-use Rattle.lookup.specs.BlendLaws.{Plain, same, kept_equal, blend_at_zero}
+use Rattle.lookup.specs.BlendLaws.{Plain, same}
+use Rattle.lookup.proofs.BlendLaws.{kept_equal, blend_at_zero}
 use Rattle.blend_laws.specs.Blendable.{Blendable, SameNumber, Weight, EachCell, Weights}
 use Rattle.blend_laws.specs.WeightLaws.{value_units}
 use Rattle.blend_laws.specs.BlendOrder.{blend_no_more, blend_between, blend_between_down}

@@ -16,4 +16,3 @@ pub mod BlendedSpread
 pub mod BetweenTwo
 pub mod FractionLaws
 pub mod FoundBetween
-pub mod LookupBlends

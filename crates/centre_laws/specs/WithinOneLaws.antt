@@ -18,9 +18,15 @@ use Rattle.floats.specs.WholeLaws.Steps.{step_whole, toward_of}
 use Rattle.floats.specs.FiniteLaws.{larger_number, smaller_number}
 use Rattle.floats.specs.OrderLaws.{lt_values}
 use Rattle.grid.specs.Grid.{float_of}
-use Rattle.lookup.specs.PlaceLaws.{whole_value}
+use Rattle.std.specs.Float.Ieee as Ieee
+use Rattle.std.specs.Float.Ieee.Back.{round_whole}
 use Rattle.centre_laws.specs.Near.{Apart, NearTo}
 use Rattle.centre_laws.specs.WithinOne.{WithinOne, within_axis}
+
+-- a small whole number as a float is that number
+whole_value : (a : ℕ) → a ≤ 16777216 → HasValue (float_of a) false a 1
+unfolding Ieee.of_int
+whole_value a h = round_whole binary32 false a h
 
 -- ---- from units: m / e is a / u, and ±a lies within t of i · u
 

@@ -4,5 +4,3 @@ pub mod Near
 pub mod CentreSteps
 pub mod WithinOne
 pub mod WithinOneLaws
-pub mod CentreCoordinates
-pub mod CentreLookups
