@@ -1,12 +1,11 @@
 #!/usr/bin/env python3
 """Holds the compiled volume calls to the Python reader, writer and judge: volume_differ.py [FILES [VOLUMES [SEED]]].
 
-Builds the program volume_files by `rt check`, then runs it on VOLUMES random volumes (default 2,000), each a good file that must be
+Builds the program volume_files by `rt run`, then runs it on VOLUMES random volumes (default 2,000), each a good file that must be
 accepted and whose bytes, written again, must agree, and on FILES damaged files (default 1,000,000), whose verdicts must be the
 judge's. volstat is run too, on inputs of 0, 166, 65,536 and 65,537 bytes, whole and in short pieces. Exit status 0: all agree.
 """
 import os
-import platform
 import random
 import struct
 import subprocess
@@ -22,13 +21,17 @@ BATCH = 20000
 LIGHT, COEFFICIENT = 0x5F800000, 0x6F800000
 
 
+def built(*names):
+    """Proves programs of the repository and builds them, by `rt run` on no input."""
+    for name in names:
+        made = subprocess.run(["rt", "run"], cwd=os.path.join(HERE, "crates", name), stdin=subprocess.DEVNULL, stdout=subprocess.PIPE, stderr=subprocess.STDOUT, text=True)
+        if made.returncode:
+            sys.exit(made.stdout[-2000:])
+
+
 def command(name):
-    """How a program of the repository is run: by its own loader, and by the kit's emulator where the processor is another."""
-    guide = subprocess.run(["rt", "doc"], cwd=HERE, check=True, capture_output=True, text=True).stdout.strip()
-    tools = os.path.join(os.path.dirname(os.path.dirname(guide)), "on", platform.machine(), "toolchain")
-    emulator = os.path.join(tools, "bin", "qemu-x86_64")
-    loader = [os.path.join(tools, "lib", "ld-linux-x86-64.so.2"), "--library-path", os.path.join(tools, "lib")]
-    return ([emulator] if os.access(emulator, os.X_OK) else []) + loader + [os.path.join(HERE, "target", "bin", name)]
+    """How a program that was built is run."""
+    return [os.path.join(HERE, "crates", name, "out", name)]
 
 
 def run(name, data):
@@ -125,7 +128,7 @@ def damaged(chance, stock):
 
 def main():
     files, volumes, seed = [int(w) for w in sys.argv[1:]] + [1000000, 2000, 1][len(sys.argv) - 1:]
-    subprocess.run(["rt", "check", "volstat", "volume_files"], cwd=HERE, check=True, stdout=subprocess.DEVNULL)
+    built("volstat", "volume_files")
     chance = random.Random(seed)
 
     full = assemble([1, 1, 1], parts() + [(140, b"")])
