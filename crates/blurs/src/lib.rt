@@ -2,65 +2,61 @@
 #![tactic(auto)]
 
 ghost use Rattle.std.specs.Prelude.{◌≡◌, ◌≤◌};
+ghost use Rattle.names.specs.Answers.{answer_number};
 ghost use Rattle.grid.specs.Grid.{AxesWithin};
 ghost use Rattle.blurs.specs.Blurs.{LightBlurred, CoefficientsBlurred, light_blur_refusal, coefficient_blur_refusal, wrong_blur_lists};
 
 use grid::Axes;
+use names::Refusal;
 
-// Light: scratch gets the light as it was, and the light the square of its 3×3×3 mean. Answers 0, or 1, 3 or 13, and then writes nothing.
-pub fn light_blur(axes: Axes, light: &mut [f32], scratch: &mut [f32]) -> u32
-    ensures { LightBlurred axes light.old scratch.old result light.new scratch.new }
+// Light: scratch gets the light as it was, and the light the square of its 3×3×3 mean. Refused by 1, 3 or 13, and then writes nothing.
+pub fn light_blur(axes: Axes, light: &mut [f32], scratch: &mut [f32]) -> Result<(), Refusal>
+    ensures { LightBlurred axes light.old scratch.old (answer_number result) light.new scratch.new }
 {
-    let refusal = light_refusal(axes, light, scratch);
-    if refusal == 0 {
-        means::inner::copy(light, scratch);
-        means::inner::square(scratch, light, axes.width, axes.height, axes.depth);
-        return 0;
-    }
-    refusal
+    judge_light(axes, light, scratch)?;
+    means::inner::copy(light, scratch);
+    means::inner::square(scratch, light, axes.width, axes.height, axes.depth);
+    Ok(())
 }
 
-// The sixteen numbers of each voxel: scratch gets the volume as it was, and the volume its 3×3×3 mean. Answers 0, or 1, 3 or 13, and then writes nothing.
-pub fn coefficient_blur(axes: Axes, volume: &mut [f32], scratch: &mut [f32]) -> u32
-    ensures { CoefficientsBlurred axes volume.old scratch.old result volume.new scratch.new }
+// The sixteen numbers of each voxel: scratch gets the volume as it was, and the volume its 3×3×3 mean. Refused by 1, 3 or 13, and then writes nothing.
+pub fn coefficient_blur(axes: Axes, volume: &mut [f32], scratch: &mut [f32]) -> Result<(), Refusal>
+    ensures { CoefficientsBlurred axes volume.old scratch.old (answer_number result) volume.new scratch.new }
 {
-    let refusal = coefficient_refusal(axes, volume, scratch);
-    if refusal == 0 {
-        means::inner::copy(volume, scratch);
-        means::inner::mean(scratch, volume, axes.width, axes.height, axes.depth);
-        return 0;
-    }
-    refusal
+    judge_coefficients(axes, volume, scratch)?;
+    means::inner::copy(volume, scratch);
+    means::inner::mean(scratch, volume, axes.width, axes.height, axes.depth);
+    Ok(())
 }
 
-fn light_refusal(axes: Axes, light: &[f32], scratch: &[f32]) -> u32
-    ensures { result ≡ light_blur_refusal axes light.now scratch.now }
+fn judge_light(axes: Axes, light: &[f32], scratch: &[f32]) -> Result<(), Refusal>
+    ensures { answer_number result ≡ light_blur_refusal axes light.now scratch.now }
 {
     if limits::inner::bad_axes(axes) {
-        return 1;
+        return Err(Refusal::Axes);
     }
     if wrong_lists(axes, 1, light, scratch) {
-        return 3;
+        return Err(Refusal::Lengths);
     }
     if limits::inner::bad_lights(light) {
-        return 13;
+        return Err(Refusal::Contents);
     }
-    0
+    Ok(())
 }
 
-fn coefficient_refusal(axes: Axes, volume: &[f32], scratch: &[f32]) -> u32
-    ensures { result ≡ coefficient_blur_refusal axes volume.now scratch.now }
+fn judge_coefficients(axes: Axes, volume: &[f32], scratch: &[f32]) -> Result<(), Refusal>
+    ensures { answer_number result ≡ coefficient_blur_refusal axes volume.now scratch.now }
 {
     if limits::inner::bad_axes(axes) {
-        return 1;
+        return Err(Refusal::Axes);
     }
     if wrong_lists(axes, 16, volume, scratch) {
-        return 3;
+        return Err(Refusal::Lengths);
     }
     if limits::inner::bad_coefficients(volume) {
-        return 13;
+        return Err(Refusal::Contents);
     }
-    0
+    Ok(())
 }
 
 // Whether one of the two lists does not have `stride` numbers for each voxel.

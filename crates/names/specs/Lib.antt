@@ -3,5 +3,7 @@ pub mod Bits
 pub mod Numbers
 pub mod Refusals
 pub mod Passed
+pub mod Answers
+pub mod AnswersLaws
 pub mod Scene
 pub mod SolidLaws

@@ -1,6 +1,10 @@
 // The numbers that the customer chose, as the code names them; specs/ has each with his sentence, and what every crate shares.
 #![tactic(auto)]
 
+mod refusal;
+
+pub use refusal::{Refusal, told};
+
 // ---- how many
 
 pub const AXIS_LIMIT: usize = 128;

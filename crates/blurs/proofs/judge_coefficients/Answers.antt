@@ -1,10 +1,10 @@
--- `blurs::coefficient_refusal` tests the rows in their order, and each return is the first that holds. Assumes nothing.
+-- `blurs::judge_coefficients` tests the rows in their order, and each return is the first that holds. Assumes nothing.
 use mathlib.Core.Path.{sym, ◌∙◌}
 use native.Mathlib.Omega.{arith}
 use Rattle.names.specs.Refusals.{refusals}
 use Rattle.limits.specs.LimitsLaws.{axes_row}
 use Rattle.blurs.specs.Blurs.{coefficient_blur_refusal}
-use Rattle.blurs.proofs.coefficient_refusal.Goals as goal
+use Rattle.blurs.proofs.judge_coefficients.Goals as goal
 
 pub returns-then-bad_axes : goal.returns-then-bad_axes
 unfolding coefficient_blur_refusal
