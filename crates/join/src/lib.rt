@@ -2,6 +2,7 @@
 #![tactic(auto)]
 
 ghost use Rattle.std.specs.Prelude.{◌≡◌, ◌+◌, ◌*◌, ◌≤◌, ◌<◌, length};
+ghost use Rattle.names.specs.Answers.{answer_number};
 ghost use Rattle.names.specs.Numbers.{voxel_limit};
 ghost use Rattle.lists.specs.Laid.{replaced, voxel_part};
 ghost use Rattle.marks.specs.Marks.{is_marked};
@@ -10,36 +11,34 @@ ghost use Rattle.shares.specs.Shares.{joined_by};
 ghost use Rattle.join.specs.Join.{wrong_join_lists, bad_share, join_refusal, Joined};
 
 use grid::Axes;
+use names::Refusal;
 
-// The sixteen numbers of each voxel of the share are copied from `unblurred` to `joined`, and the other voxels of `joined` stay as they are. Answers 0, or
-// 1, 3 or 13, and then writes nothing.
-pub fn join(axes: Axes, share: &[u64], unblurred: &[f32], joined: &mut [f32]) -> u32
-    ensures { Joined axes share.now unblurred.now joined.old result joined.new }
+// The sixteen numbers of each voxel of the share are copied from `unblurred` to `joined`, and the other voxels of `joined` stay as they are. Refused by 1, 3
+// or 13, and then writes nothing.
+pub fn join(axes: Axes, share: &[u64], unblurred: &[f32], joined: &mut [f32]) -> Result<(), Refusal>
+    ensures { Joined axes share.now unblurred.now joined.old (answer_number result) joined.new }
 {
-    let refusal = refusal_of(axes, share, unblurred, joined);
-    if refusal == 0 {
-        let n = grid::inner::voxel_count(axes);
-        copy_marked(share, n, unblurred, joined);
-        return 0;
-    }
-    refusal
+    judge(axes, share, unblurred, joined)?;
+    let n = grid::inner::voxel_count(axes);
+    copy_marked(share, n, unblurred, joined);
+    Ok(())
 }
 
-// The number of the first row that holds: 1, 3, 13.
-fn refusal_of(axes: Axes, share: &[u64], unblurred: &[f32], joined: &[f32]) -> u32
-    ensures { result ≡ join_refusal axes share.now unblurred.now joined.now }
+// The first row that holds: 1, 3, 13.
+fn judge(axes: Axes, share: &[u64], unblurred: &[f32], joined: &[f32]) -> Result<(), Refusal>
+    ensures { answer_number result ≡ join_refusal axes share.now unblurred.now joined.now }
 {
     if limits::inner::bad_axes(axes) {
-        return 1;
+        return Err(Refusal::Axes);
     }
     let n = grid::inner::voxel_count(axes);
     if wrong_lists(n, share, unblurred, joined) {
-        return 3;
+        return Err(Refusal::Lengths);
     }
     if bad_share(n, share, unblurred) {
-        return 13;
+        return Err(Refusal::Contents);
     }
-    0
+    Ok(())
 }
 
 // Whether the mask has not as many words as n voxels take, or a volume not sixteen numbers for each of them.
@@ -64,6 +63,7 @@ fn copy_marked(share: &[u64], n: usize, from: &[f32], to: &mut [f32])
     requires from_len { (length from.now ≡ n * 16) × (length to.old ≡ n * 16) }
     ensures { to.new ≡ joined_by 16 n (is_marked (entries_of share.now n)) from.now to.old }
 {
+    // index loop: i goes from mark to mark
     let mut i = words::inner::next_marked(share, n, 0);
     while i < n {
         copy_voxel(from, to, i);
@@ -78,5 +78,5 @@ fn copy_voxel(from: &[f32], to: &mut [f32], i: usize)
 {
     let start = i * 16;
     let end = start + 16;
-    means::inner::copy(&from[start..end], &mut to[start..end]);
+    to[start..end].copy_from_slice(&from[start..end]);
 }

@@ -1,6 +1,8 @@
 -- The occupied and the active mask. A call tests 1, 2, 3, 4 and 5, in that order. Accepted, it fills both lists with the words of the masks, whatever
 -- stood there, and answers how many voxels of each are marked. Assumes nothing.
-use Rattle.std.specs.Prelude.{◌≡◌, Bool, ◌||◌, List, [], ◌∷◌, ℕ, ◌/◌, ◌%◌, length, Float}
+use Rattle.std.specs.Prelude.{◌≡◌, Bool, ◌||◌, List, [], ◌∷◌, ℕ, ◌/◌, ◌%◌, length, Result, Ok, Err, Float}
+use Rattle.names.specs.declared.refusal.Refusal.{Refusal}
+use Rattle.names.specs.Answers.{number_of}
 use Rattle.names.specs.Refusals.{Row, row, first_of, unless_refused}
 use Rattle.grid.specs.declared.Axes.{Axes}
 use Rattle.grid.specs.declared.Corners.{Corners}
@@ -10,6 +12,7 @@ use Rattle.marks.specs.Marks.{marked_count}
 use Rattle.words.specs.Words.{word_count, words_of}
 use Rattle.occupy.specs.Occupied.{occupied_of}
 use Rattle.dilate.specs.Active.{active_of}
+use Rattle.masks.specs.declared.MaskCounts.{MaskCounts}
 use Rattle.masks.specs.declared.Marked.{Marked}
 
 -- the points are no multiple of nine, or a mask has not exactly as many words as its voxels take
@@ -42,6 +45,11 @@ marked_of r axes corners points =
       occupied = unless_refused r (marked_count (occupied_of axes corners points)) 0;
       active = unless_refused r (marked_count (active_mask_of axes corners points)) 0;
     }
+
+-- a call's answer as C is told it
+abbrev pub marked_from : Result MaskCounts Refusal → Marked
+marked_from (Ok counts) = record { refusal = 0; occupied = counts.occupied; active = counts.active }
+marked_from (Err r) = record { refusal = number_of r; occupied = 0; active = 0 }
 
 pub record MasksFilled (axes : Axes) (corners : Corners) (points : List Float) (occupied active : List ℕ) (r : Marked) (occupied' active' : List ℕ) : Type 0 where
   pub answer : r ≡ marked_of (masks_refusal axes corners points occupied active) axes corners points

@@ -1,9 +1,12 @@
 -- The public call that builds a scene's tree. The tree stands at the front of the three lists, and what stands behind it stays.
-use Rattle.std.specs.Prelude.{◌≡◌, Bool, not, ◌||◌, List, [], ◌∷◌, ◌++◌, ℕ, ◌*◌, ◌/◌, ◌%◌, ◌<◌, eqb, ltb, length, drop, Float}
+use Rattle.std.specs.Prelude.{◌≡◌, Bool, not, ◌||◌, List, [], ◌∷◌, ◌++◌, ℕ, ◌*◌, ◌/◌, ◌%◌, ◌<◌, eqb, ltb, length, drop, Result, Ok, Err, Float}
 use Rattle.std.specs.Float.{nan}
+use Rattle.names.specs.declared.refusal.Refusal.{Refusal}
+use Rattle.names.specs.Answers.{number_of}
 use Rattle.names.specs.Refusals.{Row, row, first_of, unless_refused}
 use Rattle.limits.specs.Limits.{too_many_triangles, bad_points}
 use Rattle.tree_order.specs.Order.{order_of}
+use Rattle.tree_build.specs.declared.TreeSize.{TreeSize}
 use Rattle.tree_build.specs.declared.TreeBuilt.{TreeBuilt}
 use Rattle.tree_build.specs.Built.{Built, boxes_for, KeptBeside}
 
@@ -27,6 +30,11 @@ built_of points boxes nodes order =
       boxes = unless_refused (build_refusal points boxes nodes order) (boxes_for (length (order_of points))) 0;
       places = unless_refused (build_refusal points boxes nodes order) (length (order_of points)) 0;
     }
+
+-- a call's answer as C is told it
+abbrev pub built_from : Result TreeSize Refusal → TreeBuilt
+built_from (Ok size) = record { refusal = 0; boxes = size.boxes; places = size.places }
+built_from (Err r) = record { refusal = number_of r; boxes = 0; places = 0 }
 
 -- the order, and the boxes of the run of all its places, at the front of the lists; behind them, and so everywhere in a refused call's lists, nothing changed
 pub record BuildAnswered (points boxes : List Float) (nodes order : List ℕ) (r : TreeBuilt) (boxes' : List Float) (nodes' order' : List ℕ) : Type 0 where

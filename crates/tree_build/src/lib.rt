@@ -2,19 +2,46 @@
 #![tactic(auto)]
 
 ghost use Rattle.std.specs.Prelude.{◌≡◌};
-ghost use Rattle.tree_build.specs.Build.{wrong_build, build_refusal, BuildAnswered};
+ghost use Rattle.names.specs.Answers.{answer_number};
+ghost use Rattle.tree_build.specs.Build.{wrong_build, build_refusal, built_from, BuildAnswered};
 
-use names::TRIANGLE_LIMIT;
+use names::{Refusal, TRIANGLE_LIMIT};
 
 pub mod inner; // inner.rt: the boxes of a run, by halves
 
-// What the builder answers: a refusal's number, or 0 and how many boxes and how many places the tree has.
+// How many boxes and how many places a tree has.
+#[derive(Clone, Copy)]
+pub struct TreeSize {
+    pub boxes: usize,
+    pub places: usize,
+}
+
+// What C is answered: a refusal's number, or 0 and the tree's size.
 #[repr(C)]
 #[derive(Clone, Copy)]
 pub struct TreeBuilt {
     pub refusal: u32,
     pub boxes: usize,
     pub places: usize,
+}
+
+impl From<Result<TreeSize, Refusal>> for TreeBuilt {
+    ghost from_gives = { λ a t. t ≡ built_from a };
+
+    fn from(answer: Result<TreeSize, Refusal>) -> TreeBuilt {
+        match answer {
+            Ok(size) => TreeBuilt {
+                refusal: 0,
+                boxes: size.boxes,
+                places: size.places,
+            },
+            Err(refusal) => TreeBuilt {
+                refusal: u32::from(refusal),
+                boxes: 0,
+                places: 0,
+            },
+        }
+    }
 }
 
 // Builds the tree of a scene, at the front of three lists: six numbers and three whole numbers a box, and the places of the present triangles. What stands
@@ -25,40 +52,29 @@ pub fn build_tree(
     boxes: &mut [f32],
     nodes: &mut [u32],
     order: &mut [u32],
-) -> TreeBuilt
-    ensures { BuildAnswered points.now boxes.old nodes.old order.old result boxes.new nodes.new order.new }
+) -> Result<TreeSize, Refusal>
+    ensures { BuildAnswered points.now boxes.old nodes.old order.old (built_from result) boxes.new nodes.new order.new }
 {
-    let refusal = build_refusal(points, boxes.len(), nodes.len(), order.len());
-    if refusal == 0 {
-        let places = tree_order::inner::put_order(points, order);
-        let count = inner::put_tree(points, boxes, nodes, order, places);
-        return TreeBuilt {
-            refusal: 0,
-            boxes: count,
-            places,
-        };
-    }
-    TreeBuilt {
-        refusal,
-        boxes: 0,
-        places: 0,
-    }
+    judge(points, boxes.len(), nodes.len(), order.len())?;
+    let places = tree_order::inner::put_order(points, order);
+    let boxes = inner::put_tree(points, boxes, nodes, order, places);
+    Ok(TreeSize { boxes, places })
 }
 
 // 3, 4, 5
-fn build_refusal(points: &[f32], boxes: usize, nodes: usize, order: usize) -> u32
-    ensures { result ≡ build_refusal points.now boxes nodes order }
+fn judge(points: &[f32], boxes: usize, nodes: usize, order: usize) -> Result<(), Refusal>
+    ensures { answer_number result ≡ build_refusal points.now boxes nodes order }
 {
     if wrong_build(points.len(), boxes, nodes, order) {
-        return 3;
+        return Err(Refusal::Lengths);
     }
     if TRIANGLE_LIMIT < points.len() / 9 {
-        return 4;
+        return Err(Refusal::TooMany);
     }
     if limits::inner::bad_points(points) {
-        return 5;
+        return Err(Refusal::Points);
     }
-    0
+    Ok(())
 }
 
 // Whether the points are not nine for each triangle, or a list is too short.

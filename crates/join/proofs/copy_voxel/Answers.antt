@@ -12,4 +12,4 @@ unfolding replaced
 returns c =
     let a = c.args in
     let k : a.i * 16 + 16 - a.i * 16 ≡ 16 = omega arith in
-    rw (Post-is (a.i * 16) (a.i * 16 + 16) a.to.now (omega arith), c.copy.ensures, k) refl
+    rw (Post-is (a.i * 16) (a.i * 16 + 16) a.to.now (omega arith), c.copy_from_slice.ensures.after, k) refl

@@ -1,11 +1,11 @@
--- `join::refusal_of` tests the rows in their order, and each return is the first that holds. Assumes nothing.
+-- `join::judge` tests the rows in their order, and each return is the first that holds. Assumes nothing.
 use mathlib.Core.Path.{sym, ◌∙◌}
 use Rattle.names.specs.Refusals.{refusals}
 use Rattle.grid.specs.GridLaws.{voxels_most}
 use Rattle.limits.specs.LimitsLaws.{axes_row}
 use Rattle.join.specs.Join.{join_refusal}
 use Rattle.join.specs.JoinLaws.{wrong_lists_long}
-use Rattle.join.proofs.refusal_of.Goals as goal
+use Rattle.join.proofs.judge.Goals as goal
 
 pub returns-then-bad_axes : goal.returns-then-bad_axes
 unfolding join_refusal

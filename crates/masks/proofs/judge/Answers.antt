@@ -1,9 +1,9 @@
--- `masks::masks_refusal` tests the rows in their order, and each return is the first that holds. Assumes nothing.
+-- `masks::judge` tests the rows in their order, and each return is the first that holds. Assumes nothing.
 use mathlib.Core.Path.{sym, ◌∙◌}
 use Rattle.names.specs.Refusals.{refusals, row_holds, row_passed, rows_passed}
 use Rattle.limits.specs.LimitsLaws.{axes_row}
 use Rattle.masks.specs.Masks.{masks_refusal}
-use Rattle.masks.proofs.masks_refusal.Goals as goal
+use Rattle.masks.proofs.judge.Goals as goal
 
 pub returns-then-bad_axes : goal.returns-then-bad_axes
 unfolding masks_refusal

@@ -1,7 +1,7 @@
--- `tree_build::build_refusal` meets its contract: the first test that holds gives its row's number.
+-- `tree_build::judge` meets its contract: the first test that holds gives its row's number.
 use Rattle.names.specs.Refusals.{refusals}
 use Rattle.tree_build.specs.Build.{build_refusal}
-use Rattle.tree_build.proofs.build_refusal.Goals as goal
+use Rattle.tree_build.proofs.judge.Goals as goal
 
 pub returns-then-wrong_build : goal.returns-then-wrong_build
 unfolding build_refusal
