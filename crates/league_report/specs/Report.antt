@@ -1,14 +1,15 @@
 -- The league report over an input: "volume files one after another, each after a u32 length of at most 65,536". A line a file, then one over all files; or,
 -- instead of that one, a refusal with the place of the file that was begun. Definitions only: specs/ReportLaws.antt says what they mean.
-use Rattle.std.specs.Prelude.{cond, List, [], ◌∷◌, ◌++◌, ℕ, zero, suc, ◌+◌, ◌*◌, ◌≤◌, ltb, leb, eqb, length, take, drop, Float}
+use Rattle.std.specs.Prelude.{cond, List, [], ◌∷◌, ◌++◌, ℕ, zero, suc, ◌+◌, ◌*◌, ◌≤◌, ltb, leb, eqb, length, take, drop, Float, Option, None, Some, Result, Ok, Err}
+use Rattle.names.specs.declared.refusal.Refusal.{Refusal}
+use Rattle.names.specs.declared.refusal.Refusal.TheVariants.{League as LeagueRefusal}
+use Rattle.names.specs.Answers.{number_of}
 use Rattle.names.specs.Numbers.{length_limit, files_limit}
 use Rattle.bytes_le.specs.Bytes.{u32_at}
 use Rattle.volume_file.specs.VolumeFile.{light_at}
 use Rattle.light_figures.specs.declared.LightFigures.{LightFigures}
 use Rattle.light_figures.specs.LightFigures.{light_figures, joined_figures, FiguresSized}
 use Rattle.league_report.specs.declared.League.{League}
-use Rattle.league_report.specs.declared.Opening.{Opening}
-use Rattle.league_report.specs.declared.Opening.TheVariants.{End, Length, TooFar}
 use Rattle.league_report.specs.FileLights.{lights_refusal}
 
 -- ---- what is said of the files so far
@@ -34,14 +35,15 @@ league_with g f = record { files = g.files + 1; total = joined_figures g.total f
 
 -- ---- what stands before a file
 
--- up to four bytes, of which there are fewer only where the input ends: none is the end; and 18 for a file too many, a length cut off or one above the limit
-unfoldable pub opening_of : ℕ → List ℕ → Opening
+-- the length, by up to four bytes, of which there are fewer only where the input ends: none is the end; and 18 for a file too many, a length cut off or one
+-- above the limit
+unfoldable pub opening_of : ℕ → List ℕ → Result (Option ℕ) Refusal
 opening_of files head =
-    cond (eqb (length head) 0) End
-    (cond (leb files_limit files) TooFar
-    (cond (ltb (length head) 4) TooFar
-    (cond (ltb length_limit (u32_at head 0)) TooFar
-    (Length (u32_at head 0)))))
+    cond (eqb (length head) 0) (Ok None)
+    (cond (leb files_limit files) (Err LeagueRefusal)
+    (cond (ltb (length head) 4) (Err LeagueRefusal)
+    (cond (ltb length_limit (u32_at head 0)) (Err LeagueRefusal)
+    (Ok (Some (u32_at head 0))))))
 
 -- ---- the report
 
@@ -70,10 +72,10 @@ after_file files file rest =
     (refused (lights_refusal file) (place_after files) ∷ [])
 
 -- what follows an opening, in what is left of the input; `next` gives the lines of a file and of what is left after it
-unfoldable pub after_opening : List (List Float) → (List ℕ → List ℕ → List Line) → Opening → List ℕ → List Line
-after_opening files next End s = last_line files ∷ []
-after_opening files next TooFar s = cut_off files
-after_opening files next (Length n) s = cond (ltb (length s) n) (cut_off files) (next (take n s) (drop n s))
+unfoldable pub after_opening : List (List Float) → (List ℕ → List ℕ → List Line) → Result (Option ℕ) Refusal → List ℕ → List Line
+after_opening files next (Ok None) s = last_line files ∷ []
+after_opening files next (Ok (Some n)) s = cond (ltb (length s) n) (cut_off files) (next (take n s) (drop n s))
+after_opening files next (Err r) s = refused (number_of r) (place_after files) ∷ []
 
 -- the lines after these files, where `left` more may come
 unfoldable pub report_from : ℕ → List (List Float) → List ℕ → List Line

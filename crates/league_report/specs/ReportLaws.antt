@@ -1,9 +1,12 @@
 -- What the report says: a line a file and then one line, of all lights put together or of a refusal; how the league goes by a file; how a turn goes; that no
 -- counter can overflow; and that no input gives a line of zeros. Assumes nothing.
-use Rattle.std.specs.Prelude.{◌≡◌, refl, Bool, true, false, cond, ◌⊎◌, List, [], ◌∷◌, ◌++◌, ℕ, zero, suc, ◌+◌, ◌-◌, ◌*◌, ◌<◌, ◌≤◌, ltb, leb, eqb, length, take, drop, replicate, Float}
+use Rattle.std.specs.Prelude.{◌≡◌, refl, Bool, true, false, cond, ◌⊎◌, List, [], ◌∷◌, ◌++◌, ℕ, zero, suc, ◌+◌, ◌-◌, ◌*◌, ◌<◌, ◌≤◌, ltb, leb, eqb, length, take, drop, replicate, Float, Option, None, Some, Result, Ok, Err}
 use Rattle.std.proofs.Common.{sym, ap, inl, inr, append_assoc, append-nil, arith, length-append, le-leb, leb-false, ltb-false}
 use Rattle.std.proofs.Math.Dec.{eqb-suc-zero}
 use Rattle.std.proofs.lemmas.Bool.{eqb-false}
+use Rattle.names.specs.declared.refusal.Refusal.{Refusal}
+use Rattle.names.specs.declared.refusal.Refusal.TheVariants.{League as LeagueRefusal}
+use Rattle.names.specs.Answers.{number_of}
 use Rattle.names.specs.Numbers.{length_limit, files_limit}
 use Rattle.names.specs.Refusals.{first_of}
 use Rattle.lists.specs.Fold.{tab}
@@ -15,8 +18,6 @@ use Rattle.light_units.specs.Units.{light_outside}
 use Rattle.light_figures.specs.LightFigures.{sum_of, lowest_of, highest_of, in_band, figures_of, units_each, light_figures}
 use Rattle.light_figures.specs.FiguresLaws.{lights_joined, bands_voxels}
 use Rattle.league_report.specs.declared.League.{League}
-use Rattle.league_report.specs.declared.Opening.{Opening}
-use Rattle.league_report.specs.declared.Opening.TheVariants.{End, Length, TooFar}
 use Rattle.league_report.specs.FileLights.{lights_refusal}
 use Rattle.league_report.specs.FileLightsLaws.{units_inside, length_each, lights_sized}
 use Rattle.league_report.specs.Report.{all_lights, league_of, LeagueWithin, league_with, opening_of, Line, figures, refused, last_line, place_after, cut_off, after_file, after_opening, report_from, report_of}
@@ -44,14 +45,14 @@ pub data Reported : List (List Float) → List Line → Type 0 where
   -- the line of the next, and so on after it
   further : {files : List (List Float)} (x : List Float) {lines : List Line} → Reported (files ++ x ∷ []) lines → Reported files (figures (place_after files) (light_figures x) ∷ lines)
 
-abbrev number_of : Bool → Bool → Bool → ℕ
-number_of a b c = cond a 18 (cond b 12 (cond c 18 0))
+abbrev first_number : Bool → Bool → Bool → ℕ
+first_number a b c = cond a 18 (cond b 12 (cond c 18 0))
 
 refusal_of : (file : List ℕ) → (lights_refusal file ≡ 0 → ⊥) → (lights_refusal file ≡ 18) ⊎ (lights_refusal file ≡ 12)
 unfolding lights_refusal first_of
 refusal_of file n = go (ltb length_limit (length file)) (faulty file) (some light_outside (light_at file)) n
   where
-    go : (a b c : Bool) → (number_of a b c ≡ 0 → ⊥) → (number_of a b c ≡ 18) ⊎ (number_of a b c ≡ 12)
+    go : (a b c : Bool) → (first_number a b c ≡ 0 → ⊥) → (first_number a b c ≡ 18) ⊎ (first_number a b c ≡ 12)
     go true b c n = inl refl
     go false true c n = inr refl
     go false false true n = inl refl
@@ -66,12 +67,28 @@ file_reported files file rest r = go (eqb (lights_refusal file) 0) refl
     go true e = further (light_at file) r
     go false e = stopped (refusal_of file (eqb-false (lights_refusal file) 0 e))
 
-opening_reported : (files : List (List Float)) (next : List ℕ → List ℕ → List Line) (o : Opening) (s : List ℕ)
-    → ((file rest : List ℕ) → Reported files (next file rest)) → Reported files (after_opening files next o s)
+-- the tests of an opening, and what it is by them
+abbrev chain : Bool → Bool → Bool → Bool → ℕ → Result (Option ℕ) Refusal
+chain a b c d n = cond a (Ok None) (cond b (Err LeagueRefusal) (cond c (Err LeagueRefusal) (cond d (Err LeagueRefusal) (Ok (Some n)))))
+
+-- an opening is refused by 18 alone
+opening_refused : (files : ℕ) (head : List ℕ) (r : Refusal) → opening_of files head ≡ Err r → number_of r ≡ 18
+unfolding opening_of
+opening_refused files head r e = go (eqb (length head) 0) (leb files_limit files) (ltb (length head) 4) (ltb length_limit (u32_at head 0)) (u32_at head 0) e
+  where
+    go : (a b c d : Bool) (n : ℕ) → chain a b c d n ≡ Err r → number_of r ≡ 18
+    go true b c d n f = cc
+    go false true c d n f = let q : r ≡ LeagueRefusal = cc in rw q refl
+    go false false true d n f = let q : r ≡ LeagueRefusal = cc in rw q refl
+    go false false false true n f = let q : r ≡ LeagueRefusal = cc in rw q refl
+    go false false false false n f = cc
+
+opening_reported : (files : List (List Float)) (next : List ℕ → List ℕ → List Line) (o : Result (Option ℕ) Refusal) (s : List ℕ)
+    → ((r : Refusal) → o ≡ Err r → number_of r ≡ 18) → ((file rest : List ℕ) → Reported files (next file rest)) → Reported files (after_opening files next o s)
 unfolding after_opening
-opening_reported files next End s h = ended
-opening_reported files next TooFar s h = stopped (inl refl)
-opening_reported files next (Length n) s h = go (ltb (length s) n)
+opening_reported files next (Ok None) s n h = ended
+opening_reported files next (Err r) s n h = stopped (inl (n r refl))
+opening_reported files next (Ok (Some n)) s _ h = go (ltb (length s) n)
   where
     go : (b : Bool) → Reported files (cond b (cut_off files) (next (take n s) (drop n s)))
     go true = stopped (inl refl)
@@ -85,7 +102,7 @@ report_lines zero files s = go (eqb (length s) 0)
     go true = ended
     go false = stopped (inl refl)
 report_lines (suc left) files s =
-    opening_reported files _ (opening_of (length files) (take 4 s)) (drop 4 s)
+    opening_reported files _ (opening_of (length files) (take 4 s)) (drop 4 s) (opening_refused (length files) (take 4 s))
     (λ file rest. file_reported files file (report_from left (files ++ light_at file ∷ []) rest) (report_lines left (files ++ light_at file ∷ []) rest))
 
 -- a turn of the program: what is kept is league_of of the files so far, and not their lights
@@ -100,18 +117,16 @@ report_turn (suc left) files s h =
     ap (λ (k : ℕ). after_opening files (λ file rest. after_file files file (report_from k (files ++ light_at file ∷ []) rest)) (opening_of (length files) (take 4 s)) (drop 4 s)) e
 
 -- a length stands before a file that may come, and is within the limit
-pub length_within : (files n : ℕ) (head : List ℕ) → Length n ≡ opening_of files head → (files < files_limit) × (n ≤ length_limit)
+pub length_within : (files n : ℕ) (head : List ℕ) → Ok (Some n) ≡ opening_of files head → (files < files_limit) × (n ≤ length_limit)
 unfolding opening_of
-length_within files n head e = go (eqb (length head) 0) (leb files_limit files) (ltb (length head) 4) (ltb length_limit (u32_at head 0)) refl refl e
+length_within files n head e =
+    go (eqb (length head) 0) (leb files_limit files) (ltb (length head) 4) (ltb length_limit (u32_at head 0)) refl refl e
   where
-    chain : Bool → Bool → Bool → Bool → Opening
-    chain a b c d = cond a End (cond b TooFar (cond c TooFar (cond d TooFar (Length (u32_at head 0)))))
-
-    go : (a b c d : Bool) → leb files_limit files ≡ b → ltb length_limit (u32_at head 0) ≡ d → Length n ≡ chain a b c d → (files < files_limit) × (n ≤ length_limit)
-    go true b c d p q f = let z : ◌≡◌ {A = ℕ} 0 1 = cc in absurd (omega arith)
-    go false true c d p q f = let z : ◌≡◌ {A = ℕ} 0 1 = cc in absurd (omega arith)
-    go false false true d p q f = let z : ◌≡◌ {A = ℕ} 0 1 = cc in absurd (omega arith)
-    go false false false true p q f = let z : ◌≡◌ {A = ℕ} 0 1 = cc in absurd (omega arith)
+    go : (a b c d : Bool) → leb files_limit files ≡ b → ltb length_limit (u32_at head 0) ≡ d → Ok (Some n) ≡ chain a b c d (u32_at head 0) → (files < files_limit) × (n ≤ length_limit)
+    go true b c d p q f = cc
+    go false true c d p q f = cc
+    go false false true d p q f = cc
+    go false false false true p q f = cc
     go false false false false p q f = let m : n ≡ u32_at head 0 = cc in (leb-false files_limit files p, omega (arith, ltb-false length_limit (u32_at head 0) q))
 
 -- "none gives one line of zeros"

@@ -2,10 +2,12 @@
 -- beside it or 0 with what was asked, and each lent list afterwards. The definitions take the four lists in the order of the file's kinds: light,
 -- coefficients, active, occupied; the calls take the masks as every call does, occupied first. A mask is lent as words, and the file has its entries, a
 -- byte each. Assumes nothing.
-use Rattle.std.specs.Prelude.{◌≡◌, Bool, cond, ◌||◌, List, [], ◌∷◌, ℕ, ◌+◌, ◌*◌, ltb, length, Float}
+use Rattle.std.specs.Prelude.{◌≡◌, Bool, cond, ◌||◌, List, [], ◌∷◌, ℕ, ◌+◌, ◌*◌, ltb, length, Float, Result, Ok, Err}
 use Rattle.std.specs.Float.Ieee as Ieee
 use Rattle.names.specs.Bits.{zero32}
 use Rattle.names.specs.Numbers.{figures_limit}
+use Rattle.names.specs.declared.refusal.Refusal.{Refusal}
+use Rattle.names.specs.Answers.{number_of}
 use Rattle.names.specs.Refusals.{Row, row, first_of, unless_refused}
 use Rattle.vectors.specs.declared.Vec3.{Vec3}
 use Rattle.vectors.specs.Vectors.{vec}
@@ -18,6 +20,8 @@ use Rattle.words.specs.Words.{word_count, entries_of, words_of, unused_set}
 use Rattle.contents.specs.Contents.{axes_at}
 use Rattle.volume_file.specs.VolumeFile.{voxels_at, light_at, volume_at, active_at, occupied_at, corners_at, faulty}
 use Rattle.volume_write.specs.FileBytes.{bytes_for, file_bytes}
+use Rattle.volume.specs.declared.FileGrid.{FileGrid}
+use Rattle.volume.specs.declared.Counts.{Counts}
 use Rattle.volume.specs.declared.Head.{Head}
 use Rattle.volume.specs.declared.Needed.{Needed}
 use Rattle.volume.specs.declared.Figures.{Figures}
@@ -34,6 +38,11 @@ no_head refusal =
       axes = record { width = 0; height = 0; depth = 0 };
       corners = record { min = no_vector; max = no_vector };
     }
+
+-- an answer as C is told it
+abbrev pub head_of : Result FileGrid Refusal → Head
+head_of (Ok g) = record { refusal = 0; axes = g.axes; corners = g.corners }
+head_of (Err r) = no_head (number_of r)
 
 unfoldable pub head_answer : List ℕ → Head
 head_answer s = record { refusal = 0; axes = axes_at s; corners = corners_at s }
@@ -54,6 +63,11 @@ needed_rows a = row 1 (bad_axes a) ∷ []
 
 unfoldable pub needed_refusal : Axes → ℕ
 needed_refusal a = first_of (needed_rows a)
+
+-- an answer as C is told it
+abbrev pub needed_of : Result ℕ Refusal → Needed
+needed_of (Ok n) = record { refusal = 0; bytes = n }
+needed_of (Err r) = record { refusal = number_of r; bytes = 0 }
 
 pub record VolumeBytes (a : Axes) (r : Needed) : Type 0 where
   pub answer : r ≡ unless_refused (needed_refusal a) (record { refusal = 0; bytes = bytes_for (voxels a) }) (record { refusal = needed_refusal a; bytes = 0 })
@@ -115,6 +129,20 @@ zero_count (x ∷ l) = cond (is_zero x) 1 0 + zero_count l
 unfoldable pub no_figures : ℕ → Figures
 no_figures refusal =
     record { refusal = refusal; width = 0; height = 0; depth = 0; occupied = 0; active = 0; zeros = 0 }
+
+-- an answer as C is told it
+abbrev pub figures_of : Result Counts Refusal → Figures
+figures_of (Ok c) =
+    record {
+      refusal = 0;
+      width = c.axes.width;
+      height = c.axes.height;
+      depth = c.axes.depth;
+      occupied = c.occupied;
+      active = c.active;
+      zeros = c.zeros;
+    }
+figures_of (Err r) = no_figures (number_of r)
 
 unfoldable pub figures_answer : List ℕ → Figures
 figures_answer s =

@@ -1,30 +1,22 @@
 // One line of text for a volume file's figures.
 #![tactic(auto)]
 
+use names::Refusal;
 use std::io;
-use volume::Figures;
+use volume::Counts;
 
 // Prints the six figures with single spaces, or `refused` and the number; a newline ends either.
-pub fn print(rt: &impl Print, figures: Figures) -> io::Result<()> {
-    let refusal = figures.refusal;
-    if refusal != 0 {
-        rt.write_all(b"refused ")?;
-        console::print_decimal(rt, refusal as u64)?;
-        return rt.write_all(b"\n");
+pub fn print(rt: &impl Print, figures: Result<Counts, Refusal>) -> io::Result<()> {
+    match figures {
+        Ok(counts) => println!(rt;
+            "{} {} {} {} {} {}",
+            counts.axes.width,
+            counts.axes.height,
+            counts.axes.depth,
+            counts.occupied,
+            counts.active,
+            counts.zeros
+        ),
+        Err(refusal) => println!(rt; "{refusal}"),
     }
-    let width = figures.width;
-    let height = figures.height;
-    let depth = figures.depth;
-    console::print_decimal(rt, width as u64)?;
-    after_space(rt, height as u64)?;
-    after_space(rt, depth as u64)?;
-    after_space(rt, figures.occupied)?;
-    after_space(rt, figures.active)?;
-    after_space(rt, figures.zeros)?;
-    rt.write_all(b"\n")
-}
-
-fn after_space(rt: &impl Print, n: u64) -> io::Result<()> {
-    rt.write_all(b" ")?;
-    console::print_decimal(rt, n)
 }

@@ -1,4 +1,4 @@
-use Prim.Native.Nat.{◌+◌, ◌-◌, ◌*◌, ◌≤◌}
+use Prim.Native.Nat.{◌+◌, ◌-◌, ◌*◌}
 use mathlib.Core.Path.{◌≡◌}
 use mathlib.Core.Bool.{◌||◌}
 use Rattle.lists.specs.Fold.{tab}
@@ -8,7 +8,4 @@ use Rattle.light_units.specs.Units.{light_outside}
 use Rattle.league_report.proofs.any_outside.Given as goal
 
 abbrev pub invariant-loop-i : goal.invariant-loop-i
-invariant-loop-i l = (some light_outside (floats_at l.bytes l.at l.n) ≡ l.any || some light_outside (tab (λ k. f32_at l.bytes (l.at + k * 4)) (l.n - l.i) l.i)) × (l.i ≤ l.n)
-
-abbrev pub decreases-loop-i : goal.decreases-loop-i
-decreases-loop-i l = l.n - l.i
+invariant-loop-i l = some light_outside (floats_at l.bytes l.at l.n) ≡ l.any || some light_outside (tab (λ k. f32_at l.bytes (l.at + k * 4)) (l.n - l.i) l.i)

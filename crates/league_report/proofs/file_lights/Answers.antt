@@ -1,42 +1,50 @@
 -- The length first, then the judge, then the lights; then the file is counted.
-use mathlib.Core.Path.{sym, ◌∙◌}
+use native.Mathlib.Omega.{arith}
+use mathlib.Core.Path.{refl, sym, ap, ◌∙◌}
 use borrow.Author.Tests.{lt-ltb, le-ltb}
-use Rattle.league_report.proofs.Judged.{accepted, lights_long, lights_faulty, lights_outside, lights_given}
+use Rattle.names.specs.Refusals.{first_of}
+use Rattle.light_figures.specs.LightFigures.{light_figures}
+use Rattle.league_report.specs.FileLights.{lights_refusal}
+use Rattle.league_report.proofs.Judged.{head_room, entry_room, axes_fit, lights_place, lights_room, lights_fewer, lights_refused, lights_given}
 use Rattle.league_report.proofs.file_lights.Goals as goal
 
 pub returns-then-bytes-gt-LENGTH_LIMIT : goal.returns-then-bytes-gt-LENGTH_LIMIT
-returns-then-bytes-gt-LENGTH_LIMIT c = lights_long c.args.bytes.now _ (lt-ltb _ _ c.if-bytes-gt-LENGTH_LIMIT.true) c.no_lights.ensures
+unfolding lights_refusal first_of
+returns-then-bytes-gt-LENGTH_LIMIT c = lights_refused _ 18 (rw (lt-ltb _ _ c.if-bytes-gt-LENGTH_LIMIT.true) refl) (λ h. omega arith)
 
 pub returns-then-is_faulty : goal.returns-then-is_faulty
+unfolding lights_refusal first_of
 returns-then-is_faulty c =
-    let args = c.args in
-    let if1 = c.if-bytes-gt-LENGTH_LIMIT in
-    let is_faulty = c.is_faulty in
-    lights_faulty args.bytes.now _ _ (le-ltb _ _ if1.false) is_faulty.ensures c.if-is_faulty.true c.no_lights-then-is_faulty.ensures
+    lights_refused _ 12 (rw (le-ltb _ _ c.if-bytes-gt-LENGTH_LIMIT.false, ← c.if-is_faulty.ensures) refl) (λ h. omega arith)
 
-pub has_outside-requires : goal.has_outside-requires
-has_outside-requires c = accepted c.args.bytes.now _ c.is_faulty.ensures c.if-is_faulty.false
+pub axes_at-requires : goal.axes_at-requires
+axes_at-requires c = head_room _ c.if-is_faulty.ensures
 
-pub returns-then-has_outside : goal.returns-then-has_outside
-returns-then-has_outside c =
-    let args = c.args in
-    let if1 = c.if-bytes-gt-LENGTH_LIMIT in
-    let is_faulty = c.is_faulty in
-    let if2 = c.if-is_faulty in
-    let has_outside = c.has_outside in
-    lights_outside args.bytes.now _ _ _ (le-ltb _ _ if1.false) is_faulty.ensures if2.false has_outside.ensures c.if-has_outside.true c.no_lights-then-has_outside.ensures
+pub voxel_count-n-requires : goal.voxel_count-n-requires
+voxel_count-n-requires c = axes_fit _ c.if-is_faulty.ensures _ c.axes_at.ensures
 
-pub lights_of-requires : goal.lights_of-requires
-lights_of-requires c =
-    let args = c.args in
-    let is_faulty = c.is_faulty in
-    (accepted args.bytes.now _ is_faulty.ensures c.if-is_faulty.false, sym c.has_outside.ensures ∙ c.if-has_outside.false)
+pub offset_at-at-requires : goal.offset_at-at-requires
+offset_at-at-requires c = (entry_room _ c.if-is_faulty.ensures, omega arith)
+
+pub any_outside-requires : goal.any_outside-requires
+any_outside-requires c = lights_room _ c.if-is_faulty.ensures _ c.axes_at.ensures _ _ c.voxel_count-n.ensures c.offset_at-at.ensures
+
+pub returns-then-any_outside : goal.returns-then-any_outside
+unfolding lights_refusal first_of
+returns-then-any_outside c =
+    let place = lights_place _ c.if-is_faulty.ensures _ c.axes_at.ensures _ _ c.voxel_count-n.ensures c.offset_at-at.ensures in
+    lights_refused _ 18 (rw (le-ltb _ _ c.if-bytes-gt-LENGTH_LIMIT.false, ← c.if-is_faulty.ensures, ← place, ← c.if-any_outside.ensures) refl) (λ h. omega arith)
+
+pub counted-requires : goal.counted-requires
+counted-requires c = (
+  lights_room _ c.if-is_faulty.ensures _ c.axes_at.ensures _ _ c.voxel_count-n.ensures c.offset_at-at.ensures,
+  lights_fewer _ c.if-is_faulty.ensures _ c.axes_at.ensures _ _ c.voxel_count-n.ensures c.offset_at-at.ensures,
+  sym c.if-any_outside.ensures,
+)
 
 pub returns : goal.returns
+unfolding lights_refusal first_of
 returns c =
-    let args = c.args in
-    let if1 = c.if-bytes-gt-LENGTH_LIMIT in
-    let is_faulty = c.is_faulty in
-    let if2 = c.if-is_faulty in
-    let has_outside = c.has_outside in
-    lights_given args.bytes.now _ _ _ (le-ltb _ _ if1.false) is_faulty.ensures if2.false has_outside.ensures c.if-has_outside.false c.lights_of.ensures
+    let place = lights_place _ c.if-is_faulty.ensures _ c.axes_at.ensures _ _ c.voxel_count-n.ensures c.offset_at-at.ensures in
+    lights_given _ _ (rw (le-ltb _ _ c.if-bytes-gt-LENGTH_LIMIT.false, ← c.if-is_faulty.ensures, ← place, ← c.if-any_outside.ensures) refl)
+    (c.counted.ensures ∙ ap light_figures place)

@@ -1,20 +1,24 @@
 -- One test; then the file is accepted.
-use Rattle.volume.proofs.Calls.{accepted, axes_12, axes_0}
+use native.Mathlib.Omega.{arith}
+use mathlib.Core.Path.{refl, sym}
+use Rattle.names.specs.Refusals.{first_of}
+use Rattle.volume_file.specs.VolumeFileLaws.{accepted_row, accepted_laid}
+use Rattle.volume.specs.Volume.{head_answer, file_refusal}
+use Rattle.volume.proofs.Calls.{axes_refused, axes_given}
 use Rattle.volume.proofs.file_axes.Goals as goal
 
 pub returns-then-is_faulty : goal.returns-then-is_faulty
-returns-then-is_faulty c =
-    let args = c.args in
-    let is_faulty = c.is_faulty in
-    let if1 = c.if-is_faulty in
-    axes_12 args.bytes.now _ _ is_faulty.ensures if1.true c.no_head.ensures
+unfolding file_refusal first_of
+returns-then-is_faulty c = axes_refused c.args.bytes.now 12 (rw (← c.if-is_faulty.ensures) refl) (λ h. omega arith)
 
-pub head_of-requires : goal.head_of-requires
-head_of-requires c = accepted c.args.bytes.now _ c.is_faulty.ensures c.if-is_faulty.false
+pub axes_at-requires : goal.axes_at-requires
+axes_at-requires c = ((accepted_row c.args.bytes.now).0 (sym c.if-is_faulty.ensures)).headed.long
+
+pub corners_at-requires : goal.corners_at-requires
+corners_at-requires c =
+    let f = (accepted_row c.args.bytes.now).0 (sym c.if-is_faulty.ensures) in
+    let d = accepted_laid c.args.bytes.now f in (omega (arith, f.headed.contents, f.headed.least), omega (arith, d.corners, d.within))
 
 pub returns : goal.returns
-returns c =
-    let args = c.args in
-    let is_faulty = c.is_faulty in
-    let if1 = c.if-is_faulty in
-    axes_0 args.bytes.now _ _ is_faulty.ensures if1.false c.head_of.ensures
+unfolding file_refusal first_of head_answer
+returns c = axes_given c.args.bytes.now _ (rw (← c.if-is_faulty.ensures) refl) (rw (c.axes_at.ensures, c.corners_at.ensures) refl)

@@ -1,26 +1,52 @@
--- Length first, then the judge; then the file is accepted.
+-- Length first, then the judge; then the counts are taken at the bodies' places.
+use native.Mathlib.Omega.{arith}
+use mathlib.Core.Path.{refl}
 use borrow.Author.Tests.{lt-ltb, le-ltb}
-use Rattle.volume.proofs.Calls.{accepted, figures_14, figures_12, figures_0}
+use Rattle.names.specs.Refusals.{first_of}
+use Rattle.volume_file.specs.VolumeFileLaws.{accepted_axes}
+use Rattle.volume.specs.Volume.{figures_refusal}
+use Rattle.volume.proofs.Calls.{handed, known, refused, figures_refused, figures_given, room_light, room_active, room_occupied, figures_whole}
 use Rattle.volume.proofs.file_figures.Goals as goal
 
 pub returns-then-bytes-gt-FIGURES_LIMIT : goal.returns-then-bytes-gt-FIGURES_LIMIT
-returns-then-bytes-gt-FIGURES_LIMIT c = figures_14 c.args.bytes.now _ (lt-ltb _ _ c.if-bytes-gt-FIGURES_LIMIT.true) c.no_figures.ensures
+unfolding figures_refusal first_of
+returns-then-bytes-gt-FIGURES_LIMIT c =
+    figures_refused _ 14 (rw (lt-ltb _ _ c.if-bytes-gt-FIGURES_LIMIT.true) refl) (λ h. omega arith)
 
-pub returns-then-is_faulty : goal.returns-then-is_faulty
-returns-then-is_faulty c =
-    let args = c.args in
-    let if1 = c.if-bytes-gt-FIGURES_LIMIT in
-    let is_faulty = c.is_faulty in
-    let if2 = c.if-is_faulty in
-    figures_12 args.bytes.now _ _ (le-ltb _ _ if1.false) is_faulty.ensures if2.true c.no_figures-then-is_faulty.ensures
+pub returns-in_err-axes : goal.returns-in_err-axes
+unfolding figures_refusal first_of
+returns-in_err-axes c =
+    let r = refused _ _ c.in_err-axes.ensures in
+    rw (handed _ _ c.from_residual.ensures, r.1)
+    (figures_refused _ 12 (rw (le-ltb _ _ c.if-bytes-gt-FIGURES_LIMIT.false, r.0) refl) (λ h. omega arith))
 
-pub figures_of-requires : goal.figures_of-requires
-figures_of-requires c = accepted c.args.bytes.now _ c.is_faulty.ensures c.if-is_faulty.false
+pub voxel_count-n-requires : goal.voxel_count-n-requires
+voxel_count-n-requires c = let k = known _ _ c.in_ok-axes.ensures in rw k.axes (accepted_axes _ k.accepted)
+
+pub offset_at-requires : goal.offset_at-requires
+offset_at-requires c = let k = known _ _ c.in_ok-axes.ensures in (omega (arith, k.accepted.headed.contents, k.accepted.headed.least), omega arith)
+
+pub offset_at-requires-2 : goal.offset_at-requires-2
+offset_at-requires-2 c = let k = known _ _ c.in_ok-axes.ensures in (omega (arith, k.accepted.headed.contents, k.accepted.headed.least), omega arith)
+
+pub offset_at-requires-3 : goal.offset_at-requires-3
+offset_at-requires-3 c = let k = known _ _ c.in_ok-axes.ensures in (omega (arith, k.accepted.headed.contents, k.accepted.headed.least), omega arith)
+
+pub count_ones-requires : goal.count_ones-requires
+count_ones-requires c =
+    let k = known _ _ c.in_ok-axes.ensures in room_occupied _ k.accepted _ _ k.axes c.voxel_count-n.ensures _ c.offset_at.ensures
+
+pub count_ones-requires-2 : goal.count_ones-requires-2
+count_ones-requires-2 c =
+    let k = known _ _ c.in_ok-axes.ensures in room_active _ k.accepted _ _ k.axes c.voxel_count-n.ensures _ c.offset_at-2.ensures
+
+pub count_zeros-requires : goal.count_zeros-requires
+count_zeros-requires c =
+    let k = known _ _ c.in_ok-axes.ensures in room_light _ k.accepted _ _ k.axes c.voxel_count-n.ensures _ c.offset_at-3.ensures
 
 pub returns : goal.returns
+unfolding figures_refusal first_of
 returns c =
-    let args = c.args in
-    let if1 = c.if-bytes-gt-FIGURES_LIMIT in
-    let is_faulty = c.is_faulty in
-    let if2 = c.if-is_faulty in
-    figures_0 args.bytes.now _ _ (le-ltb _ _ if1.false) is_faulty.ensures if2.false c.figures_of.ensures
+    let k = known _ _ c.in_ok-axes.ensures in
+    figures_given _ _ (rw (le-ltb _ _ c.if-bytes-gt-FIGURES_LIMIT.false, k.faultless) refl)
+    (figures_whole _ k.accepted _ _ k.axes c.voxel_count-n.ensures _ _ _ _ _ _ c.offset_at-3.ensures c.offset_at-2.ensures c.offset_at.ensures c.count_zeros.ensures c.count_ones-2.ensures c.count_ones.ensures)

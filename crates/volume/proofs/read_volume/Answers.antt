@@ -1,78 +1,43 @@
 -- The whole file and the lent lengths are judged first; what is read then is the bodies at their places.
-use Rattle.volume.proofs.Calls.{accepted, read_axes, few, read_12, read_3, read_0, read_lengths, read_count}
-use Rattle.volume.specs.VolumeLaws.{accepted_room}
+use native.Mathlib.Omega.{arith}
+use mathlib.Core.Path.{refl, sym, ◌∙◌}
+use Rattle.names.specs.Refusals.{first_of}
+use Rattle.volume_file.specs.VolumeFileLaws.{accepted_axes}
+use Rattle.volume.specs.Volume.{read_refusal}
+use Rattle.volume.specs.VolumeLaws.{lists_row, accepted_room}
+use Rattle.volume.proofs.Calls.{few, handed, known, refused, read_refused, read_given}
 use Rattle.volume.proofs.read_volume.Goals as goal
 
-pub returns-then-is_faulty : goal.returns-then-is_faulty
-returns-then-is_faulty c =
-    let args = c.args in
-    let is_faulty = c.is_faulty in
-    let if1 = c.if-is_faulty in
-    read_12 args.bytes.now args.light.now args.volume.now args.active.now args.occupied.now _ _ is_faulty.ensures if1.true
-    c.no_head.ensures
-
-pub axes_at-requires : goal.axes_at-requires
-axes_at-requires c =
-    let args = c.args in
-    let is_faulty = c.is_faulty in
-    (accepted args.bytes.now _ is_faulty.ensures c.if-is_faulty.false).headed.long
+pub returns-in_err-grid : goal.returns-in_err-grid
+unfolding read_refusal first_of
+returns-in_err-grid c =
+    let r = refused _ _ c.in_err-grid.ensures in
+    rw (handed _ _ c.from_residual.ensures, r.1) (read_refused _ _ _ _ _ 12 (rw r.0 refl) (λ h. omega arith))
 
 pub voxel_count-n-requires : goal.voxel_count-n-requires
-voxel_count-n-requires c =
-    let args = c.args in
-    let is_faulty = c.is_faulty in
-    let if1 = c.if-is_faulty in
-    read_axes args.bytes.now c.axes_at.result _ is_faulty.ensures if1.false c.axes_at.ensures
+voxel_count-n-requires c = let k = known _ _ c.in_ok-grid.ensures in rw k.axes (accepted_axes _ k.accepted)
 
 pub wrong_lists-requires : goal.wrong_lists-requires
 wrong_lists-requires c =
-    let args = c.args in
-    let is_faulty = c.is_faulty in
-    let if1 = c.if-is_faulty in
-    let axes_at_lem = c.axes_at in
-    few axes_at_lem.result c.voxel_count-n.result
-    (read_axes args.bytes.now axes_at_lem.result _ is_faulty.ensures if1.false axes_at_lem.ensures) c.voxel_count-n.ensures
+    let k = known _ _ c.in_ok-grid.ensures in few _ _ (rw k.axes (accepted_axes _ k.accepted)) c.voxel_count-n.ensures
 
 pub returns-then-wrong_lists : goal.returns-then-wrong_lists
+unfolding read_refusal first_of
 returns-then-wrong_lists c =
-    let args = c.args in
-    let is_faulty = c.is_faulty in
-    let if1 = c.if-is_faulty in
-    let axes_at_lem = c.axes_at in
-    let voxel_count_lem = c.voxel_count-n in
-    let wrong_lists_lem = c.wrong_lists in
-    let if2 = c.if-wrong_lists in
-    read_3 args.bytes.now axes_at_lem.result voxel_count_lem.result args.light.now args.volume.now args.active.now args.occupied.now
-    _ _ _ is_faulty.ensures if1.false axes_at_lem.ensures voxel_count_lem.ensures wrong_lists_lem.ensures if2.true c.no_head-then-wrong_lists.ensures
+    let k = known _ _ c.in_ok-grid.ensures in
+    let n = rw k.axes at c.voxel_count-n.ensures in
+    read_refused _ _ _ _ _ 3 (rw (k.faultless, ← n, ← c.if-wrong_lists.ensures) refl) (λ h. omega arith)
 
 pub read_bodies-requires : goal.read_bodies-requires
 read_bodies-requires c =
-    let args = c.args in
-    let is_faulty = c.is_faulty in
-    let if1 = c.if-is_faulty in
-    let axes_at_lem = c.axes_at in
-    let voxel_count_lem = c.voxel_count-n in
-    let wrong_lists_lem = c.wrong_lists in
-    let if2 = c.if-wrong_lists in
-    let q = read_lengths args.bytes.now axes_at_lem.result voxel_count_lem.result args.light.now args.volume.now args.active.now args.occupied.now _ axes_at_lem.ensures voxel_count_lem.ensures wrong_lists_lem.ensures if2.false in accepted_room args.bytes.now (accepted args.bytes.now _ is_faulty.ensures if1.false) _ _ _ _ _ (read_count args.bytes.now axes_at_lem.result voxel_count_lem.result axes_at_lem.ensures voxel_count_lem.ensures) q.0 q.1 q.2 q.3
-
-pub head_of-requires : goal.head_of-requires
-head_of-requires c =
-    let args = c.args in
-    let is_faulty = c.is_faulty in
-    let if1 = c.if-is_faulty in
-    accepted args.bytes.now _ is_faulty.ensures if1.false
+    let k = known _ _ c.in_ok-grid.ensures in
+    let n = rw k.axes at c.voxel_count-n.ensures in
+    let q = lists_row _ _ _ _ _ (sym c.if-wrong_lists.ensures) in
+    accepted_room _ k.accepted _ _ _ _ _ n (q.0 ∙ n) (rw n at q.1) (rw n at q.2) (rw n at q.3)
 
 pub returns : goal.returns
+unfolding read_refusal first_of
 returns c =
-    let args = c.args in
-    let is_faulty = c.is_faulty in
-    let if1 = c.if-is_faulty in
-    let axes_at_lem = c.axes_at in
-    let voxel_count_lem = c.voxel_count-n in
-    let wrong_lists_lem = c.wrong_lists in
-    let if2 = c.if-wrong_lists in
-    let read_bodies = c.read_bodies in
-    read_0 args.bytes.now axes_at_lem.result voxel_count_lem.result args.light.now args.volume.now args.active.now args.occupied.now
-    _ _ _ _ _ _ _ is_faulty.ensures if1.false axes_at_lem.ensures voxel_count_lem.ensures wrong_lists_lem.ensures if2.false c.head_of.ensures
-    read_bodies.ensures
+    let k = known _ _ c.in_ok-grid.ensures in
+    let n = rw k.axes at c.voxel_count-n.ensures in
+    read_given _ _ _ _ _ _ _ _ _ _ (rw (k.faultless, ← n, ← c.if-wrong_lists.ensures) refl) k.head c.read_bodies.ensures

@@ -4,4 +4,4 @@ use Rattle.league_report.proofs.inner.with_file.Goals as goal
 
 pub returns : goal.returns
 returns c =
-    league_more c.args.league c.args.figures _ c.requires.0 c.requires.1 c.requires.2 c.requires.3 c.joined-total.ensures
+    league_more c.args.league c.args.figures _ c.requires.0 c.requires.1 c.requires.2 c.requires.3 c.joined.ensures
