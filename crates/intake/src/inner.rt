@@ -1,5 +1,6 @@
 // The rows that a bake tests, in their order.
 ghost use Rattle.std.specs.Prelude.{◌≡◌, ◌≤◌, length};
+ghost use Rattle.names.specs.Answers.{answer_number};
 ghost use Rattle.names.specs.Numbers.{voxel_limit, lamp_limit, voxel_cost};
 ghost use Rattle.names.specs.Scene.{scene_for};
 ghost use Rattle.limits.specs.Limits.{lamp_count};
@@ -9,10 +10,10 @@ ghost use Rattle.intake.specs.Intake.{input_for, wrong_lengths, bad_lighting, ba
 
 use grid::{Axes, Corners};
 use limits::{Ambient, Light};
-use names::{BARE_COST, LAMP_COST, PRIMARY_RAYS, SKY_NUMBERS};
+use names::{BARE_COST, LAMP_COST, PRIMARY_RAYS, Refusal, SKY_NUMBERS};
 use spread::Progress;
 
-// The number of the first row that holds, 0 where none does; for solid walls or not.
+// Refused by the first row that holds; for solid walls or not.
 pub fn judge(
     solid: bool,
     axes: Axes,
@@ -37,17 +38,17 @@ pub fn judge(
     places: usize,
     progress: Progress,
     allowance: u64,
-) -> u32
-    ensures { result ≡ bake_refusal
+) -> Result<(), Refusal>
+    ensures { answer_number result ≡ bake_refusal
         (input_for solid axes corners (scene_for boxed points.now uses.now kinds.now numbers.now boxes.now nodes.now order.now)
         light ambient sky.now lamps.now active.now lights.now distances places)
         (stage progress volume.now scratch.now) allowance }
 {
     if limits::inner::bad_axes(axes) {
-        return 1;
+        return Err(Refusal::Axes);
     }
     if limits::inner::bad_grid(corners, axes) {
-        return 2;
+        return Err(Refusal::Grid);
     }
     let n = grid::inner::voxel_count(axes);
     let scene = limits::inner::wrong_scene(points, uses, kinds, numbers);
@@ -65,37 +66,37 @@ pub fn judge(
         places,
     );
     if scene | lengths {
-        return 3;
+        return Err(Refusal::Lengths);
     }
     if limits::inner::too_many(uses.len(), kinds.len()) {
-        return 4;
+        return Err(Refusal::TooMany);
     }
     if limits::inner::bad_points(points) {
-        return 5;
+        return Err(Refusal::Points);
     }
     if limits::inner::bad_materials_for(solid, uses, kinds, numbers) {
-        return 6;
+        return Err(Refusal::Materials);
     }
     if bad_lighting(light, ambient, sky) {
-        return 7;
+        return Err(Refusal::Lighting);
     }
     if limits::inner::bad_lamps(lamps) {
-        return 19;
+        return Err(Refusal::Lamps);
     }
     if tree::inner::not_accepted(boxed, points, boxes, nodes, order) {
-        return 16;
+        return Err(Refusal::Tree);
     }
     let cost = voxel_cost(lamps);
     if bad_progress(n, active, lamps, progress) {
-        return 9;
+        return Err(Refusal::Progress);
     }
     if allowance < cost {
-        return 10;
+        return Err(Refusal::Allowance);
     }
     if bad_contents(active, lights, volume, progress.next, n) {
-        return 13;
+        return Err(Refusal::Contents);
     }
-    0
+    Ok(())
 }
 
 // ---- 3, of n voxels and t triangles
@@ -155,13 +156,7 @@ pub fn voxel_cost(lamps: &[f32]) -> u64
     requires { lamp_count lamps.now ≤ lamp_limit }
     ensures { result ≡ voxel_cost (lamp_count lamps.now) }
 {
-    BARE_COST + LAMP_COST * wide(limits::inner::lamp_count(lamps))
-}
-
-fn wide(x: usize) -> u64
-    ensures { result ≡ x }
-{
-    x as u64
+    BARE_COST + LAMP_COST * limits::inner::lamp_count(lamps) as u64
 }
 
 // ---- 13
