@@ -1,61 +1,20 @@
--- What a test `x != x` says of `is_nan`, the NaN that 0.0 / 0.0 is, and the two choices. Assumes nothing.
+-- The pattern that `f32::NAN` is, and magnitude. Assumes nothing.
 use mathlib.Core.Path.{◌≡◌, refl, sym, ap, ◌∙◌, subst}
 use Prim.Native.Nat.{ℕ, zero, suc, ◌+◌, ◌/◌, ◌%◌, ◌^◌, ◌≤◌}
-use mathlib.Core.Bool.{Bool, true, false, not, cond, ◌||◌}
+use mathlib.Core.Bool.{Bool, true, false, not, cond}
 use native.Mathlib.Nat.{mod-lt, mod-mod}
 use lib.Dec.{T, leb, eqb, lit<}
 use lib.Arith.{lt→nleb, le→nltb}
 use lib.Bits.{bit_and, and_mask}
 use lib.Pow.{mod-mod-pow}
-use lib.Ieee.{Float, nan, inf, fin, binary32, is_nan, ne, lt, of_bits, to_bits, div, fits, of_fields, odd, nan_bits}
-use lib.Ieee.Compare.{differs_from_itself}
+use lib.Ieee.{Float, nan, inf, fin, binary32, is_nan, of_bits, to_bits, fits, of_fields, odd, nan_bits}
 use lib.Ieee.Bits.{of_bits-to_bits, is_false, nan_bits_is, nan_bits_above}
-use Rattle.floats.specs.Choice.{magnitude_of, larger_of, smaller_of}
+use Rattle.floats.specs.Choice.{magnitude_of}
+use Rattle.floats.specs.PatternLaws.{nan_of}
 
-pub no_number : nan ≡ div binary32 (of_bits binary32 0) (of_bits binary32 0)
-unfolding div of_bits of_fields odd
+pub no_number : nan ≡ of_bits binary32 0x7fc00000
+unfolding of_bits of_fields
 no_number = refl
-
-pub is_nan_lem : (x : Float) → ne x x ≡ true → x ≡ nan
-is_nan_lem x h = differs_from_itself x (subst T (sym h) tt)
-
-nan_is : (x : Float) → ne x x ≡ true → is_nan x ≡ true
-unfolding is_nan
-nan_is x h = ap is_nan (is_nan_lem x h)
-
-pub not_nan : (x : Float) → ne x x ≡ false → is_nan x ≡ false
-unfolding is_nan ne
-not_nan nan h = h
-not_nan (inf s) h = refl
-not_nan (fin s m e) h = refl
-
-pub no_nan : (x : Float) → ne x x ≡ false → T (not (is_nan x))
-no_nan x h = subst (λ (b : Bool). T (not b)) (sym (not_nan x h)) tt
-
--- `larger_of` and `smaller_of` are one choice: `b` says whether to take x
-abbrev pub pick : Bool → Float → Float → Float
-pick b x y = cond (is_nan x || is_nan y) nan (cond b x y)
-
-either : (a b : Bool) → b ≡ true → (a || b) ≡ true
-either true b h = refl
-either false b h = h
-
-pub pick_left : (b : Bool) (x y : Float) → ne x x ≡ true → nan ≡ pick b x y
-pick_left b x y h = sym (ap (λ (t : Bool). cond (t || is_nan y) nan (cond b x y)) (nan_is x h))
-
-pub pick_right : (b : Bool) (x y : Float) → ne y y ≡ true → nan ≡ pick b x y
-pick_right b x y h = sym (ap (λ (t : Bool). cond t nan (cond b x y)) (either (is_nan x) (is_nan y) (nan_is y h)))
-
-pub pick_by : (b c : Bool) (x y : Float) → ne x x ≡ false → ne y y ≡ false → b ≡ c → cond c x y ≡ pick b x y
-pick_by b c x y h k e = sym (ap (λ (t : Bool). cond (t || is_nan y) nan (cond b x y)) (not_nan x h) ∙ ap (λ (t : Bool). cond t nan (cond b x y)) (not_nan y k) ∙ ap (λ (t : Bool). cond t x y) e)
-
-pub larger_is : (x y : Float) → larger_of x y ≡ pick (lt y x) x y
-unfolding larger_of
-larger_is x y = refl
-
-pub smaller_is : (x y : Float) → smaller_of x y ≡ pick (lt x y) x y
-unfolding smaller_of
-smaller_is x y = refl
 
 -- ---- the sign's bit cleared
 odd_magnitude : (d : ℕ) (s : Bool) (q k l : ℕ) → magnitude_of (odd d s q k l) ≡ odd d false q k l
@@ -91,13 +50,13 @@ magnitude_nan nan h = h
 magnitude_nan (inf s) h = refl
 magnitude_nan (fin s m e) h = refl
 
-pub magnitude_pattern : (x : Float) → T (fits binary32 x) → ne x x ≡ false → T (not (nan_bits binary32 (bit_and (to_bits binary32 x) 2147483647)))
+pub magnitude_pattern : (x : Float) → T (fits binary32 x) → is_nan x ≡ false → T (not (nan_bits binary32 (bit_and (to_bits binary32 x) 2147483647)))
 magnitude_pattern x h k =
-    subst (λ (b : Bool). T (not b)) (sym (nan_bits_is binary32 (bit_and (to_bits binary32 x) 2147483647) ∙ ap is_nan (magnitude_of_lem x h) ∙ magnitude_nan x (not_nan x k))) tt
+    subst (λ (b : Bool). T (not b)) (sym (nan_bits_is binary32 (bit_and (to_bits binary32 x) 2147483647) ∙ ap is_nan (magnitude_of_lem x h) ∙ magnitude_nan x k)) tt
 
-pub nan_magnitude : (x : Float) → ne x x ≡ true → nan ≡ magnitude_of x
+pub nan_magnitude : (x : Float) → is_nan x ≡ true → nan ≡ magnitude_of x
 unfolding magnitude_of
-nan_magnitude x h = sym (ap magnitude_of (is_nan_lem x h))
+nan_magnitude x h = sym (ap magnitude_of (nan_of x h))
 
 -- ---- a pattern that is no NaN's
 pub number_pattern : (b : ℕ) → b % 2 ^ 31 ≤ 2139095040 → T (not (nan_bits binary32 b))

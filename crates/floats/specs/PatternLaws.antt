@@ -16,7 +16,7 @@ use Rattle.floats.specs.Patterns.{on_bits, on_both, NanPattern}
 
 -- ---- a NaN's patterns
 
-nan_of : (x : Float) → is_nan x ≡ true → x ≡ nan
+pub nan_of : (x : Float) → is_nan x ≡ true → x ≡ nan
 unfolding is_nan
 nan_of nan h = refl
 nan_of (inf s) h = absurd (subst T (sym h) tt)

@@ -19,10 +19,10 @@ mod wholes; // wholes.rt: the digits of a whole number
 pub fn root(x: f32) -> f32
     ensures { result ≡ root_of x }
 {
-    if x != x {
-        return 0.0 / 0.0;
+    if x.is_nan() {
+        return f32::NAN;
     }
-    let b = f32::to_bits(x);
+    let b = x.to_bits();
     if b < 0x7f800000 {
         if b >= 0x800000 {
             return f32::from_bits(roots::of_digits(
@@ -41,42 +41,39 @@ pub fn root(x: f32) -> f32
     if b == 0x80000000 {
         return x;
     }
-    0.0 / 0.0
+    f32::NAN
 }
 
 // The largest whole number not above x. The sign of x is kept, also at 0.
 pub fn floor(x: f32) -> f32
     ensures { result ≡ floor_of x }
 {
-    wholes::integral(x, 0)
+    wholes::integral(x, false)
 }
 
 // The smallest whole number not below x. The sign of x is kept, also at 0.
 pub fn ceiling(x: f32) -> f32
     ensures { result ≡ ceiling_of x }
 {
-    wholes::integral(x, 1)
+    wholes::integral(x, true)
 }
 
 // x with its sign made plus.
 pub fn magnitude(x: f32) -> f32
     ensures { result ≡ magnitude_of x }
 {
-    if x != x {
-        return 0.0 / 0.0;
+    if x.is_nan() {
+        return f32::NAN;
     }
-    f32::from_bits(f32::to_bits(x) & 0x7fffffff)
+    f32::from_bits(x.to_bits() & 0x7fffffff)
 }
 
 // The larger of two; of two equals, as −0 and +0 are, the second.
 pub fn larger(x: f32, y: f32) -> f32
     ensures { result ≡ larger_of x y }
 {
-    if x != x {
-        return 0.0 / 0.0;
-    }
-    if y != y {
-        return 0.0 / 0.0;
+    if x.is_nan() | y.is_nan() {
+        return f32::NAN;
     }
     if y < x { x } else { y }
 }
@@ -85,11 +82,8 @@ pub fn larger(x: f32, y: f32) -> f32
 pub fn smaller(x: f32, y: f32) -> f32
     ensures { result ≡ smaller_of x y }
 {
-    if x != x {
-        return 0.0 / 0.0;
-    }
-    if y != y {
-        return 0.0 / 0.0;
+    if x.is_nan() | y.is_nan() {
+        return f32::NAN;
     }
     if x < y { x } else { y }
 }
@@ -132,12 +126,13 @@ pub fn smaller_bits(b: u32, c: u32) -> u32
     pattern(smaller(number(b), number(c)))
 }
 
+// twins: bytes_le and replay have these two as well, for to share them would set both crates above this one for six lines
 // The number that a pattern stands for: every pattern of a NaN for the one NaN.
 fn number(b: u32) -> f32
     ensures { result ≡ of_bits binary32 b }
 {
     if b % 0x80000000 > 0x7f800000 {
-        return 0.0 / 0.0; // the one NaN
+        return f32::NAN; // the one NaN
     }
     f32::from_bits(b)
 }
@@ -146,8 +141,8 @@ fn number(b: u32) -> f32
 fn pattern(x: f32) -> u32
     ensures { result ≡ to_bits binary32 x }
 {
-    if x != x {
+    if x.is_nan() {
         return 0x7fc00000;
     }
-    f32::to_bits(x)
+    x.to_bits()
 }

@@ -2,16 +2,15 @@
 ghost use Rattle.std.specs.Prelude.{◌≡◌, cond, ℕ, ◌^◌, ◌-◌, ◌<◌, eqb, ltb};
 ghost use Rattle.floats.specs.Whole.{step, toward};
 
-// x to a whole number: down where u is 0, up where it is 1.
-pub fn integral(x: f32, u: u32) -> f32
-    requires { u < 2 }
-    ensures { result ≡ toward (eqb u 1) x }
+// x to a whole number, up or down.
+pub fn integral(x: f32, up: bool) -> f32
+    ensures { result ≡ toward up x }
 {
-    if x != x {
-        return 0.0 / 0.0;
+    if x.is_nan() {
+        return f32::NAN;
     }
-    let b = f32::to_bits(x);
-    let s = b / 0x80000000;
+    let b = x.to_bits();
+    let negative = b >= 0x80000000;
     let a = b % 0x80000000;
     // From 2^23 up, and the infinities.
     if a >= 0x4b000000 {
@@ -21,8 +20,8 @@ pub fn integral(x: f32, u: u32) -> f32
         return x;
     }
     let k = places(a / 0x800000);
-    let y = whole(a % 0x800000 + 0x800000, k, (s + u) % 2) as f32;
-    if s == 0 { y } else { -y }
+    let y = whole(a % 0x800000 + 0x800000, k, negative != up) as f32;
+    if negative { -y } else { y }
 }
 
 // How many of the 24 digits of a number with the exponent's field f lie below its point: 24 also where the point lies further up.
@@ -33,10 +32,10 @@ fn places(f: u32) -> u32
     if f < 126 { 24 } else { 150 - f }
 }
 
-// m / 2^k, cut to a whole number, or raised to one where away is 1.
-fn whole(m: u32, k: u32, away: u32) -> u32
-    requires { (m < 16777216) × (k < 25) × (away < 2) }
-    ensures { result ≡ step (eqb away 1) m (2 ^ k) }
+// m / 2^k, cut to a whole number, or raised to one where away is true.
+fn whole(m: u32, k: u32, away: bool) -> u32
+    requires { (m < 16777216) × (k < 25) }
+    ensures { result ≡ step away m (2 ^ k) }
 {
-    (m + away * ((1u32 << k) - 1)) >> k
+    (m + u32::from(away) * ((1u32 << k) - 1)) >> k
 }

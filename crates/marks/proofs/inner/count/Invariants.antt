@@ -5,8 +5,5 @@ use Rattle.lists.specs.Fold.{fold}
 use Rattle.marks.specs.Marks.{tally, marked_count}
 use Rattle.marks.proofs.inner.count.Given as goal
 
-abbrev pub invariant-loop-i : goal.invariant-loop-i
-invariant-loop-i l = (l.i ≤ length l.mask) × (l.n ≤ l.i) × (marked_count l.mask ≡ fold (tally l.mask) (length l.mask - l.i) l.i l.n)
-
-abbrev pub decreases-loop-i : goal.decreases-loop-i
-decreases-loop-i l = length l.mask - l.i
+abbrev pub invariant-loop-entry : goal.invariant-loop-entry
+invariant-loop-entry l = record { most : l.n ≤ l.entry-index; on : marked_count l.mask ≡ fold (tally l.mask) (length l.mask - l.entry-index) l.entry-index l.n }

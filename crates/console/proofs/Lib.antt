@@ -1,3 +1,0 @@
--- What the proofs of numbers as text share.
-mod Counting
-mod Powers
