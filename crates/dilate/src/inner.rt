@@ -15,19 +15,8 @@ pub fn dilate(axes: Axes, occupied: &[u64], active: &mut [u64])
     requires { (0 < axes.width) × (0 < axes.height) × (0 < axes.depth) × Tidy occupied.now (voxels axes) × (length active.old ≡ length occupied.now) × (voxels axes < 9223372036854775808) }
     ensures { Holds active.new (voxels axes) (active_of axes (entries_of occupied.now (voxels axes))) }
 {
-    copy(occupied, active);
+    active.copy_from_slice(occupied);
     dilate_by_axes(axes, active);
-}
-
-fn copy(from: &[u64], to: &mut [u64])
-    requires { length to.old ≡ length from.now }
-    ensures { to.new ≡ from.now }
-{
-    let mut i = 0;
-    while i < to.len() {
-        to[i] = from[i];
-        i += 1;
-    }
 }
 
 // Along x, then y, then z: each is the middle axis of a grid that the mask is.
@@ -60,10 +49,8 @@ fn dilate_middle(view: Axes, mask: &mut [u64])
     }
     let stride = view.width;
     let rest = (view.height - 1) * stride;
-    let mut k = 0;
-    while k < view.depth {
+    for k in 0..view.depth {
         dilate_block(mask, k * (stride + rest), stride, rest);
-        k += 1;
     }
 }
 
@@ -86,15 +73,11 @@ fn dilate_long(mask: &mut [u64], o: usize, stride: usize, rest: usize)
     requires { (o + (stride + rest) ≤ length mask.old * 64) × (o + (stride + rest) < 9223372036854775808) }
     ensures { BlockDilated mask.old mask.new o stride (stride + rest) }
 {
-    let mut down = 0;
-    while down < REACH {
+    'down: for _ in 0..REACH {
         merge_above(mask, o, o + stride, rest);
-        down += 1;
     }
-    let mut up = 0;
-    while up < REACH {
+    'up: for _ in 0..REACH {
         merge_below(mask, o + stride, o, rest);
-        up += 1;
     }
 }
 
@@ -104,15 +87,11 @@ fn dilate_word(bits: u64, stride: usize, m: usize) -> u64
     ensures { SpreadTo stride m reach reach (bit_of bits) (bit_of result) × ((j : ℕ) → m ≤ j → bit_of result j ≡ 0) }
 {
     let mut marks = bits;
-    let mut down = 0;
-    while down < REACH {
-        marks = marks | (marks >> stride);
-        down += 1;
+    'down: for _ in 0..REACH {
+        marks |= marks >> stride;
     }
-    let mut up = 0;
-    while up < REACH {
-        marks = marks | (marks << stride);
-        up += 1;
+    'up: for _ in 0..REACH {
+        marks |= marks << stride;
     }
     cut(marks, m)
 }
@@ -122,12 +101,11 @@ fn merge_above(words: &mut [u64], at: usize, from: usize, n: usize)
     requires { (at ≤ from) × (from + n ≤ length words.old * 64) × (from + n < 9223372036854775808) }
     ensures { Merged words.old words.new at from 0 n }
 {
-    let mut i = 0;
-    while i < n {
-        let len = piece(n - i);
+    for k in 0..n.div_ceil(64) {
+        let i = k * 64;
+        let len = (n - i).min(64);
         let bits = bits_at(words, from + i, len);
         or_bits(words, at + i, len, bits);
-        i += len;
     }
 }
 
@@ -136,23 +114,12 @@ fn merge_below(words: &mut [u64], at: usize, from: usize, n: usize)
     requires { (from ≤ at) × (at + n ≤ length words.old * 64) × (at + n < 9223372036854775808) }
     ensures { Merged words.old words.new at from 0 n }
 {
-    let mut i = n;
-    while 0 < i {
-        let len = piece(i);
-        i -= len;
+    for k in (0..n.div_ceil(64)).rev() {
+        let i = k * 64;
+        let len = (n - i).min(64);
         let bits = bits_at(words, from + i, len);
         or_bits(words, at + i, len, bits);
     }
-}
-
-// How many of n bits are taken together.
-fn piece(n: usize) -> usize
-    ensures { (result ≤ n) × (result ≤ 64) × (0 < n → 0 < result) }
-{
-    if n < 64 {
-        return n;
-    }
-    64
 }
 
 // The len bits from o on.
@@ -175,11 +142,11 @@ fn or_bits(words: &mut [u64], o: usize, len: usize, v: u64)
     if v == 0 {
         return;
     }
-    words[o / 64] = words[o / 64] | (v << (o % 64));
+    words[o / 64] |= v << (o % 64);
     if o % 64 + len <= 64 {
         return;
     }
-    words[o / 64 + 1] = words[o / 64 + 1] | (v >> (64 - o % 64));
+    words[o / 64 + 1] |= v >> (64 - o % 64);
 }
 
 // The low m bits.

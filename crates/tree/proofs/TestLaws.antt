@@ -5,8 +5,10 @@ use Rattle.std.proofs.Common.{sym, ap, ◌∙◌, arith}
 use Rattle.std.proofs.Math.Bool.{true, false, cond, and-eq-true_iff}
 use Rattle.std.proofs.lemmas.Bool.{false≢true}
 use borrow.Author.Tests.{ltb-true, ltb-false, leb-false, eqb-true, eqb-false, le-ltb, lt-leb, eq-eqb, ne_eqb, not-false}
+use Rattle.std.specs.List.{between}
+use Rattle.std.proofs.lemmas.List.Edits.{get_or-between}
 use Rattle.names.specs.Numbers.{depth_limit}
-use Rattle.lists.specs.Any.{any, any_in, any_out}
+use Rattle.lists.specs.Any.{any, any_in, any_out, any_found, any_next, any_end}
 use Rattle.triangle.specs.Meet.{absent_of}
 use Rattle.triangle.specs.Places.{triangle_at}
 use Rattle.boxes.specs.declared.Bounds.{Bounds}
@@ -120,6 +122,12 @@ place_in points b seen p g = rw (g.present, eq-eqb (get_or seen p 0) 0 g.unseen,
 
 -- ---- a leaf
 
+-- its k th triangle, as the code reads it
+pub place_read : (nodes order : List ℕ) (i k : ℕ) → k < count_at nodes i
+    → get_or (between (first_at nodes i) (first_at nodes i + count_at nodes i) order) k 0 ≡ place_at nodes order i k
+unfolding place_at
+place_read nodes order i k h = get_or-between order (first_at nodes i) (first_at nodes i + count_at nodes i) k 0 (omega arith)
+
 module _ (points boxes : List Float) (nodes order : List ℕ) (i : ℕ) where
   pub record GoodRun (seen : List ℕ) : Type 0 where
     pub fits : first_at nodes i + count_at nodes i ≤ length order
@@ -165,3 +173,9 @@ module _ (points boxes : List Float) (nodes order : List ℕ) (i : ℕ) where
       by : (b : Bool) → inner_at nodes i ≡ b → cond b (bad_pair boxes nodes i depths) (bad_run points boxes nodes order i seen) ≡ false
       by true h = pair_in boxes nodes i depths (g.pair h)
       by false h = run_in seen (g.run h)
+
+-- ---- for the loops of the test
+
+pub ruleset any_steps = (any_found, any_next, any_end)
+
+pub ruleset run_steps = (any_steps, present_within, place_out, place_read)

@@ -14,27 +14,23 @@ use names::{DEPTH_LIMIT, TRIANGLE_LIMIT};
 const BOX_LIMIT: usize = TRIANGLE_LIMIT * 2 - 1;
 
 // Whether the tree of three lists is accepted over the triangles of points, nine numbers each.
+#[tactic(auto, using(crate::proofs::TestLaws::lists_out), unfolding(crate::specs::Test::accepted_by, crate::specs::Test::wrong_lists, crate::specs::Test::first_depths, crate::specs::Test::none_seen))]
 pub fn accepted(points: &[f32], boxes: &[f32], nodes: &[u32], order: &[u32]) -> bool
     requires { length points.now / 9 ≤ triangle_limit }
     ensures { result ≡ accepted_by points.now boxes.now nodes.now order.now }
 {
     let n = nodes.len() / 3;
-    if BOX_LIMIT < n {
-        return false;
-    }
-    if wrong_lists(points.len() / 9, boxes.len(), nodes.len(), order.len(), n) {
+    if BOX_LIMIT < n || wrong_lists(points.len() / 9, boxes.len(), nodes.len(), order.len(), n) {
         return false;
     }
     let mut depths = [0u8; BOX_LIMIT];
     let mut seen = [0u8; TRIANGLE_LIMIT];
     depths[0] = 1;
-    if any_bad(points, boxes, nodes, order, &mut depths, &mut seen) {
-        return false;
-    }
-    !any_missed(points, &seen)
+    !any_bad(points, boxes, nodes, order, &mut depths, &mut seen) && !any_missed(points, &seen)
 }
 
 // Whether a scene comes with a tree and that is not accepted.
+#[tactic(auto, unfolding(crate::specs::Trees::not_accepted))]
 pub fn not_accepted(
     boxed: bool,
     points: &[f32],
@@ -45,10 +41,7 @@ pub fn not_accepted(
     requires { length points.now / 9 ≤ triangle_limit }
     ensures { result ≡ not_accepted boxed points.now boxes.now nodes.now order.now }
 {
-    if boxed {
-        return !accepted(points, boxes, nodes, order);
-    }
-    false
+    boxed && !accepted(points, boxes, nodes, order)
 }
 
 // Whether the lists do not fit n boxes, or the order is longer than the triangles are many.
@@ -60,6 +53,7 @@ fn wrong_lists(triangles: usize, boxes: usize, nodes: usize, order: usize, n: us
 }
 
 // Whether some box is bad; where none is, the triangles of all leaves are marked.
+#[tactic(auto, using(crate::proofs::TestLaws::any_steps), unfolding(crate::specs::Test::depths_to, crate::specs::Test::seen_to))]
 fn any_bad(
     points: &[f32],
     boxes: &[f32],
@@ -71,18 +65,16 @@ fn any_bad(
     requires { TestFit points.now boxes.now nodes.now depths.old seen.old }
     ensures { (result ≡ any (bad_box_at points.now boxes.now nodes.now order.now depths.old seen.old) (box_count nodes.now) 0) × (result ≡ false → seen.new ≡ seen_to nodes.now order.now seen.old (box_count nodes.now)) }
 {
-    let n = nodes.len() / 3;
-    let mut i = 0;
-    while i < n {
+    for i in 0..nodes.len() / 3 {
         if bad_box(points, boxes, nodes, order, i, depths, seen) {
             return true;
         }
-        i += 1;
     }
     false
 }
 
 // Whether box i is bad; where it is not, its halves or its triangles are marked.
+#[tactic(auto, unfolding(crate::specs::Test::bad_box, crate::specs::Tree::count_at))]
 fn bad_box(
     points: &[f32],
     boxes: &[f32],
@@ -96,33 +88,29 @@ fn bad_box(
     ensures { (result ≡ bad_box points.now boxes.now nodes.now order.now i depths.old seen.old) × (result ≡ false → depths.new ≡ mark_box nodes.now i depths.old) × (result ≡ false → seen.new ≡ see_box nodes.now order.now i seen.old) }
 {
     if depths[i] == 0 {
-        return true;
+        true
+    } else if nodes[i * 3] == 0 {
+        bad_pair(boxes, nodes, i, depths)
+    } else {
+        bad_run(points, boxes, nodes, order, i, seen)
     }
-    if word_at(nodes, i * 3) == 0 {
-        return bad_pair(boxes, nodes, i, depths);
-    }
-    bad_run(points, boxes, nodes, order, i, seen)
 }
 
 // Whether a half of box i is bad, or it lies too deep to have any; where not, the halves are marked.
+#[tactic(auto, using(crate::proofs::TestLaws::half_out), unfolding(crate::specs::Test::bad_pair, crate::specs::Test::mark_pair, crate::specs::Tree::left_at, crate::specs::Tree::right_at))]
 fn bad_pair(boxes: &[f32], nodes: &[u32], i: usize, depths: &mut [u8]) -> bool
     requires { (length nodes.now ≡ box_count nodes.now * 3) × (length boxes.now ≡ box_count nodes.now * 6) × (box_count nodes.now ≤ length depths.old) × (i < box_count nodes.now) }
     ensures { (result ≡ bad_pair boxes.now nodes.now i depths.old) × (result ≡ false → depths.new ≡ mark_pair nodes.now i depths.old) }
 {
     let n = nodes.len() / 3;
-    let left = word_at(nodes, i * 3 + 1);
-    let right = word_at(nodes, i * 3 + 2);
-    if bad_half(boxes, n, depths, i, left) {
-        return true;
-    }
-    if bad_half(boxes, n, depths, i, right) {
-        return true;
-    }
-    if left == right {
-        return true;
-    }
+    let left = nodes[i * 3 + 1] as usize;
+    let right = nodes[i * 3 + 2] as usize;
     let d = depths[i];
-    if DEPTH_LIMIT < d {
+    if bad_half(boxes, n, depths, i, left)
+        || bad_half(boxes, n, depths, i, right)
+        || left == right
+        || DEPTH_LIMIT < d
+    {
         return true;
     }
     depths[left] = d + 1;
@@ -131,25 +119,22 @@ fn bad_pair(boxes: &[f32], nodes: &[u32], i: usize, depths: &mut [u8]) -> bool
 }
 
 // Whether a half of box i does not follow it, is past the list, has a parent already or does not lie inside.
+#[tactic(auto, unfolding(crate::specs::Test::bad_half))]
 fn bad_half(boxes: &[f32], n: usize, depths: &[u8], i: usize, half: usize) -> bool
     requires { (length boxes.now ≡ n * 6) × (n ≤ length depths.now) × (i < n) }
     ensures { result ≡ bad_half boxes.now n depths.now i half }
 {
-    if half <= i {
-        return true;
-    }
-    if n <= half {
-        return true;
-    }
-    if depths[half] != 0 {
-        return true;
-    }
-    let inner = boxes::inner::bounds_at(boxes, half);
-    let outer = boxes::inner::bounds_at(boxes, i);
-    !boxes::inner::is_inside(inner, outer)
+    half <= i
+        || n <= half
+        || depths[half] != 0
+        || !boxes::inner::is_inside(
+            boxes::inner::bounds_at(boxes, half),
+            boxes::inner::bounds_at(boxes, i),
+        )
 }
 
 // Whether the run of leaf i goes past the order or a triangle in it is bad; where not, its triangles are marked.
+#[tactic(auto, using(crate::proofs::TestLaws::run_steps), unfolding(crate::specs::Test::see_run, crate::specs::Test::bad_run, crate::specs::Tree::count_at, crate::specs::Tree::left_at, crate::specs::Tree::place_at))]
 fn bad_run(
     points: &[f32],
     boxes: &[f32],
@@ -161,74 +146,53 @@ fn bad_run(
     requires { (length nodes.now ≡ box_count nodes.now * 3) × (length boxes.now ≡ box_count nodes.now * 6) × (length points.now / 9 ≤ length seen.old) × (i < box_count nodes.now) }
     ensures { (result ≡ bad_run points.now boxes.now nodes.now order.now i seen.old) × (result ≡ false → seen.new ≡ see_run nodes.now order.now i (count_at nodes.now i) seen.old) }
 {
-    let count = word_at(nodes, i * 3);
-    let first = word_at(nodes, i * 3 + 1);
+    let count = nodes[i * 3] as usize;
+    let first = nodes[i * 3 + 1] as usize;
     if order.len() < first + count {
         return true;
     }
     let b = boxes::inner::bounds_at(boxes, i);
-    let mut k = 0;
-    while k < count {
-        let p = word_at(order, first + k);
+    for place in &order[first..first + count] {
+        let p = *place as usize;
         if bad_place(points, b, seen, p) {
             return true;
         }
         seen[p] = 1;
-        k += 1;
     }
     false
 }
 
 // Whether triangle p may not stand in a leaf of this box: it is not present, it was seen, or it does not lie inside.
+#[tactic(auto, using(crate::proofs::TestLaws::present_within), unfolding(crate::specs::Test::bad_place))]
 fn bad_place(points: &[f32], b: Bounds, seen: &[u8], p: usize) -> bool
     requires { length points.now / 9 ≤ length seen.now }
     ensures { result ≡ bad_place points.now b seen.now p }
 {
-    if present(points, p) {} else {
-        return true;
-    }
-    if seen[p] != 0 {
-        return true;
-    }
-    let own = boxes::inner::padded(triangle::inner::at(points, p));
-    !boxes::inner::is_inside(own, b)
+    !present(points, p)
+        || seen[p] != 0
+        || !boxes::inner::is_inside(boxes::inner::padded(triangle::inner::at(points, p)), b)
 }
 
 // Whether some present triangle was not seen.
+#[tactic(auto, using(crate::proofs::TestLaws::any_steps), unfolding(crate::specs::Test::missed))]
 fn any_missed(points: &[f32], seen: &[u8]) -> bool
     requires { length points.now / 9 ≤ length seen.now }
     ensures { result ≡ any (missed points.now seen.now) (length points.now / 9) 0 }
 {
-    let t = points.len() / 9;
-    let mut p = 0;
-    while p < t {
-        if is_missed(points, seen, p) {
+    for p in 0..points.len() / 9 {
+        if present(points, p) && seen[p] == 0 {
             return true;
         }
-        p += 1;
-    }
-    false
-}
-
-// Whether triangle p is present and was not seen.
-fn is_missed(points: &[f32], seen: &[u8], p: usize) -> bool
-    requires { p < length seen.now }
-    ensures { result ≡ missed points.now seen.now p }
-{
-    if present(points, p) {
-        return seen[p] == 0;
     }
     false
 }
 
 // Whether the scene has a triangle at place p that is not absent.
+#[tactic(auto, unfolding(crate::specs::Tree::present_at))]
 pub fn present(points: &[f32], p: usize) -> bool
     ensures { result ≡ present_at points.now p }
 {
-    if points.len() / 9 <= p {
-        return false;
-    }
-    !triangle::inner::absent(triangle::inner::at(points, p))
+    p < points.len() / 9 && !triangle::inner::absent(triangle::inner::at(points, p))
 }
 
 // A whole number of a list.

@@ -1,82 +1,45 @@
 -- `dilate::inner::dilate_middle`: the first k blocks are dilated and the rest is as it was; all of them are the grid. Assumes nothing.
-use mathlib.Core.Path.{◌≡◌, refl, sym, ap, subst, ◌∙◌}
+use mathlib.Core.Path.{◌≡◌, refl, sym, ap, ◌∙◌}
 use Prim.Native.Nat.{ℕ, ◌+◌, ◌-◌, ◌*◌, ◌≤◌, ◌<◌}
 use native.Mathlib.Omega.{arith}
 use native.Mathlib.Nat.{one-mul, mul-pos}
 use Rattle.grid.specs.Grid.{voxels}
-use Rattle.dilate.specs.ByBlocks.{BlocksDilated}
-use Rattle.dilate.specs.BlockLaws.{blocks_none, blocks_single, blocks_next, block_whole, block_inside, blocks_middle}
+use Rattle.grid.specs.declared.Axes.{Axes}
+use Rattle.dilate.specs.BlockLaws.{blocks_single, blocks_next, block_whole, block_inside, blocks_middle}
 use Rattle.dilate.proofs.inner.dilate_middle.Goals as goal
+
+-- how many bits a block has
+abbrev block : Axes → ℕ
+block v = v.width + (v.height - 1) * v.width
+
+-- block k lies within the grid
+within : (v : Axes) (k : ℕ) → 0 < v.height → k < v.depth → k * block v + block v ≤ voxels v
+within v k h q = block_inside v (block v) k (block_whole v h) q
 
 pub returns-then-view-eq1 : goal.returns-then-view-eq1
 returns-then-view-eq1 c =
-    let s = c in
-    let v = s.args.view in
-    blocks_middle v s.args.mask.now s.args.mask.now v.width (sym (ap (λ (x : ℕ). x * v.width) c.if-view-eq1.true ∙ one-mul v.width))
-    s.requires.0 s.requires.1 s.requires.3 (blocks_single s.args.mask.now v.width v.depth) refl
-
-pub overflow_sub-rest : goal.overflow_sub-rest
-overflow_sub-rest c = omega arith
-
-pub overflow_mul-rest : goal.overflow_mul-rest
-overflow_mul-rest c =
-    let s = c in
-    let v = s.args.view in
-    omega (arith, s.requires.4, block_inside v (v.width + (v.height - 1) * v.width) 0 (block_whole v s.requires.1) s.requires.2)
-
-pub loop-k-init : goal.loop-k-init
-loop-k-init c =
-    let s = c in
-    let v = s.args.view in
-    (omega arith, refl, blocks_none s.args.mask.now v.width (v.width + (v.height - 1) * v.width))
-
-pub overflow_add-stride : goal.overflow_add-stride
-overflow_add-stride c =
-    let s = c in
-    let v = s.args.view in
-    omega (arith, s.requires.4, block_inside v (v.width + (v.height - 1) * v.width) 0 (block_whole v s.requires.1) s.requires.2)
+    let v = c.args.view in
+    let m = c.args.mask.now in
+    blocks_middle v m m v.width (sym (ap (λ (x : ℕ). x * v.width) c.if-view-eq1.true ∙ one-mul v.width))
+    c.requires.0 c.requires.1 c.requires.3 (blocks_single m v.width v.depth) refl
 
 pub overflow_mul-k : goal.overflow_mul-k
-overflow_mul-k c =
-    let s = c in
-    let v = s.args.view in
-    omega (arith, s.requires.4, block_inside v (v.width + (v.height - 1) * v.width) c.loop-k.k (block_whole v s.requires.1) c.loop-k-test.true)
+overflow_mul-k c = omega (arith, within c.args.view c.loop-k.k c.requires.1 c.loop-k-test.true)
 
 pub dilate_block-requires : goal.dilate_block-requires
 dilate_block-requires c =
-    let s = c in
-    let v = s.args.view in
-    let l = c.loop-k in
-    let m : ℕ = v.width + (v.height - 1) * v.width in
-    let e : l.k * m + m ≤ voxels v = block_inside v m l.k (block_whole v s.requires.1) c.loop-k-test.true in
-    let more : 0 < v.height - 1 = omega (arith, s.requires.1) in
-    (s.requires.0, mul-pos more s.requires.0, omega (arith, e, l.invariant.1, s.requires.3.long), omega (arith, e, s.requires.4))
-
-pub overflow_add-k : goal.overflow_add-k
-overflow_add-k c = omega arith
-
-pub loop-k-smaller : goal.loop-k-smaller
-loop-k-smaller c = omega arith
+    let e = within c.args.view c.loop-k.k c.requires.1 c.loop-k-test.true in
+    (c.requires.0, mul-pos (omega arith) c.requires.0, omega arith, omega arith)
 
 pub loop-k-preserved : goal.loop-k-preserved
 loop-k-preserved c =
-    let s = c in
-    let v = s.args.view in
-    let l = c.loop-k in (
-      omega arith,
-      c.dilate_block.auto.mask ∙ l.invariant.1,
-      blocks_next s.args.mask.now l.mask _ v.width (v.width + (v.height - 1) * v.width) l.k l.invariant.2 c.dilate_block.ensures,
-    )
-
-pub shape_of-mask : goal.shape_of-mask
-shape_of-mask c = c.loop-k.invariant.1
+    let v = c.args.view in
+    let l = c.loop-k in
+    (c.dilate_block.auto.mask ∙ l.invariant.0, blocks_next c.args.mask.now l.mask _ v.width (block v) l.k l.invariant.1 c.dilate_block.ensures)
 
 pub returns : goal.returns
 returns c =
-    let s = c in
-    let v = s.args.view in
+    let v = c.args.view in
     let l = c.loop-k in
-    let m : ℕ = v.width + (v.height - 1) * v.width in
-    let e : l.k ≡ v.depth = omega (arith, l.invariant.0) in
-    blocks_middle v s.args.mask.now l.mask m (block_whole v s.requires.1) s.requires.0 s.requires.1 s.requires.3
-    (subst (λ (x : ℕ). BlocksDilated s.args.mask.now l.mask v.width m x) e l.invariant.2) l.invariant.1
+    let e : l.k ≡ v.depth = omega arith in
+    blocks_middle v c.args.mask.now l.mask (block v) (block_whole v c.requires.1) c.requires.0 c.requires.1 c.requires.3 (rw e at l.invariant.1) l.invariant.0
