@@ -9,6 +9,7 @@
 ghost use Rattle.std.specs.Prelude.{◌≤◌, length, IfOk, IfSome};
 
 mod entry;
+pub mod room; // room.rt: how long the lists are that a call is lent
 mod tally;
 mod words;
 
