@@ -3,67 +3,68 @@
 
 use grid::{Axes, Corners};
 use limits::{Ambient, Light};
+use replay::Words;
 use vectors::{Ray, Triangle, Vec3};
 
 // Three numbers.
-pub fn vector(s: &[u8], at: usize) -> Vec3 {
+pub fn vector(w: Words) -> Vec3 {
     Vec3 {
-        x: replay::number(s, at),
-        y: replay::number(s, replay::further(at, 1)),
-        z: replay::number(s, replay::further(at, 2)),
+        x: w.number(0),
+        y: w.number(1),
+        z: w.number(2),
     }
 }
 
 // Nine numbers.
-pub fn triangle(s: &[u8], at: usize) -> Triangle {
+pub fn triangle(w: Words) -> Triangle {
     Triangle {
-        p0: vector(s, at),
-        p1: vector(s, replay::further(at, 3)),
-        p2: vector(s, replay::further(at, 6)),
+        p0: vector(w),
+        p1: vector(w.skip(3)),
+        p2: vector(w.skip(6)),
     }
 }
 
 // Eight numbers: origin, direction, shortest, longest.
-pub fn ray(s: &[u8], at: usize) -> Ray {
+pub fn ray(w: Words) -> Ray {
     Ray {
-        origin: vector(s, at),
-        direction: vector(s, replay::further(at, 3)),
-        shortest: replay::number(s, replay::further(at, 6)),
-        longest: replay::number(s, replay::further(at, 7)),
+        origin: vector(w),
+        direction: vector(w.skip(3)),
+        shortest: w.number(6),
+        longest: w.number(7),
     }
 }
 
 // Six words: each axis low word first.
-pub fn axes(s: &[u8], at: usize) -> Axes {
+pub fn axes(w: Words) -> Axes {
     Axes {
-        width: replay::whole(s, at),
-        height: replay::whole(s, replay::further(at, 2)),
-        depth: replay::whole(s, replay::further(at, 4)),
+        width: w.whole(0),
+        height: w.whole(2),
+        depth: w.whole(4),
     }
 }
 
 // Six numbers.
-pub fn corners(s: &[u8], at: usize) -> Corners {
+pub fn corners(w: Words) -> Corners {
     Corners {
-        min: vector(s, at),
-        max: vector(s, replay::further(at, 3)),
+        min: vector(w),
+        max: vector(w.skip(3)),
     }
 }
 
 // Six numbers: direction, colour.
-pub fn light(s: &[u8], at: usize) -> Light {
+pub fn light(w: Words) -> Light {
     Light {
-        direction: vector(s, at),
-        colour: vector(s, replay::further(at, 3)),
+        direction: vector(w),
+        colour: vector(w.skip(3)),
     }
 }
 
 // Twelve numbers.
-pub fn ambient(s: &[u8], at: usize) -> Ambient {
+pub fn ambient(w: Words) -> Ambient {
     Ambient {
-        c0: vector(s, at),
-        c1: vector(s, replay::further(at, 3)),
-        c2: vector(s, replay::further(at, 6)),
-        c3: vector(s, replay::further(at, 9)),
+        c0: vector(w),
+        c1: vector(w.skip(3)),
+        c2: vector(w.skip(6)),
+        c3: vector(w.skip(9)),
     }
 }
