@@ -20,7 +20,7 @@ use Rattle.bounds.specs.BoundsLaws.{at_most_up}
 use Rattle.bounds.specs.WildLaws.{Wild, dot_wild, cross_wild, wild_over_wild}
 use Rattle.triangle.specs.declared.Hit.{Hit}
 use Rattle.triangle.specs.declared.Solved.{Solved}
-use Rattle.triangle.specs.Meet.{hit, front_of, largest32, absent_of, solved_of, judged_of, meet_of}
+use Rattle.triangle.specs.Meet.{hit_of, front_of, largest32, absent_of, solved_of, judged_of, meet_of}
 use Rattle.triangle.specs.Places.{triangle_at}
 use Rattle.rays_bounds.specs.TestBounds.{NearPoints, distance_bounded, largest_passes, last_test_passes}
 
@@ -33,7 +33,7 @@ judged_without s shortest longest =
     (cond (Ieee.lt s.v zero32) None
     (cond (Ieee.lt one32 (Ieee.add binary32 s.u s.v)) None
     (cond (Ieee.lt s.t shortest) None
-    (cond (Ieee.lt longest s.t) None (Some (hit s.t s.u s.v (front_of s.det)))))))
+    (cond (Ieee.lt longest s.t) None (Some (hit_of s.t s.u s.v (front_of s.det)))))))
     None)
     None)
 
@@ -68,7 +68,7 @@ idle ray triangle h =
     (Ieee.lt s.t ray.shortest)
     (Ieee.lt ray.longest s.t)
     (Ieee.le (magnitude_of s.t) largest32)
-    (Some (hit s.t s.u s.v (front_of s.det)))
+    (Some (hit_of s.t s.u s.v (front_of s.det)))
     h in
     rw e refl
 
@@ -104,6 +104,6 @@ beyond =
 abbrev below : Triangle
 below = record { p0 = vec zero32 zero32 zero32; p1 = vec two32 zero32 zero32; p2 = vec zero32 two32 zero32 }
 
-pub departure_shows : (meet_of beyond below ≡ None) × (meet_without beyond below ≡ Some (hit inf32 (lit 0x3e000000) nan true))
+pub departure_shows : (meet_of beyond below ≡ None) × (meet_without beyond below ≡ Some (hit_of inf32 (lit 0x3e000000) nan true))
 unfolding meet_of meet_without judged_of judged_without front_of solved_of absent_of magnitude_of sub_v cross_v dot_v Ieee.of_bits Ieee.of_fields Ieee.odd Ieee.neg Ieee.le Ieee.lt Ieee.eq Ieee.add Ieee.sub Ieee.mul Ieee.div Ieee.round Ieee.sum Ieee.units Ieee.size Ieee.span Ieee.climb
 departure_shows = (refl, refl)

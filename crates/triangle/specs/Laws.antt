@@ -10,7 +10,7 @@ use Rattle.vectors.specs.declared.Ray.{Ray}
 use Rattle.vectors.specs.declared.Triangle.{Triangle}
 use Rattle.triangle.specs.declared.Hit.{Hit}
 use Rattle.triangle.specs.declared.Solved.{Solved}
-use Rattle.triangle.specs.Meet.{hit, largest32, absent_of, front_of, solved_of, judged_of, meet_of}
+use Rattle.triangle.specs.Meet.{hit_of, largest32, absent_of, front_of, solved_of, judged_of, meet_of}
 
 pub absent_missed : (ray : Ray) (triangle : Triangle) → absent_of triangle ≡ true → meet_of ray triangle ≡ None
 unfolding meet_of
@@ -51,7 +51,7 @@ into true m e = (refl, e)
 into false m e = absurd (false≢true cc)
 
 -- two hits are one, number for number
-numbers_of : (s : Solved) (h : Hit) → Some (hit s.t s.u s.v (front_of s.det)) ≡ Some h
+numbers_of : (s : Solved) (h : Hit) → Some (hit_of s.t s.u s.v (front_of s.det)) ≡ Some h
     → (h.t ≡ s.t) × (h.u ≡ s.u) × (h.v ≡ s.v) × (h.front ≡ Ieee.lt zero32 s.det)
 unfolding front_of
 numbers_of s h e = (cc, cc, cc, cc)

@@ -47,8 +47,8 @@ unfoldable pub front_of : Float → Bool
 front_of d = Ieee.lt zero32 d
 
 -- a hit's distance, u, v and side
-abbrev pub hit : Float → Float → Float → Bool → Hit
-hit d a b side = record { t = d; u = a; v = b; front = side }
+abbrev pub hit_of : Float → Float → Float → Bool → Hit
+hit_of d a b side = record { t = d; u = a; v = b; front = side }
 
 -- what stands of the determinant, u, v and t, between two distances
 unfoldable pub judged_of : Solved → Float → Float → Option Hit
@@ -60,7 +60,7 @@ judged_of s shortest longest =
     (cond (Ieee.lt one32 (Ieee.add binary32 s.u s.v)) None
     (cond (Ieee.lt s.t shortest) None
     (cond (Ieee.lt longest s.t) None
-    (cond (Ieee.le (magnitude_of s.t) largest32) (Some (hit s.t s.u s.v (front_of s.det))) None)))))
+    (cond (Ieee.le (magnitude_of s.t) largest32) (Some (hit_of s.t s.u s.v (front_of s.det))) None)))))
     None)
     None)
 

@@ -13,7 +13,7 @@ use Rattle.vectors.specs.declared.Ray.{Ray}
 use Rattle.vectors.specs.declared.Triangle.{Triangle}
 use Rattle.triangle.specs.declared.Hit.{Hit}
 use Rattle.triangle.specs.declared.Solved.{Solved}
-use Rattle.triangle.specs.Meet.{hit, largest32, front_of, solved_of, judged_of, meet_of}
+use Rattle.triangle.specs.Meet.{hit_of, largest32, front_of, solved_of, judged_of, meet_of}
 use Rattle.triangle.specs.Laws.{judged_missed}
 use Rattle.triangle.specs.Places.{triangle_at}
 
@@ -71,5 +71,5 @@ outside_missed ray triangle h =
     (Ieee.lt s.t ray.shortest)
     (Ieee.lt ray.longest s.t)
     (Ieee.le (magnitude_of s.t) largest32)
-    (Some (hit s.t s.u s.v (front_of s.det)))
+    (Some (hit_of s.t s.u s.v (front_of s.det)))
     h)
