@@ -1,12 +1,11 @@
 -- What the hits are: exactly the triangles that are met, each with its place, and each place within the list.
-use Rattle.std.specs.Prelude.{◌≡◌, refl, Bool, true, false, cond, ◌⊎◌, ℕ, zero, suc, ◌<◌, length, get_or, Float}
+use Rattle.std.specs.Prelude.{◌≡◌, refl, Option, None, Some, Bool, true, false, cond, ◌⊎◌, ℕ, zero, suc, ◌<◌, length, get_or, Float}
 use Rattle.std.proofs.Common.{inl, inr, ⊎_elim, eq-or-lt_of_le, le_of_suc-le-suc, not-suc-le-zero, arith}
 use mathlib.Core.List.Memᴰ
 use mathlib.Core.List.{List, [], ◌∷◌, Memᴰ}
 use Rattle.names.specs.Scene.{Scene}
 use Rattle.vectors.specs.declared.Ray.{Ray}
-use Rattle.triangle.specs.declared.Meet.{Meet}
-use Rattle.triangle.specs.declared.Meet.TheVariants.{Miss, Hit}
+use Rattle.triangle.specs.declared.Hit.{Hit}
 use Rattle.panels.specs.Panels.{meet_at}
 use Rattle.hits.specs.Hits.{Struck, struck, before, insert_of, with_meet, hits_of, places_of}
 use Rattle.hits.specs.HitLaws.{Stands}
@@ -53,29 +52,28 @@ unfolding hits_of with_meet
 hits_only scene ray zero m = absurd (Memᴰ.not-nil m)
 hits_only scene ray (suc n) {h} m = by (meet_at scene ray n) refl m (λ r. hits_only scene ray n r)
   where
-    by : (a : Meet) → meet_at scene ray n ≡ a → Memᴰ h (with_meet (hits_of scene ray n) n a)
+    by : (a : Option Hit) → meet_at scene ray n ≡ a → Memᴰ h (with_meet (hits_of scene ray n) n a)
         → (Memᴰ h (hits_of scene ray n) → Stands scene ray n h) → Stands scene ray (suc n) h
-    by Miss e q r = wider (r q)
-    by (Hit t u v front) e q r =
+    by None e q r = wider (r q)
+    by (Some k) e q r =
         ⊎_elim
-        (λ (s : h ≡ struck t n). let z : h.place ≡ n = rw s in record { within = omega arith; first = u; second = v; front = front; met = rw s e })
+        (λ (s : h ≡ struck k.t n). let z : h.place ≡ n = rw s in record { within = omega arith; first = k.u; second = k.v; front = k.front; met = rw s e })
         (λ s. wider (r s))
-        (put_only (struck t n) (hits_of scene ray n) q)
+        (put_only (struck k.t n) (hits_of scene ray n) q)
 
 -- and every triangle that is met stands in the list
-pub hits_all : (scene : Scene) (ray : Ray) (n i : ℕ) (t u v : Float) (front : Bool) → i < n → meet_at scene ray i ≡ Hit t u v front
-    → Memᴰ (struck t i) (hits_of scene ray n)
+pub hits_all : (scene : Scene) (ray : Ray) (n i : ℕ) (h : Hit) → i < n → meet_at scene ray i ≡ Some h → Memᴰ (struck h.t i) (hits_of scene ray n)
 unfolding hits_of with_meet
-hits_all scene ray zero i t u v front h e = absurd (not-suc-le-zero h)
-hits_all scene ray (suc n) i t u v front h e =
+hits_all scene ray zero i h p e = absurd (not-suc-le-zero p)
+hits_all scene ray (suc n) i h p e =
     ⊎_elim
-    (λ (s : i ≡ n). let f : meet_at scene ray n ≡ Hit t u v front = rw s at e in rw (s, f) (put_here (struck t n) (hits_of scene ray n)))
-    (λ (s : i < n). kept (meet_at scene ray n) (hits_all scene ray n i t u v front s e))
-    (eq-or-lt_of_le (le_of_suc-le-suc h))
+    (λ (s : i ≡ n). let f : meet_at scene ray n ≡ Some h = rw s at e in rw (s, f) (put_here (struck h.t n) (hits_of scene ray n)))
+    (λ (s : i < n). kept (meet_at scene ray n) (hits_all scene ray n i h s e))
+    (eq-or-lt_of_le (le_of_suc-le-suc p))
   where
-    kept : (a : Meet) → Memᴰ (struck t i) (hits_of scene ray n) → Memᴰ (struck t i) (with_meet (hits_of scene ray n) n a)
-    kept Miss m = m
-    kept (Hit s p q b) m = put_kept (struck s n) (hits_of scene ray n) m
+    kept : (a : Option Hit) → Memᴰ (struck h.t i) (hits_of scene ray n) → Memᴰ (struck h.t i) (with_meet (hits_of scene ray n) n a)
+    kept None m = m
+    kept (Some k) m = put_kept (struck k.t n) (hits_of scene ray n) m
 
 -- ---- places
 

@@ -1,6 +1,6 @@
 -- The order of hits, by distance and then by place: one before another that is before a third is before the third, and where distances are numbers the
 -- same of not before. A hit's distance is a number.
-use Rattle.std.specs.Prelude.{◌≡◌, refl, Bool, true, false, ◌||◌, ◌&&◌, List, ℕ, ltb, Float}
+use Rattle.std.specs.Prelude.{◌≡◌, refl, Some, Bool, true, false, ◌||◌, ◌&&◌, List, ℕ, ltb, Float}
 use Rattle.std.proofs.Common.{sym, ◌∙◌, arith, lt-ltb, ltb-true, ltb-false}
 use Rattle.std.proofs.lemmas.Bool.{false≢true}
 use Rattle.std.proofs.Math.Bool.{and-eq-true_iff}
@@ -11,17 +11,17 @@ use Rattle.floats.specs.OrderLaws.{lt_transitive, lt_negatively_transitive, lt_t
 use Rattle.vectors.specs.declared.Ray.{Ray}
 use Rattle.triangle.specs.Meet.{largest32}
 use Rattle.triangle.specs.Laws.{hit_met}
-use Rattle.triangle.specs.declared.Meet.TheVariants.{Hit}
+use Rattle.triangle.specs.declared.Hit.{Hit}
 use Rattle.panels.specs.Panels.{met_by}
 use Rattle.panels.specs.PanelLaws.{by_answered}
 use Rattle.hits.specs.Hits.{Struck, before}
 use Rattle.hits.specs.Order.{lt_eq, eq_lt, eq_transitive}
 
 -- a hit's distance is a number
-pub hit_number : (boxed : Bool) (points : List Float) (uses kinds : List ℕ) (ray : Ray) (i : ℕ) (t u v : Float) (front : Bool)
-    → met_by boxed points uses kinds ray i ≡ Hit t u v front → is_nan t ≡ false
+pub hit_number : (boxed : Bool) (points : List Float) (uses kinds : List ℕ) (ray : Ray) (i : ℕ) (h : Hit)
+    → met_by boxed points uses kinds ray i ≡ Some h → is_nan h.t ≡ false
 unfolding is_nan le lt eq magnitude_of
-hit_number boxed points uses kinds ray i t u v front e = by t (hit_met ray _ t u v front (by_answered boxed points uses kinds ray i t u v front e)).finite
+hit_number boxed points uses kinds ray i h e = by h.t (hit_met ray _ h (by_answered boxed points uses kinds ray i h e)).finite
   where
     by : (x : Float) → le (magnitude_of x) largest32 ≡ true → is_nan x ≡ false
     by nan h = absurd (false≢true h)

@@ -1,10 +1,9 @@
 -- The hits of a ray, "by t, then by place": each is inserted before the first that it comes before. The back of a panel is no hit.
-use Rattle.std.specs.Prelude.{Bool, cond, ◌||◌, ◌&&◌, List, [], ◌∷◌, ◌++◌, map, ℕ, zero, suc, take, drop, ltb, Float}
+use Rattle.std.specs.Prelude.{Option, None, Some, Bool, cond, ◌||◌, ◌&&◌, List, [], ◌∷◌, ◌++◌, map, ℕ, zero, suc, take, drop, ltb, Float}
 use Rattle.std.specs.Float.Ieee as Ieee
 use Rattle.names.specs.Scene.{Scene}
 use Rattle.vectors.specs.declared.Ray.{Ray}
-use Rattle.triangle.specs.declared.Meet.{Meet}
-use Rattle.triangle.specs.declared.Meet.TheVariants.{Miss, Hit}
+use Rattle.triangle.specs.declared.Hit.{Hit}
 use Rattle.panels.specs.Panels.{meet_at}
 
 -- a hit: how far, and the place of the triangle
@@ -24,9 +23,9 @@ insert_of h [] = h ∷ []
 insert_of h (g ∷ gs) = cond (before h g) (h ∷ g ∷ gs) (g ∷ insert_of h gs)
 
 -- the hits with a meeting at place i among them
-unfoldable pub with_meet : List Struck → ℕ → Meet → List Struck
-with_meet hs i Miss = hs
-with_meet hs i (Hit t u v front) = insert_of (struck t i) hs
+unfoldable pub with_meet : List Struck → ℕ → Option Hit → List Struck
+with_meet hs i None = hs
+with_meet hs i (Some h) = insert_of (struck h.t i) hs
 
 -- the hits of the first n triangles of a scene
 unfoldable pub hits_of : Scene → Ray → ℕ → List Struck

@@ -1,14 +1,13 @@
 -- Which triangles count. "Material kind 2 is opaque from the front and absent from the back, for nearest hits as for transmittance." A triangle of another
 -- kind counts from both sides; of those that count an opaque one and a panel stop all light. Of a scene with a box tree only "the triangles whose own padded
 -- box is not passed over" (C-20).
-use Rattle.std.specs.Prelude.{Bool, cond, not, ◌&&◌, ◌||◌, List, ℕ, get_or, eqb, Float}
+use Rattle.std.specs.Prelude.{Option, None, Some, Bool, cond, not, ◌&&◌, ◌||◌, List, ℕ, get_or, eqb, Float}
 use Rattle.names.specs.Numbers.{opaque_kind, panel_kind}
 use Rattle.names.specs.Scene.{Scene}
 use Rattle.vectors.specs.declared.Ray.{Ray}
 use Rattle.triangle.specs.Meet.{meet_of}
 use Rattle.triangle.specs.Places.{triangle_at}
-use Rattle.triangle.specs.declared.Meet.{Meet}
-use Rattle.triangle.specs.declared.Meet.TheVariants.{Miss, Hit}
+use Rattle.triangle.specs.declared.Hit.{Hit}
 use Rattle.boxes.specs.Boxes.{padded_of, passed_over}
 
 -- the kind of the material that the triangle at place i uses
@@ -24,12 +23,12 @@ unfoldable pub stops_light : ℕ → Bool
 stops_light kind = eqb kind opaque_kind || eqb kind panel_kind
 
 -- a meeting with a triangle of a kind: a miss where the triangle does not count
-unfoldable pub counted_of : ℕ → Meet → Meet
-counted_of kind Miss = Miss
-counted_of kind (Hit t u v front) = cond (counts kind front) (Hit t u v front) Miss
+unfoldable pub counted_of : ℕ → Option Hit → Option Hit
+counted_of kind None = None
+counted_of kind (Some h) = cond (counts kind h.front) (Some h) None
 
 -- what a scan meets of the triangle at place i: what the test answers, where the triangle counts
-unfoldable pub met_at : List Float → List ℕ → List ℕ → Ray → ℕ → Meet
+unfoldable pub met_at : List Float → List ℕ → List ℕ → Ray → ℕ → Option Hit
 met_at points uses kinds ray i = counted_of (kind_at uses kinds i) (meet_of ray (triangle_at points i))
 
 -- whether the own padded box of the triangle at place i is passed over
@@ -37,9 +36,9 @@ unfoldable pub own_passed : List Float → Ray → ℕ → Bool
 own_passed points ray i = passed_over ray.origin ray.direction (padded_of (triangle_at points i))
 
 -- the same with a box tree or without: with one "over the triangles whose own padded box is not passed over"
-unfoldable pub met_by : Bool → List Float → List ℕ → List ℕ → Ray → ℕ → Meet
-met_by boxed points uses kinds ray i = cond (boxed && own_passed points ray i) Miss (met_at points uses kinds ray i)
+unfoldable pub met_by : Bool → List Float → List ℕ → List ℕ → Ray → ℕ → Option Hit
+met_by boxed points uses kinds ray i = cond (boxed && own_passed points ray i) None (met_at points uses kinds ray i)
 
 -- and of a scene
-abbrev pub meet_at : Scene → Ray → ℕ → Meet
+abbrev pub meet_at : Scene → Ray → ℕ → Option Hit
 meet_at scene ray i = met_by scene.boxed scene.points scene.uses scene.kinds ray i

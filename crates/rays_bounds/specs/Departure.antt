@@ -1,6 +1,6 @@
 -- The test without its departure, as the Rust has it: a distance that is not finite would pass. Where the points lie within ±4,096 and the ray starts within n·2^k
 -- the two tests are one, whatever the direction (`far_same`), and so they are of a direction that is infinite or NaN, wherever the ray starts (`wild_same`): u is NaN then, and misses.
-use Rattle.std.specs.Prelude.{◌≡◌, refl, Bool, true, false, cond, ℕ, ◌+◌, ◌*◌, ◌^◌, ◌≤◌, ◌<◌, length, Float}
+use Rattle.std.specs.Prelude.{◌≡◌, refl, Option, None, Some, Bool, true, false, cond, ℕ, ◌+◌, ◌*◌, ◌^◌, ◌≤◌, ◌<◌, length, Float}
 use Rattle.std.proofs.Common.{sym, ◌∙◌, lt_of_le_of_lt, lit<}
 use Rattle.std.proofs.lemmas.Bool.{false≢true}
 use Rattle.std.specs.Float.Ieee as Ieee
@@ -18,41 +18,40 @@ use Rattle.limits.specs.Limits.{bad_ray}
 use Rattle.bounds.specs.Bounds.{EachAtMost}
 use Rattle.bounds.specs.BoundsLaws.{at_most_up}
 use Rattle.bounds.specs.WildLaws.{Wild, dot_wild, cross_wild, wild_over_wild}
-use Rattle.triangle.specs.declared.Meet.{Meet}
-use Rattle.triangle.specs.declared.Meet.TheVariants.{Miss, Hit}
+use Rattle.triangle.specs.declared.Hit.{Hit}
 use Rattle.triangle.specs.declared.Solved.{Solved}
-use Rattle.triangle.specs.Meet.{front_of, largest32, absent_of, solved_of, judged_of, meet_of}
+use Rattle.triangle.specs.Meet.{hit_of, front_of, largest32, absent_of, solved_of, judged_of, meet_of}
 use Rattle.triangle.specs.Places.{triangle_at}
 use Rattle.rays_bounds.specs.TestBounds.{NearPoints, distance_bounded, largest_passes, last_test_passes}
 
 -- the judgement without its last test
-unfoldable pub judged_without : Solved → Float → Float → Meet
+unfoldable pub judged_without : Solved → Float → Float → Option Hit
 judged_without s shortest longest =
-    cond (Ieee.le (magnitude_of s.det) flat_limit) Miss
+    cond (Ieee.le (magnitude_of s.det) flat_limit) None
     (cond (Ieee.le zero32 s.u)
     (cond (Ieee.le s.u one32)
-    (cond (Ieee.lt s.v zero32) Miss
-    (cond (Ieee.lt one32 (Ieee.add binary32 s.u s.v)) Miss
-    (cond (Ieee.lt s.t shortest) Miss
-    (cond (Ieee.lt longest s.t) Miss (Hit s.t s.u s.v (front_of s.det))))))
-    Miss)
-    Miss)
+    (cond (Ieee.lt s.v zero32) None
+    (cond (Ieee.lt one32 (Ieee.add binary32 s.u s.v)) None
+    (cond (Ieee.lt s.t shortest) None
+    (cond (Ieee.lt longest s.t) None (Some (hit_of s.t s.u s.v (front_of s.det)))))))
+    None)
+    None)
 
-unfoldable pub meet_without : Ray → Triangle → Meet
+unfoldable pub meet_without : Ray → Triangle → Option Hit
 meet_without ray triangle =
-    cond (absent_of triangle) Miss (judged_without (solved_of ray triangle) ray.shortest ray.longest)
+    cond (absent_of triangle) None (judged_without (solved_of ray triangle) ray.shortest ray.longest)
 
 -- the two are one, of a ray and each triangle of a scene
 abbrev pub NoDeparture : Scene → Ray → Type 0
 NoDeparture scene ray = (k : ℕ) → k < length scene.uses → meet_of ray (triangle_at scene.points k) ≡ meet_without ray (triangle_at scene.points k)
 
 -- where a determinant that is not flat and a u from 0 up have a finite distance, the last test decides nothing
-same_tests : (flat from to low sum near far good : Bool) (hit : Meet) → (flat ≡ false → from ≡ true → good ≡ true)
-    → cond flat Miss (cond from (cond to (cond low Miss (cond sum Miss (cond near Miss (cond far Miss (cond good hit Miss))))) Miss) Miss)
-    ≡ cond flat Miss (cond from (cond to (cond low Miss (cond sum Miss (cond near Miss (cond far Miss hit)))) Miss) Miss)
-same_tests true from to low sum near far good hit h = refl
-same_tests false false to low sum near far good hit h = refl
-same_tests false true to low sum near far good hit h = rw (h refl refl) refl
+same_tests : (flat from to low sum near far good : Bool) (m : Option Hit) → (flat ≡ false → from ≡ true → good ≡ true)
+    → cond flat None (cond from (cond to (cond low None (cond sum None (cond near None (cond far None (cond good m None))))) None) None)
+    ≡ cond flat None (cond from (cond to (cond low None (cond sum None (cond near None (cond far None m)))) None) None)
+same_tests true from to low sum near far good m h = refl
+same_tests false false to low sum near far good m h = refl
+same_tests false true to low sum near far good m h = rw (h refl refl) refl
 
 idle : (ray : Ray) (triangle : Triangle)
     → (Ieee.le (magnitude_of (solved_of ray triangle).det) flat_limit ≡ false → Ieee.le zero32 (solved_of ray triangle).u ≡ true → Ieee.le (magnitude_of (solved_of ray triangle).t) largest32 ≡ true)
@@ -69,7 +68,7 @@ idle ray triangle h =
     (Ieee.lt s.t ray.shortest)
     (Ieee.lt ray.longest s.t)
     (Ieee.le (magnitude_of s.t) largest32)
-    (Hit s.t s.u s.v (front_of s.det))
+    (Some (hit_of s.t s.u s.v (front_of s.det)))
     h in
     rw e refl
 
@@ -105,6 +104,6 @@ beyond =
 abbrev below : Triangle
 below = record { p0 = vec zero32 zero32 zero32; p1 = vec two32 zero32 zero32; p2 = vec zero32 two32 zero32 }
 
-pub departure_shows : (meet_of beyond below ≡ Miss) × (meet_without beyond below ≡ Hit inf32 (lit 0x3e000000) nan true)
+pub departure_shows : (meet_of beyond below ≡ None) × (meet_without beyond below ≡ Some (hit_of inf32 (lit 0x3e000000) nan true))
 unfolding meet_of meet_without judged_of judged_without front_of solved_of absent_of magnitude_of sub_v cross_v dot_v Ieee.of_bits Ieee.of_fields Ieee.odd Ieee.neg Ieee.le Ieee.lt Ieee.eq Ieee.add Ieee.sub Ieee.mul Ieee.div Ieee.round Ieee.sum Ieee.units Ieee.size Ieee.span Ieee.climb
 departure_shows = (refl, refl)

@@ -1,7 +1,7 @@
 -- How large the numbers of the test are, of a ray that starts within n·2^k: once the determinant has passed, |u| and |v| are at most 12·(n+1)·2^(k+40) and |t| is
 -- at most 24·(n+1)·2^(k+51), and of t that holds whatever the direction, infinite or NaN too. So within the limits every number is finite: the departure that makes
 -- a non-finite distance a miss never shows for an accepted call, and a hit's u and v are numbers.
-use Rattle.std.specs.Prelude.{◌≡◌, refl, Bool, true, false, ◌||◌, List, length, get_or, Float}
+use Rattle.std.specs.Prelude.{◌≡◌, refl, Some, Bool, true, false, ◌||◌, List, length, get_or, Float}
 use Rattle.std.proofs.Common.{sym, le_refl, mul-le-mul, lt_of_le_of_lt, arith, lit<, lit≤, pow_mono}
 use Rattle.std.proofs.lemmas.Bool.{false≢true}
 use Prim.Native.Nat.{ℕ, ◌+◌, ◌*◌, ◌^◌, ◌≤◌, ◌<◌, zero-le}
@@ -27,7 +27,7 @@ use Rattle.triangle.specs.Meet.{largest32, solved_of, meet_of}
 use Rattle.vectors.specs.Places.{vec_at}
 use Rattle.triangle.specs.Places.{triangle_at}
 use Rattle.triangle.specs.Laws.{hit_met}
-use Rattle.triangle.specs.declared.Meet.TheVariants.{Hit}
+use Rattle.triangle.specs.declared.Hit.{Hit}
 
 least : HasValue (lit 0x32000000) false 1 (2 ^ 27)
 unfolding of_bits
@@ -180,9 +180,9 @@ pub last_test_passes : (ray : Ray) (triangle : Triangle) → NearPoints triangle
 last_test_passes ray triangle p br h = largest_passes _ (at_most_up _ 408 63 16777215 104 (lit≤ tt) (test_bounded ray triangle p br h).t)
 
 -- a hit's distance, u and v are finite
-pub hit_finite : (ray : Ray) (triangle : Triangle) (t u v : Float) (front : Bool) → NearPoints triangle → bad_ray ray ≡ false → meet_of ray triangle ≡ Hit t u v front
-    → (finite t ≡ true) × (finite u ≡ true) × (finite v ≡ true)
-hit_finite ray triangle t u v front p br e =
-    let m = hit_met ray triangle t u v front e in
+pub hit_finite : (ray : Ray) (triangle : Triangle) (h : Hit) → NearPoints triangle → bad_ray ray ≡ false → meet_of ray triangle ≡ Some h
+    → (finite h.t ≡ true) × (finite h.u ≡ true) × (finite h.v ≡ true)
+hit_finite ray triangle h p br e =
+    let m = hit_met ray triangle h e in
     let b = test_bounded ray triangle p br m.steep in
     (rw m.distance (at_most_finite _ 408 63 b.t), rw m.first (at_most_finite _ 204 52 b.u), rw m.second (at_most_finite _ 204 52 b.v))

@@ -1,2 +1,4 @@
 -- Laws that belong to no one function.
-pub mod Lists
+pub mod Passing
+pub mod Search
+pub mod Collected

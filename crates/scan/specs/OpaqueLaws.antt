@@ -1,6 +1,6 @@
 -- A hit that stops light, of an opaque triangle or of a panel's front, lets none through, at whatever place of the order it stands. So the scan for a transmittance may end at the first that it meets, and
 -- where it meets none the product need not ask.
-use Rattle.std.specs.Prelude.{◌≡◌, refl, Bool, true, false, cond, ℕ, ◌<◌, length, get_or, Float}
+use Rattle.std.specs.Prelude.{◌≡◌, refl, Some, Bool, true, false, cond, ℕ, ◌<◌, length, get_or, Float}
 use Rattle.std.proofs.Common.{sym, ap, ◌∙◌, ⊎_elim}
 use Rattle.std.proofs.lemmas.Bool.{false≢true}
 use mathlib.Core.List.Memᴰ
@@ -12,7 +12,7 @@ use Rattle.names.specs.Numbers.{opaque_kind, faint_limit}
 use Rattle.names.specs.Scene.{Scene, Sound, hit_room}
 use Rattle.names.specs.SolidLaws.{other_room}
 use Rattle.vectors.specs.declared.Ray.{Ray}
-use Rattle.triangle.specs.declared.Meet.TheVariants.{Hit}
+use Rattle.triangle.specs.declared.Hit.{Hit}
 use Rattle.panels.specs.Panels.{kind_at, stops_light, meet_at}
 use Rattle.hits.specs.Hits.{Struck, struck, insert_of, places_of}
 use Rattle.hits.proofs.HitLaws.{put_only, hits_all}
@@ -41,11 +41,11 @@ pub opaque_leaves : (uses kinds : List ℕ) (numbers : List Float) (w : Float) (
 opaque_leaves uses kinds numbers w h hs m k = opaque_pass uses kinds numbers w h.place (places_of hs) (place_of hs m) k
 
 -- so a triangle that stops light and is met lets none through
-pub opaque_dark : (scene : Scene) (ray : Ray) (i : ℕ) (t u v : Float) (front : Bool) → i < length scene.uses → meet_at scene ray i ≡ Hit t u v front
+pub opaque_dark : (scene : Scene) (ray : Ray) (i : ℕ) (h : Hit) → i < length scene.uses → meet_at scene ray i ≡ Some h
     → stops_light (kind_at scene.uses scene.kinds i) ≡ true → transmittance_of scene ray ≡ zero32
 unfolding transmittance_of
-opaque_dark scene ray i t u v front h e k =
-    opaque_leaves scene.uses scene.kinds scene.numbers one32 (struck t i) _ (hits_all scene ray (length scene.uses) i t u v front h e) k
+opaque_dark scene ray i h p e k =
+    opaque_leaves scene.uses scene.kinds scene.numbers one32 (struck h.t i) _ (hits_all scene ray (length scene.uses) i h p e) k
 
 -- what is left of w after the hits at these places, of which none stops light
 unfoldable pub clear_pass_of : List ℕ → List Float → Float → List ℕ → Float

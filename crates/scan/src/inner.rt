@@ -3,70 +3,56 @@ ghost use Rattle.std.specs.Prelude.{◌≡◌, ℕ, ◌+◌, ◌*◌, ◌≤◌,
 ghost use Rattle.names.specs.Bits.{one32};
 ghost use Rattle.names.specs.Scene.{Sound, scene_of, HitsFit};
 ghost use Rattle.triangle.specs.Missed.{Missed};
-ghost use Rattle.triangle.specs.declared.Meet.TheVariants.{Hit};
 ghost use Rattle.scan.specs.Nearest.{beats, nearer_of, nearest_of};
 ghost use Rattle.scan.specs.FirstHit.{FirstFrom};
 ghost use Rattle.scan.specs.OpaqueLaws.{clear_pass_of};
 ghost use Rattle.scan.specs.Transmittance.{transmittance_of};
 
-use super::Nearest;
+use super::PlacedHit;
 use names::FAINT_LIMIT;
-use triangle::Meet;
 use vectors::Ray;
 
 // ---- the nearest hit
 
 // The nearest hit of the ray among all triangles that count; among equal distances the one of the highest place.
-pub fn nearest(points: &[f32], uses: &[u32], kinds: &[u8], numbers: &[f32], ray: Ray) -> Nearest
+#[tactic(auto, using(crate::specs::FirstHit::nearest_over), unfolding(crate::specs::Nearest::nearest_to, crate::specs::Nearest::nearest_of))]
+pub fn nearest(
+    points: &[f32],
+    uses: &[u32],
+    kinds: &[u8],
+    numbers: &[f32],
+    ray: Ray,
+) -> Option<PlacedHit>
     requires { Sound (scene_of points.now uses.now kinds.now numbers.now) }
     ensures { result ≡ nearest_of (scene_of points.now uses.now kinds.now numbers.now) ray }
 {
     let n = uses.len();
-    let mut best = Nearest::Nothing;
+    let mut best = None;
     let mut i = 0;
-    while i < n {
-        let j = first_open(points, i, n, ray);
-        if j == n {
-            return best;
-        }
-        let m = panels::inner::meet_at(points, uses, kinds, j, ray);
-        i = j + 1;
-        match m {
-            Meet::Miss => {}
-            Meet::Hit(t, u, v, front) => {
-                best = nearer(best, j, t, u, v, front);
-            }
-        }
+    while let Some(met) = first_hit(points, uses, kinds, i, n, ray) {
+        best = nearer(best, met);
+        i = met.place + 1;
     }
     best
 }
 
-// The better of what is held and a hit at place i.
-pub fn nearer(best: Nearest, i: usize, t: f32, u: f32, v: f32, front: bool) -> Nearest
-    ensures { result ≡ nearer_of best i (Hit t u v front) }
+// The better of what is held and what is met.
+#[tactic(auto, unfolding(crate::specs::Nearest::nearer_of))]
+pub fn nearer(best: Option<PlacedHit>, met: PlacedHit) -> Option<PlacedHit>
+    ensures { result ≡ nearer_of best met.place (Some met.hit) }
 {
     match best {
-        Nearest::Nothing => Nearest::At(i, t, u, v, front),
-        Nearest::At(j, s, _, _, _) => {
-            if better(t, i, s, j) {
-                return Nearest::At(i, t, u, v, front);
-            }
-            best
-        }
+        Some(held) if !beats(met, held) => best,
+        _ => Some(met),
     }
 }
 
-// Whether a hit at distance t and place i is kept over one at distance s and place j.
-fn better(t: f32, i: usize, s: f32, j: usize) -> bool
-    ensures { result ≡ beats t i s j }
+// Whether what is met is kept over what is held.
+#[tactic(auto, unfolding(crate::specs::Nearest::beats))]
+fn beats(met: PlacedHit, held: PlacedHit) -> bool
+    ensures { result ≡ beats met.hit.t met.place held.hit.t held.place }
 {
-    if t < s {
-        return true;
-    }
-    if t == s {
-        return j < i;
-    }
-    false
+    met.hit.t < held.hit.t || (met.hit.t == held.hit.t && held.place < met.place)
 }
 
 // ---- how much light passes
@@ -93,21 +79,20 @@ pub fn transmittance(
     // after a hit the next triangle is searched by itself: it is often one too, and a run would be looked over for nothing
     let mut end = n;
     while i < n {
-        let f = first_hit(points, uses, kinds, i, end, ray);
-        match f {
-            Nearest::Nothing => {
+        match first_hit(points, uses, kinds, i, end, ray) {
+            None => {
                 i = end;
                 end = n;
             }
-            Nearest::At(j, t, _, _, _) => {
-                if panels::inner::stops_light(panels::inner::kind_at(uses, kinds, j)) {
+            Some(met) => {
+                if panels::inner::stops_light(panels::inner::kind_at(uses, kinds, met.place)) {
                     return 0.0;
                 }
-                distances[m] = t;
-                places[m] = j;
+                distances[m] = met.hit.t;
+                places[m] = met.place;
                 m += 1;
-                i = j + 1;
-                end = one_more(i, n);
+                i = met.place + 1;
+                end = n.min(i + 1);
             }
         }
     }
@@ -115,32 +100,20 @@ pub fn transmittance(
     product(uses, numbers, &places[..m])
 }
 
-// The place after i, or the end.
-fn one_more(i: usize, n: usize) -> usize
-    ensures { (i < n → i < result) × (result ≤ n) }
-{
-    if i < n {
-        return i + 1;
-    }
-    n
-}
-
 // The product of the transmissions at these places, in order. None stops light: the scan ends at the first that does.
+#[tactic(auto, using(crate::proofs::Passing::clear_step), unfolding(crate::specs::OpaqueLaws::clear_pass_of))]
 pub fn product(uses: &[u32], numbers: &[f32], places: &[usize]) -> f32
     requires by_index { (i : ℕ) → i < length uses.now → get_or uses.now i 0 * 7 + 6 < length numbers.now }
     requires by_index_2 { (j : ℕ) → j < length places.now → get_or places.now j 0 < length uses.now }
     ensures { result ≡ clear_pass_of uses.now numbers.now one32 places.now }
 {
     let mut w = 1.0;
-    let mut j = 0;
-    while j < places.len() {
-        let p = places[j];
-        let k = uses[p] as usize;
+    for p in places {
+        let k = uses[*p] as usize;
         w = w * numbers[k * 7 + 6];
         if w <= FAINT_LIMIT {
             return 0.0;
         }
-        j += 1;
     }
     w
 }
@@ -160,32 +133,35 @@ pub fn first_hit(
     from: usize,
     n: usize,
     ray: Ray,
-) -> Nearest
+) -> Option<PlacedHit>
     requires from_le_n { (from ≤ n) × (n * 9 ≤ length points.now) × (n ≤ length uses.now) }
     requires by_index { (i : ℕ) → i < length uses.now → get_or uses.now i 0 < length kinds.now }
     ensures { FirstFrom points.now uses.now kinds.now ray from n result }
 {
     let mut i = from;
     while i < n {
-        // a single triangle is left to the test
-        let mut j = i;
-        if i + 1 < n {
-            j = first_open(points, i, n, ray);
+        let place = may_hit(points, i, n, ray);
+        if place == n {
+            return None;
         }
-        if j == n {
-            return Nearest::Nothing;
+        if let Some(hit) = panels::inner::meet_at(points, uses, kinds, place, ray) {
+            return Some(PlacedHit { place, hit });
         }
-        let m = panels::inner::meet_at(points, uses, kinds, j, ray);
-        match m {
-            Meet::Miss => {
-                i = j + 1;
-            }
-            Meet::Hit(t, u, v, front) => {
-                return Nearest::At(j, t, u, v, front);
-            }
-        }
+        i = place + 1;
     }
-    Nearest::Nothing
+    None
+}
+
+// As `first_open`, but a single triangle is left to the test.
+fn may_hit(points: &[f32], i: usize, n: usize, ray: Ray) -> usize
+    requires { (i < n) × (n * 9 ≤ length points.now) }
+    ensures { (i ≤ result) × (result ≤ n) × Missed points.now ray i result }
+{
+    if i + 1 < n {
+        first_open(points, i, n, ray)
+    } else {
+        i
+    }
 }
 
 // A place from i up to n before which all are missed: the first that the ray may meet, or n. The loop over runs knows nothing of what follows a hit, so that
@@ -196,19 +172,12 @@ pub fn first_open(points: &[f32], from: usize, n: usize, ray: Ray) -> usize
 {
     let mut i = from;
     while i < n {
-        let k = run_of(n - i);
+        let k = (n - i).min(RUN) as u16;
         let c = triangle::inner::clear(points, i, k, ray);
-        i = i + c as usize;
+        i += c as usize;
         if c < k {
             return i;
         }
     }
     n
-}
-
-// How many of those left are looked over at once.
-fn run_of(left: usize) -> u16
-    ensures { (result ≤ left) × (0 < left → 0 < result) }
-{
-    if left < RUN { left as u16 } else { RUN as u16 }
 }

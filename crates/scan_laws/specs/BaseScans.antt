@@ -1,6 +1,6 @@
 -- The scans of document 01, which knows no panels: every triangle that the test hits counts, and kind 0 alone stops light. Where no triangle is a panel they are
 -- the scans: "Answers for kinds 0 and 1 keep their bits."
-use Rattle.std.specs.Prelude.{◌≡◌, Bool, cond, ◌||◌, eqb, get_or, Float}
+use Rattle.std.specs.Prelude.{◌≡◌, Option, None, Bool, cond, ◌||◌, eqb, get_or, Float}
 use Rattle.std.proofs.Math.Path.{refl, ap}
 use Rattle.std.proofs.Common.{◌∙◌, arith, ne_eqb}
 use Rattle.std.proofs.Math.Bool.{true, false}
@@ -15,15 +15,14 @@ use Rattle.names.specs.Scene.{Scene, Sound}
 use Rattle.vectors.specs.declared.Ray.{Ray}
 use Rattle.triangle.specs.Meet.{meet_of}
 use Rattle.triangle.specs.Places.{triangle_at}
-use Rattle.triangle.specs.declared.Meet.{Meet}
+use Rattle.triangle.specs.declared.Hit.{Hit}
 use Rattle.panels.specs.Panels.{kind_at, stops_light, meet_at}
 use Rattle.panels.specs.PanelLaws.{plain_met, by_list}
 use Rattle.hits.specs.Hits.{Struck, with_meet, hits_of, places_of}
 use Rattle.hits.proofs.HitLaws.{places_below}
 use Rattle.scan.specs.Nearest.{nearer_of, nearest_to, nearest_of}
 use Rattle.scan.specs.Transmittance.{transmission_at, pass_of, transmittance_of}
-use Rattle.scan.specs.declared.Nearest.{Nearest}
-use Rattle.scan.specs.declared.Nearest.TheVariants.{Nothing}
+use Rattle.scan.specs.declared.PlacedHit.{PlacedHit}
 
 -- no triangle is a panel
 abbrev pub NoPanels : Scene → Type 0
@@ -35,11 +34,11 @@ old_kinds scene s f i h e = let g = f (get_or scene.uses i 0) (s.within i h) in 
 
 module _ (scene : Scene) (ray : Ray) where
   -- what the test answers, whatever the kind
-  abbrev tested_at : ℕ → Meet
+  abbrev tested_at : ℕ → Option Hit
   tested_at i = meet_of ray (triangle_at scene.points i)
 
-  unfoldable pub nearest_base : ℕ → Nearest
-  nearest_base zero = Nothing
+  unfoldable pub nearest_base : ℕ → Option PlacedHit
+  nearest_base zero = None
   nearest_base (suc i) = nearer_of (nearest_base i) i (tested_at i)
 
   unfoldable pub hits_base : ℕ → List Struck

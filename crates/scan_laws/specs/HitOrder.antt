@@ -1,5 +1,5 @@
 -- The hits that transmittance goes through stand in order: each comes before the next, by distance and then by place.
-use Rattle.std.specs.Prelude.{◌≡◌, refl, Bool, true, false, cond, ◌||◌, ◌&&◌, ℕ, zero, suc, ◌<◌, ltb, Float}
+use Rattle.std.specs.Prelude.{◌≡◌, refl, Option, None, Some, Bool, true, false, cond, ◌||◌, ◌&&◌, ℕ, zero, suc, ◌<◌, ltb, Float}
 use Rattle.std.proofs.Common.{sym, ap₂, ◌∙◌, ⊎_elim, arith, lt-ltb, le-ltb}
 use Rattle.std.proofs.lemmas.Bool.{false≢true}
 use mathlib.Core.List.Memᴰ
@@ -8,8 +8,8 @@ use Rattle.std.specs.Float.Ieee.{lt, eq, is_nan}
 use Rattle.floats.specs.OrderLaws.{lt_irreflexive}
 use Rattle.names.specs.Scene.{Scene}
 use Rattle.vectors.specs.declared.Ray.{Ray}
-use Rattle.triangle.specs.declared.Meet.{Meet}
-use Rattle.triangle.specs.declared.Meet.TheVariants.{Miss, Hit}
+use Rattle.triangle.specs.declared.Hit.{Hit}
+use Rattle.triangle.specs.Meet.{hit_of}
 use Rattle.panels.specs.Panels.{meet_at}
 use Rattle.hits.specs.Hits.{Struck, struck, before, insert_of, with_meet, hits_of}
 use Rattle.hits.specs.HitLaws.{Stands}
@@ -56,13 +56,13 @@ unfolding hits_of with_meet
 hits_sorted scene ray zero = none
 hits_sorted scene ray (suc n) = by (meet_at scene ray n) refl (hits_sorted scene ray n)
   where
-    by : (m : Meet) → meet_at scene ray n ≡ m → Sorted (hits_of scene ray n) → Sorted (with_meet (hits_of scene ray n) n m)
-    by Miss e s = s
-    by (Hit t u v front) e s =
-        put (struck t n) (hits_of scene ray n)
+    by : (m : Option Hit) → meet_at scene ray n ≡ m → Sorted (hits_of scene ray n) → Sorted (with_meet (hits_of scene ray n) n m)
+    by None e s = s
+    by (Some k) e s =
+        put (struck k.t n) (hits_of scene ray n)
         (λ g m f.
         let h = hits_only scene ray n m in
-        either t g.distance n g.place (hit_number _ _ _ _ ray _ t u v front e) (hit_number _ _ _ _ ray _ g.distance h.first h.second h.front h.met) h.within f)
+        either k.t g.distance n g.place (hit_number _ _ _ _ ray _ k e) (hit_number _ _ _ _ ray _ (hit_of g.distance h.first h.second h.front) h.met) h.within f)
         s
 
 -- ---- and so each comes before all that follow
@@ -117,4 +117,4 @@ pub hits_are : (scene : Scene) (ray : Ray) (n : ℕ) (hs : List Struck) → Sort
 hits_are scene ray n hs s f b =
     sorted_once (hits_of scene ray n) hs (hits_sorted scene ray n) s
     (λ k m. b k (hits_only scene ray n m))
-    (λ k m. let e = f k m in hits_all scene ray n k.place k.distance e.first e.second e.front e.within e.met)
+    (λ k m. let e = f k m in hits_all scene ray n k.place (hit_of k.distance e.first e.second e.front) e.within e.met)

@@ -1,6 +1,6 @@
 -- What a panel is to both scans. "Material kind 2 is opaque from the front and absent from the back, for nearest hits as for transmittance": panels that a ray
 -- meets from the front, or not at all, may be made opaque, and those that it meets from the back, or not at all, absent, and neither answer changes.
-use Rattle.std.specs.Prelude.{◌≡◌, Bool, true, false, cond, ◌&&◌, ◌⊎◌, Float}
+use Rattle.std.specs.Prelude.{◌≡◌, Option, None, Some, Bool, true, false, cond, ◌&&◌, ◌⊎◌, Float}
 use Rattle.std.proofs.Math.Path.{refl, ap}
 use Rattle.std.proofs.Common.{sym, ◌∙◌, ⊎_elim, arith}
 use mathlib.Core.List.{List, [], ◌∷◌, Memᴰ}
@@ -12,11 +12,10 @@ use Rattle.names.specs.Bits.{one32}
 use Rattle.names.specs.Numbers.{opaque_kind, panel_kind}
 use Rattle.names.specs.Scene.{Scene, scene_for}
 use Rattle.vectors.specs.declared.Ray.{Ray}
-use Rattle.triangle.specs.Meet.{absent_of, meet_of}
+use Rattle.triangle.specs.Meet.{hit_of, absent_of, meet_of}
 use Rattle.triangle.specs.Laws.{absent_missed}
 use Rattle.triangle.specs.Places.{triangle_at}
-use Rattle.triangle.specs.declared.Meet.{Meet}
-use Rattle.triangle.specs.declared.Meet.TheVariants.{Miss, Hit}
+use Rattle.triangle.specs.declared.Hit.{Hit}
 use Rattle.panels.specs.Panels.{kind_at, counts, stops_light, counted_of, met_at, own_passed, met_by, meet_at}
 use Rattle.panels.specs.PanelLaws.{missed_at, panel_back, by_missed}
 use Rattle.hits.specs.Hits.{Struck, hits_of, places_of}
@@ -31,7 +30,7 @@ pub record Alike (a b : Scene) (ray : Ray) : Type 0 where
   pub long : length a.uses ≡ length b.uses
   pub met : (i : ℕ) → i < length a.uses → meet_at a ray i ≡ meet_at b ray i
   -- what is met stops light in both or in neither, and lets as much through
-  pub stops : (i : ℕ) (t u v : Float) (front : Bool) → i < length a.uses → meet_at a ray i ≡ Hit t u v front
+  pub stops : (i : ℕ) (h : Hit) → i < length a.uses → meet_at a ray i ≡ Some h
       → stops_light (kind_at a.uses a.kinds i) ≡ stops_light (kind_at b.uses b.kinds i)
   pub passes : (i : ℕ) → i < length a.uses → transmission_at a.uses a.numbers i ≡ transmission_at b.uses b.numbers i
 
@@ -57,7 +56,7 @@ module _ (a b : Scene) (ray : Ray) (alike : Alike a b ray) where
   pass_same w (h ∷ hs) f =
       let s = hits_only a ray (length a.uses) (f h (Memᴰ.head refl)) in
       rw (
-        alike.stops h.place h.distance s.first s.second s.front s.within s.met,
+        alike.stops h.place (hit_of h.distance s.first s.second s.front) s.within s.met,
         alike.passes h.place s.within,
         pass_same (Ieee.mul binary32 w (transmission_at b.uses b.numbers h.place)) hs (λ g m. f g (Memᴰ.tail m)),
       )
@@ -89,7 +88,7 @@ abbrev pub MadeOpaque : Scene → List ℕ → Ray → ℕ → Type 0
 MadeOpaque scene kinds ray i =
     (kind_at scene.uses scene.kinds i ≡ kind_at scene.uses kinds i)
     ⊎ ((kind_at scene.uses scene.kinds i ≡ panel_kind) × (kind_at scene.uses kinds i ≡ opaque_kind)
-    × ((t u v : Float) → meet_of ray (triangle_at scene.points i) ≡ Hit t u v false → ⊥))
+    × ((h : Hit) → meet_of ray (triangle_at scene.points i) ≡ Some h → h.front ≡ false → ⊥))
 
 pub opaque_from_front : (scene : Scene) (kinds : List ℕ) (ray : Ray) → ((i : ℕ) → i < length scene.uses → MadeOpaque scene kinds ray i)
     → SameAnswers scene (with_kinds scene kinds) ray
@@ -98,17 +97,20 @@ opaque_from_front scene kinds ray f =
     alike_same scene (with_kinds scene kinds) ray
     (record {
       long = refl;
-      met = λ i h. ⊎_elim (λ e. rw e refl) (λ e. ap (cond (scene.boxed && own_passed scene.points ray i) Miss) (both i (meet_of ray (triangle_at scene.points i)) refl e.0 e.1 e.2)) (f i h);
-      stops = λ i t u v front h m. ⊎_elim (λ e. rw e refl) (λ e. rw (e.0, e.1) refl) (f i h);
+      met = λ i h. ⊎_elim (λ e. rw e refl) (λ e. ap (cond (scene.boxed && own_passed scene.points ray i) None) (both i (meet_of ray (triangle_at scene.points i)) refl e.0 e.1 e.2)) (f i h);
+      stops = λ i k h m. ⊎_elim (λ e. rw e refl) (λ e. rw (e.0, e.1) refl) (f i h);
       passes = λ i h. refl;
     })
   where
-    both : (i : ℕ) (m : Meet) → meet_of ray (triangle_at scene.points i) ≡ m → kind_at scene.uses scene.kinds i ≡ panel_kind
-        → kind_at scene.uses kinds i ≡ opaque_kind → ((t u v : Float) → meet_of ray (triangle_at scene.points i) ≡ Hit t u v false → ⊥)
+    both : (i : ℕ) (m : Option Hit) → meet_of ray (triangle_at scene.points i) ≡ m → kind_at scene.uses scene.kinds i ≡ panel_kind
+        → kind_at scene.uses kinds i ≡ opaque_kind → ((h : Hit) → meet_of ray (triangle_at scene.points i) ≡ Some h → h.front ≡ false → ⊥)
         → counted_of (kind_at scene.uses scene.kinds i) m ≡ counted_of (kind_at scene.uses kinds i) m
-    both i Miss e p o n = refl
-    both i (Hit t u v true) e p o n = refl
-    both i (Hit t u v false) e p o n = absurd (n t u v e)
+    both i None e p o n = refl
+    both i (Some h) e p o n = by h.front refl
+      where
+        by : (side : Bool) → h.front ≡ side → counted_of (kind_at scene.uses scene.kinds i) (Some h) ≡ counted_of (kind_at scene.uses kinds i) (Some h)
+        by true f = rw f refl
+        by false f = absurd (n h e f)
 
 -- ---- absent from the back
 
@@ -117,7 +119,7 @@ abbrev pub MadeAbsent : Scene → List Float → Ray → ℕ → Type 0
 MadeAbsent scene points ray i =
     (triangle_at scene.points i ≡ triangle_at points i)
     ⊎ ((kind_at scene.uses scene.kinds i ≡ panel_kind) × (absent_of (triangle_at points i) ≡ true)
-    × ((t u v : Float) → meet_of ray (triangle_at scene.points i) ≡ Hit t u v true → ⊥))
+    × ((h : Hit) → meet_of ray (triangle_at scene.points i) ≡ Some h → h.front ≡ true → ⊥))
 
 pub absent_from_back : (scene : Scene) (points : List Float) (ray : Ray) → ((i : ℕ) → i < length scene.uses → MadeAbsent scene points ray i)
     → SameAnswers scene (with_points scene points) ray
@@ -134,15 +136,18 @@ absent_from_back scene points ray f =
           gone i (meet_of ray (triangle_at scene.points i)) refl e.0 e.2
           ∙ sym (by_missed scene.boxed points scene.uses scene.kinds ray i (missed_at points scene.uses scene.kinds ray i (absent_missed ray (triangle_at points i) e.1))))
           (f i h);
-      stops = λ i t u v front h m. refl;
+      stops = λ i k h m. refl;
       passes = λ i h. refl;
     })
   where
-    gone : (i : ℕ) (m : Meet) → meet_of ray (triangle_at scene.points i) ≡ m → kind_at scene.uses scene.kinds i ≡ panel_kind
-        → ((t u v : Float) → meet_of ray (triangle_at scene.points i) ≡ Hit t u v true → ⊥) → meet_at scene ray i ≡ Miss
-    gone i Miss e p n = by_missed scene.boxed scene.points scene.uses scene.kinds ray i (missed_at scene.points scene.uses scene.kinds ray i e)
-    gone i (Hit t u v true) e p n = absurd (n t u v e)
-    gone i (Hit t u v false) e p n = by_missed scene.boxed scene.points scene.uses scene.kinds ray i (panel_back scene.points scene.uses scene.kinds ray i t u v p e)
+    gone : (i : ℕ) (m : Option Hit) → meet_of ray (triangle_at scene.points i) ≡ m → kind_at scene.uses scene.kinds i ≡ panel_kind
+        → ((h : Hit) → meet_of ray (triangle_at scene.points i) ≡ Some h → h.front ≡ true → ⊥) → meet_at scene ray i ≡ None
+    gone i None e p n = by_missed scene.boxed scene.points scene.uses scene.kinds ray i (missed_at scene.points scene.uses scene.kinds ray i e)
+    gone i (Some h) e p n = by h.front refl
+      where
+        by : (side : Bool) → h.front ≡ side → meet_at scene ray i ≡ None
+        by true f = absurd (n h e f)
+        by false f = by_missed scene.boxed scene.points scene.uses scene.kinds ray i (panel_back scene.points scene.uses scene.kinds ray i h p e f)
 
 -- ---- both: a scene with panels is one of document 01's, ray by ray
 

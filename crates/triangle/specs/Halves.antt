@@ -1,6 +1,6 @@
 -- What is solved of a triangle, in two halves: most misses show in u, before v and t are computed. The two make what the test judges (`two_halves`), and
 -- u outside 0..1 is a miss (`beside_missed`).
-use Rattle.std.specs.Prelude.{◌≡◌, refl, Bool, true, false, cond, not, ◌&&◌, Float}
+use Rattle.std.specs.Prelude.{◌≡◌, refl, Option, None, Bool, true, false, cond, not, ◌&&◌, Float}
 use Rattle.std.proofs.lemmas.Bool.{false≢true}
 use Rattle.std.specs.Float.Ieee as Ieee
 use Rattle.std.specs.Float.{binary32}
@@ -12,8 +12,7 @@ use Rattle.vectors.specs.declared.Ray.{Ray}
 use Rattle.vectors.specs.declared.Triangle.{Triangle}
 use Rattle.vectors.specs.declared.Vec3.{Vec3}
 use Rattle.triangle.specs.declared.HalfSolved.{HalfSolved}
-use Rattle.triangle.specs.declared.Meet.{Meet}
-use Rattle.triangle.specs.declared.Meet.TheVariants.{Miss}
+use Rattle.triangle.specs.declared.Hit.{Hit}
 use Rattle.triangle.specs.declared.Solved.{Solved}
 use Rattle.triangle.specs.Meet.{solved_of, judged_of, meet_of}
 use Rattle.triangle.specs.Laws.{judged_missed}
@@ -46,13 +45,13 @@ two_halves ray triangle = refl
 unfoldable pub beside_of : Float → Bool
 beside_of u = not (Ieee.le zero32 u && Ieee.le u one32)
 
-u_tests : (flat from to : Bool) (m : Meet) → not (from && to) ≡ true → cond flat Miss (cond from (cond to m Miss) Miss) ≡ Miss
+u_tests : (flat from to : Bool) (m : Option Hit) → not (from && to) ≡ true → cond flat None (cond from (cond to m None) None) ≡ None
 u_tests true from to m h = refl
 u_tests false false to m h = refl
 u_tests false true false m h = refl
 u_tests false true true m h = absurd (false≢true h)
 
-beside_judged : (s : Solved) (shortest longest : Float) → beside_of s.u ≡ true → judged_of s shortest longest ≡ Miss
+beside_judged : (s : Solved) (shortest longest : Float) → beside_of s.u ≡ true → judged_of s shortest longest ≡ None
 unfolding beside_of judged_of
 beside_judged s shortest longest h = u_tests (Ieee.le (magnitude_of s.det) flat_limit) (Ieee.le zero32 s.u) (Ieee.le s.u one32) _ h
 
@@ -60,6 +59,6 @@ half_u : (ray : Ray) (triangle : Triangle) → (half_solved_of ray triangle).u �
 unfolding half_solved_of solved_of
 half_u ray triangle = refl
 
-pub beside_missed : (ray : Ray) (triangle : Triangle) → beside_of (half_solved_of ray triangle).u ≡ true → meet_of ray triangle ≡ Miss
+pub beside_missed : (ray : Ray) (triangle : Triangle) → beside_of (half_solved_of ray triangle).u ≡ true → meet_of ray triangle ≡ None
 beside_missed ray triangle h =
     judged_missed ray triangle (beside_judged (solved_of ray triangle) ray.shortest ray.longest (rw (half_u ray triangle) at h))

@@ -3,7 +3,7 @@
 -- "The triangle test must also say which side was met: front exactly when det is above zero."
 -- Each operation is rounded once, in the Rust's order. A comparison with NaN is false, as in IEEE 754: u must pass both its bounds, so that a NaN
 -- there misses, while v, u+v and t must fail theirs, so that a NaN there passes, as in the Rust; the last test then misses a NaN distance.
-use Rattle.std.specs.Prelude.{Bool, cond, Float}
+use Rattle.std.specs.Prelude.{Option, None, Some, Bool, cond, Float}
 use Rattle.std.specs.Float.Ieee as Ieee
 use Rattle.std.specs.Float.{binary32}
 use Rattle.names.specs.Bits.{lit, zero32, one32}
@@ -12,8 +12,7 @@ use Rattle.floats.specs.Choice.{magnitude_of}
 use Rattle.vectors.specs.Vectors.{sub_v, dot_v, cross_v}
 use Rattle.vectors.specs.declared.Ray.{Ray}
 use Rattle.vectors.specs.declared.Triangle.{Triangle}
-use Rattle.triangle.specs.declared.Meet.{Meet}
-use Rattle.triangle.specs.declared.Meet.TheVariants.{Miss, Hit}
+use Rattle.triangle.specs.declared.Hit.{Hit}
 use Rattle.triangle.specs.declared.Solved.{Solved}
 
 -- the largest finite f32
@@ -47,21 +46,25 @@ solved_of ray triangle =
 unfoldable pub front_of : Float → Bool
 front_of d = Ieee.lt zero32 d
 
+-- a hit's distance, u, v and side
+abbrev pub hit_of : Float → Float → Float → Bool → Hit
+hit_of d a b side = record { t = d; u = a; v = b; front = side }
+
 -- what stands of the determinant, u, v and t, between two distances
-unfoldable pub judged_of : Solved → Float → Float → Meet
+unfoldable pub judged_of : Solved → Float → Float → Option Hit
 judged_of s shortest longest =
-    cond (Ieee.le (magnitude_of s.det) flat_limit) Miss
+    cond (Ieee.le (magnitude_of s.det) flat_limit) None
     (cond (Ieee.le zero32 s.u)
     (cond (Ieee.le s.u one32)
-    (cond (Ieee.lt s.v zero32) Miss
-    (cond (Ieee.lt one32 (Ieee.add binary32 s.u s.v)) Miss
-    (cond (Ieee.lt s.t shortest) Miss
-    (cond (Ieee.lt longest s.t) Miss
-    (cond (Ieee.le (magnitude_of s.t) largest32) (Hit s.t s.u s.v (front_of s.det)) Miss)))))
-    Miss)
-    Miss)
+    (cond (Ieee.lt s.v zero32) None
+    (cond (Ieee.lt one32 (Ieee.add binary32 s.u s.v)) None
+    (cond (Ieee.lt s.t shortest) None
+    (cond (Ieee.lt longest s.t) None
+    (cond (Ieee.le (magnitude_of s.t) largest32) (Some (hit_of s.t s.u s.v (front_of s.det))) None)))))
+    None)
+    None)
 
 -- the test of one triangle, the one step that both scans take of each
-unfoldable pub meet_of : Ray → Triangle → Meet
+unfoldable pub meet_of : Ray → Triangle → Option Hit
 meet_of ray triangle =
-    cond (absent_of triangle) Miss (judged_of (solved_of ray triangle) ray.shortest ray.longest)
+    cond (absent_of triangle) None (judged_of (solved_of ray triangle) ray.shortest ray.longest)

@@ -5,7 +5,7 @@ ghost use Rattle.triangle.specs.Meet.{absent_of, solved_of, front_of, judged_of,
 ghost use Rattle.triangle.specs.Halves.{half_solved_of, rest_solved_of, beside_of};
 ghost use Rattle.triangle.specs.Missed.{outside_of, Missed};
 
-use super::{HalfSolved, Meet, Solved};
+use super::{HalfSolved, Hit, Solved};
 use names::{FLAT_LIMIT, THIN_LIMIT};
 use vectors::{Ray, Triangle, Vec3};
 
@@ -14,26 +14,19 @@ const LARGEST: f32 = 3.4028235e38;
 
 // Where the ray meets the triangle, between the ray's shortest and longest distance. As in the Rust, u is asked before v and t are computed. An absent
 // triangle is met nowhere; hits are rare, so absence is asked at a hit alone, and a miss is a miss either way (`judged_missed`).
-pub fn test(ray: Ray, triangle: Triangle) -> Meet
+pub fn test(ray: Ray, triangle: Triangle) -> Option<Hit>
     ensures { result ≡ meet_of ray triangle }
 {
     let h = half_solved(ray, triangle);
     if beside(h.u) {
-        return Meet::Miss;
+        return None;
     }
-    let m = judged(rest_solved(ray.direction, h), ray.shortest, ray.longest);
-    match m {
-        Meet::Miss => m,
-        Meet::Hit(_, _, _, _) => {
-            if absent(triangle) {
-                return Meet::Miss;
-            }
-            m
-        }
-    }
+    let hit = judged(rest_solved(ray.direction, h), ray.shortest, ray.longest)?;
+    if absent(triangle) { None } else { Some(hit) }
 }
 
 // Whether the triangle is so thin that it counts nowhere.
+#[tactic(auto, unfolding(crate::specs::Meet::absent_of))]
 pub fn absent(triangle: Triangle) -> bool
     ensures { result ≡ absent_of triangle }
 {
@@ -43,12 +36,14 @@ pub fn absent(triangle: Triangle) -> bool
 }
 
 // The determinant, u, v and t. Where the determinant is 0 the others are infinite or no number, and the judgement misses before it reads them.
+#[tactic(auto, using(crate::specs::Halves::two_halves))]
 fn solve(ray: Ray, triangle: Triangle) -> Solved
     ensures { result ≡ solved_of ray triangle }
 {
     rest_solved(ray.direction, half_solved(ray, triangle))
 }
 
+#[tactic(auto, unfolding(crate::specs::Halves::half_solved_of))]
 fn half_solved(ray: Ray, triangle: Triangle) -> HalfSolved
     ensures { result ≡ half_solved_of ray triangle }
 {
@@ -70,6 +65,7 @@ fn half_solved(ray: Ray, triangle: Triangle) -> HalfSolved
     }
 }
 
+#[tactic(auto, unfolding(crate::specs::Halves::rest_solved_of))]
 fn rest_solved(direction: Vec3, h: HalfSolved) -> Solved
     ensures { result ≡ rest_solved_of direction h }
 {
@@ -85,6 +81,7 @@ fn rest_solved(direction: Vec3, h: HalfSolved) -> Solved
 }
 
 // Whether u is outside 0..1 or no number.
+#[tactic(auto, unfolding(crate::specs::Halves::beside_of))]
 fn beside(u: f32) -> bool
     ensures { result ≡ beside_of u }
 {
@@ -92,37 +89,31 @@ fn beside(u: f32) -> bool
 }
 
 // The tests, in the Rust's order and with its answers where a number is no number.
-fn judged(s: Solved, shortest: f32, longest: f32) -> Meet
+#[tactic(auto, unfolding(crate::specs::Meet::judged_of))]
+fn judged(s: Solved, shortest: f32, longest: f32) -> Option<Hit>
     ensures { result ≡ judged_of s shortest longest }
 {
-    if floats::magnitude(s.det) <= FLAT_LIMIT {
-        return Meet::Miss;
+    if floats::magnitude(s.det) <= FLAT_LIMIT
+        || !(0.0 <= s.u)
+        || !(s.u <= 1.0)
+        || s.v < 0.0
+        || s.u + s.v > 1.0
+        || s.t < shortest
+        || s.t > longest
+        || !(floats::magnitude(s.t) <= LARGEST)
+    {
+        return None;
     }
-    if 0.0 <= s.u {} else {
-        return Meet::Miss;
-    }
-    if s.u <= 1.0 {} else {
-        return Meet::Miss;
-    }
-    if s.v < 0.0 {
-        return Meet::Miss;
-    }
-    if s.u + s.v > 1.0 {
-        return Meet::Miss;
-    }
-    if s.t < shortest {
-        return Meet::Miss;
-    }
-    if s.t > longest {
-        return Meet::Miss;
-    }
-    if floats::magnitude(s.t) <= LARGEST {
-        return Meet::Hit(s.t, s.u, s.v, front(s.det));
-    }
-    Meet::Miss
+    Some(Hit {
+        t: s.t,
+        u: s.u,
+        v: s.v,
+        front: front(s.det),
+    })
 }
 
 // Which side is met: the front where the determinant is above zero.
+#[tactic(auto, unfolding(crate::specs::Meet::front_of))]
 fn front(det: f32) -> bool
     ensures { result ≡ front_of det }
 {
@@ -136,36 +127,28 @@ pub fn clear(points: &[f32], i: usize, k: u16, ray: Ray) -> u16
     ensures { (result ≤ k) × Missed points.now ray i (i + result) }
 {
     let mut c = k;
-    let mut j = 0;
-    while j < k {
+    for j in 0..k {
         let s = solve(ray, at(points, i + j as usize));
-        c = lesser(c, left_open(outside(s, ray.shortest, ray.longest), j, k));
-        j += 1;
+        let open = if outside(s, ray.shortest, ray.longest) {
+            k
+        } else {
+            j
+        };
+        c = c.min(open);
     }
     c
 }
 
 // Whether u, v and t alone show a miss. No test is skipped: each is cheaper than a branch.
+#[tactic(auto, unfolding(crate::specs::Missed::outside_of))]
 fn outside(s: Solved, shortest: f32, longest: f32) -> bool
     ensures { result ≡ outside_of s shortest longest }
 {
     !(0.0 <= s.u) | (s.v < 0.0) | (s.u + s.v > 1.0) | (s.t < shortest) | (s.t > longest)
 }
 
-// k for a triangle that is missed, and its own place j for another.
-fn left_open(missed: bool, j: u16, k: u16) -> u16
-    ensures { result ≡ cond missed k j }
-{
-    if missed { k } else { j }
-}
-
-fn lesser(a: u16, b: u16) -> u16
-    ensures { (result ≤ a) × (result ≤ b) }
-{
-    if a < b { a } else { b }
-}
-
 // The triangle at place i: nine numbers, p0 xyz, p1 xyz, p2 xyz.
+#[tactic(auto, unfolding(crate::specs::Places::triangle_at))]
 pub fn at(points: &[f32], i: usize) -> Triangle
     requires { i * 9 + 8 < length points.now }
     ensures { result ≡ triangle_at points.now i }

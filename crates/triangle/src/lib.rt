@@ -7,9 +7,11 @@ pub mod inner;
 
 // "The test answers a miss, or a hit that carries distance, u and v", and "which side was met": true for the front.
 #[derive(Clone, Copy)]
-pub enum Meet {
-    Miss,
-    Hit(f32, f32, f32, bool),
+pub struct Hit {
+    pub t: f32,
+    pub u: f32,
+    pub v: f32,
+    pub front: bool,
 }
 
 // What the test computes before it judges: the determinant, the two barycentric numbers and the distance.

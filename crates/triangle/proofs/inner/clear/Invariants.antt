@@ -1,13 +1,10 @@
 use mathlib.Core.Path.{◌≡◌}
-use Prim.Native.Nat.{ℕ, ◌+◌, ◌-◌, ◌≤◌, ◌<◌}
-use Rattle.triangle.specs.declared.Meet.TheVariants.{Miss}
+use Prim.Native.Nat.{ℕ, ◌+◌, ◌≤◌, ◌<◌}
+use Rattle.std.specs.Prelude.{None}
 use Rattle.triangle.specs.Meet.{meet_of}
 use Rattle.triangle.specs.Places.{triangle_at}
 use Rattle.triangle.proofs.inner.clear.Given as goal
 
 abbrev pub invariant-loop-j : goal.invariant-loop-j
 invariant-loop-j l =
-    (l.j ≤ l.k) × (l.c ≤ l.k) × ((k : ℕ) → l.i ≤ k → k < l.i + l.j → k < l.i + l.c → meet_of l.ray (triangle_at l.points k) ≡ Miss)
-
-abbrev pub decreases-loop-j : goal.decreases-loop-j
-decreases-loop-j l = l.k - l.j
+    (l.c ≤ l.k) × ((k : ℕ) → l.i ≤ k → k < l.i + l.j → k < l.i + l.c → meet_of l.ray (triangle_at l.points k) ≡ None)
