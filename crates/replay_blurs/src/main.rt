@@ -21,17 +21,17 @@ fn blurred<const ROOM: usize>(w: Words, t: Tally) -> Option<Tally>
     let list = lists.lend(&mut list)?;
     let scratch = lists.list(1).lend(&mut scratch)?;
     let axes = replay_values::axes(w.skip(1));
-    let refusal = match w.word(0) {
+    let answer = match w.word(0) {
         LIGHT => blurs::light_blur(axes, list, scratch),
         COEFFICIENTS => blurs::coefficient_blur(axes, list, scratch),
         _ => return None,
     };
-    let answer = lists.list(2);
+    let expected = lists.list(2);
     Some(
         t.held(true)
-            .held(refusal == answer.word(0))
-            .held(answer.skip(1).is_list(list))
-            .held(answer.skip(1).list(1).is_list(scratch)),
+            .held(names::told(answer) == expected.word(0))
+            .held(expected.skip(1).is_list(list))
+            .held(expected.skip(1).list(1).is_list(scratch)),
     )
 }
 
