@@ -7,7 +7,7 @@ use Rattle.std.proofs.lemmas.Bool.{false≢true}
 use Rattle.std.proofs.Math.Nat.{sub-zero, eq_of_mul-eq-mul_right}
 use Rattle.std.proofs.Math.Pow.{pow-lt}
 use Rattle.std.specs.Float.Ieee as Ieee
-use Rattle.std.specs.Float.Ieee.Scale.{finite, round_same}
+use Rattle.std.specs.Float.Ieee.Scale.{round_same}
 use Rattle.std.specs.Float.{nan, inf, fin, binary32}
 use Rattle.std.specs.Float.Ieee.{up, down, fits, round, eq, to_unsigned}
 use Rattle.std.specs.Float.Ieee.Fits.{down_pos, up_pos, round-fits, and_l, and_r}

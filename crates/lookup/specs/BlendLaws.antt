@@ -1,5 +1,5 @@
 -- What the laws of proofs/BlendLaws.antt are said with. Definitions only.
-use Rattle.std.specs.Prelude.{◌≡◌, ◌-◌, Bool, true, T, pos, Float}
+use Rattle.std.specs.Prelude.{◌≡◌, Bool, true, T, pos, Float}
 use Rattle.std.specs.Float.Ieee.Scale.{finite}
 use Rattle.std.specs.Float.{fin, binary32}
 use Rattle.std.specs.Float.Ieee.{fits}

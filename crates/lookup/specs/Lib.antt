@@ -3,5 +3,6 @@ pub mod Place
 pub mod Lookup
 pub mod PlaceLaws
 pub mod LookupLaws
+pub mod LookedLaws
 pub mod LookupFigures
 pub mod BlendLaws

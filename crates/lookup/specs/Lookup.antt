@@ -1,10 +1,13 @@
 -- The public lookups: what each answers, and what it refuses. Tested are 1, 2, 3, 11 and then 13, of the eight cells read and no
 -- others; for one voxel's part 1, 3 and 11. On a refusal every number of the answer is zero, and a part is empty. Assumes nothing.
-use Rattle.std.specs.Prelude.{◌≡◌, ℕ, ◌+◌, ◌*◌, Bool, cond, ◌||◌, List, [], ◌∷◌, length, get_or, replicate, slice_index_or, Float}
+use Rattle.std.specs.Prelude.{◌≡◌, ℕ, ◌+◌, ◌*◌, ◌<◌, ◌≤◌, Bool, false, cond, ◌||◌, List, [], ◌∷◌, length, get_or, replicate, slice_index_or, Result, Ok, Err, IfOk, Float}
 use Rattle.std.proofs.Common.{sym, ◌∙◌}
+use Rattle.std.specs.Borrow.{Bor}
 use Rattle.std.specs.Float.{nan}
 use Rattle.names.specs.Bits.{zero32}
 use Rattle.names.specs.Numbers.{light_limit}
+use Rattle.names.specs.declared.refusal.Refusal.{Refusal}
+use Rattle.names.specs.Answers.{number_of, answer_number}
 use Rattle.names.specs.Refusals.{Row, row, first_of, unless_refused}
 use Rattle.lists.specs.Fold.{tab}
 use Rattle.lists.specs.Some.{some}
@@ -48,6 +51,11 @@ light_at_of a c light p =
       light = unless_refused (light_refusal a c light p) (light_blend light (cells_of a c p)) zero32;
     }
 
+-- a call's answer as C is told it
+abbrev pub light_from : Result Float Refusal → LightAt
+light_from (Ok x) = record { refusal = 0; light = x }
+light_from (Err r) = record { refusal = number_of r; light = zero32 }
+
 -- ---- the four coefficients at a position, sixteen numbers
 
 -- one of the sixteen numbers of a cell read is not finite or beyond ±2^96
@@ -83,6 +91,10 @@ coefficients_at_of a c volume p =
       numbers = unless_refused (coefficient_refusal a c volume p) (coefficient_blend volume (cells_of a c p)) no_numbers;
     }
 
+abbrev pub coefficients_from : Result (List Float) Refusal → CoefficientsAt
+coefficients_from (Ok numbers) = record { refusal = 0; numbers = numbers }
+coefficients_from (Err r) = record { refusal = number_of r; numbers = no_numbers }
+
 -- ---- one voxel's part, of the volume or, where `unblurred` is true, of scratch
 
 abbrev pub part_rows : Axes → List Float → List Float → ℕ → Bool → List Row
@@ -98,6 +110,39 @@ part_refusal a volume scratch index unblurred = first_of (part_rows a volume scr
 unfoldable pub part_of : Axes → List Float → List Float → ℕ → Bool → List Float
 part_of a volume scratch index unblurred =
     unless_refused (part_refusal a volume scratch index unblurred) (voxel_part 16 index (cond unblurred scratch volume)) []
+
+-- the part that a call's answer lends; empty on a refusal
+abbrev pub part_from : Result (Bor (List Float)) Refusal → List Float
+part_from (Ok part) = part.now
+part_from (Err r) = []
+
+-- ---- both lookups: in a list of `each` numbers a cell, where `bad` says whether cell i's are refused
+
+abbrev pub looked_rows : ℕ → (List Float → ℕ → Bool) → Axes → Corners → List Float → Vec3 → List Row
+looked_rows each bad a c list p =
+    row 1 (bad_axes a)
+    ∷ row 2 (bad_grid c a)
+    ∷ row 3 (wrong_length (length list) (voxels a * each))
+    ∷ row 11 (bad_position p)
+    ∷ row 13 (some (bad list) (cells_read (cells_of a c p)))
+    ∷ []
+
+-- what each of the two has to be
+pub record LookedLaws (each : ℕ) (bad : List Float → ℕ → Bool) (refusal : Axes → Corners → List Float → Vec3 → ℕ) : Type 0 where
+  pub some_numbers : 0 < each
+  pub few_numbers : each ≤ 16
+  pub rows : (a : Axes) (c : Corners) (list : List Float) (p : Vec3) → refusal a c list p ≡ first_of (looked_rows each bad a c list p)
+
+-- rows 1, 2 and 3 have passed
+pub record GridGood (each : ℕ) (a : Axes) (c : Corners) (list : List Float) : Type 0 where
+  pub axes : bad_axes a ≡ false
+  pub grid : bad_grid c a ≡ false
+  pub fits : wrong_length (length list) (voxels a * each) ≡ false
+
+-- a refusal's number, or what was found
+pub record LookedUp {A : Type 0} (number : ℕ) (found : A) (answer : Result A Refusal) : Type 0 where
+  pub number_is : answer_number answer ≡ number
+  pub there : IfOk answer (λ x. x ≡ found)
 
 -- ---- the contracts
 

@@ -43,6 +43,13 @@ clamped_within n k h = go (nat_lt k n) refl
     go true e = let p = ltb-true k n e in rw (clamped_same n k p) p
     go false e = rw (clamped_last n k (ltb-false k n e)) (omega arith)
 
+pub clamped_least : (n k : ℕ) → 1 ≤ n → min k (n - 1) ≡ clamped n k
+clamped_least n k h = go (nat_lt k n) refl
+  where
+    go : (b : Bool) → nat_lt k n ≡ b → min k (n - 1) ≡ clamped n k
+    go true e = let p = ltb-true k n e in omega (arith, clamped_same n k p)
+    go false e = let p = ltb-false k n e in omega (arith, clamped_last n k p)
+
 -- a place lies within its axis
 pub cell_within : (n : ℕ) (f : Float) → 1 ≤ n → (between_of n f).cell < n
 unfolding between_of clamped_cell

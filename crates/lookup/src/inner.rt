@@ -1,16 +1,22 @@
 // From a position to its eight cells, the tests of what stands in them, and the blend between them.
-ghost use Rattle.std.specs.Prelude.{◌≡◌, ◌+◌, ◌*◌, ◌/◌, ◌<◌, ◌≤◌, length, get_or, slice_index_or};
+ghost use Rattle.std.specs.Prelude.{◌≡◌, ℕ, ◌+◌, ◌*◌, ◌/◌, ◌<◌, ◌≤◌, Bool, List, length, get_or, slice_index_or, Float};
 ghost use Rattle.std.specs.Float.{nan};
-ghost use Rattle.std.specs.Float.Ieee.{to_unsigned};
 ghost use Rattle.names.specs.Numbers.{axis_limit, light_limit};
 ghost use Rattle.lists.specs.Laid.{voxel_part};
+ghost use Rattle.lists.specs.Some.{some};
+ghost use Rattle.vectors.specs.declared.Vec3.{Vec3};
+ghost use Rattle.grid.specs.declared.Axes.{Axes};
+ghost use Rattle.grid.specs.declared.Corners.{Corners};
 ghost use Rattle.grid.specs.Grid.{AxesWithin};
 ghost use Rattle.limits.specs.Limits.{outside, bad_coefficients};
-ghost use Rattle.lookup.specs.Place.{clamped, Placed, Along, CellsFound, Inside, Readable, cells_from, blend_of, blended_of};
-ghost use Rattle.lookup.specs.Lookup.{bad_light_cells, bad_volume_cells, coefficient_blend};
+ghost use Rattle.lookup.specs.declared.Cells.{Cells};
+ghost use Rattle.lookup.specs.Place.{Placed, Along, CellsFound, Inside, Readable, cells_of, cells_read, cells_from, blend_of, blended_of};
+ghost use Rattle.lookup.specs.Lookup.{light_refusal, light_blend, coefficient_refusal, coefficient_blend, LookedLaws, GridGood, LookedUp};
+ghost use Rattle.lookup.specs.LookedLaws.{light_laws, coefficient_laws};
 
 use super::{Between, Cells};
 use grid::{Axes, Corners};
+use names::Refusal;
 use vectors::Vec3;
 
 // ---- from a position to its cells
@@ -60,7 +66,7 @@ pub fn between(n: usize, f: f32) -> Between
             if f < grid::inner::float(k + 1) {
                 return Between {
                     cell: k,
-                    next: clamp_cell(n, k + 1),
+                    next: (k + 1).min(n - 1),
                     fraction: f - low,
                 };
             }
@@ -72,113 +78,150 @@ pub fn between(n: usize, f: f32) -> Between
 // From 0 to 2^22 mostly the whole number below f: with 2^23 − 1/2 added, what is left of the fraction is rounded off.
 fn guess(f: f32) -> usize {
     let s = f + 8388607.5;
-    if s != s {
+    if s.is_nan() {
         return 0;
     }
     (f32::to_bits(s) % 8388608) as usize
 }
 
-// The same by the floor.
+// The same by the floor. Past the end of the axis the cell is the last.
 fn floored(n: usize, f: f32) -> Between
     requires { (1 ≤ n) × (n ≤ axis_limit) }
     ensures { Placed n f result }
 {
     let floor = floats::floor(f);
-    let cell = clamp_cell(n, whole(floor));
-    let next = clamp_cell(n, cell + 1);
+    let cell = std::num::saturating_f32_to_usize(floor).min(n - 1);
     Between {
-        cell: cell,
-        next: next,
+        cell,
+        next: (cell + 1).min(n - 1),
         fraction: f - floor,
     }
 }
 
-// Cell k of n; past the end, the last.
-pub fn clamp_cell(n: usize, k: usize) -> usize
-    requires { 1 ≤ n }
-    ensures { result ≡ clamped n k }
-{
-    if k < n {
-        return k;
-    }
-    n - 1
+// ---- what is looked up
+
+// What stands in the cells of a list and is looked up between them: a light a cell, or the sixteen numbers of its four coefficients.
+pub trait Looked {
+    // numbers a cell
+    ghost EACH: { ℕ };
+
+    // whether a number of cell i is refused by 13
+    ghost bad_cell: { List Float → ℕ → Bool };
+
+    ghost blend: { List Float → Cells → Self };
+
+    ghost refusal: { Axes → Corners → List Float → Vec3 → ℕ };
+
+    ghost laws: { LookedLaws EACH bad_cell refusal };
+
+    const EACH: usize;
+
+    fn bad_cell(list: &[f32], i: usize) -> bool
+        requires { i < length list.now / EACH }
+        ensures { result ≡ bad_cell list.now i };
+
+    fn blend(list: &[f32], c: Cells) -> Self
+        requires { Inside (length list.now / EACH) c }
+        ensures { result ≡ blend list.now c };
 }
 
-// A float as a whole number, as the Rust's `as` has it: without its fraction, 0 below 0, the largest past the end.
-pub fn whole(x: f32) -> usize
-    ensures { result ≡ to_unsigned 64 x }
-{
-    if x > -1.0 {
-        if x < 18446744073709551616.0 {
-            return std::num::truncating_f32_to_u64(x) as usize;
+impl Looked for f32 {
+    ghost EACH = { 1 };
+
+    ghost bad_cell = { λ light i. outside light_limit (slice_index_or light i nan) };
+
+    ghost blend = { light_blend };
+
+    ghost refusal = { light_refusal };
+
+    ghost laws = { light_laws };
+
+    const EACH: usize = 1;
+
+    fn bad_cell(light: &[f32], i: usize) -> bool {
+        limits::inner::bad_light_number(light[i])
+    }
+
+    fn blend(light: &[f32], c: Cells) -> f32 {
+        blended(light, 1, 0, c)
+    }
+}
+
+impl Looked for [f32; 16] {
+    ghost EACH = { 16 };
+
+    ghost bad_cell = { λ volume i. bad_coefficients (voxel_part 16 i volume) };
+
+    ghost blend = { coefficient_blend };
+
+    ghost refusal = { coefficient_refusal };
+
+    ghost laws = { coefficient_laws };
+
+    const EACH: usize = 16;
+
+    fn bad_cell(volume: &[f32], i: usize) -> bool {
+        let at = i * 16;
+        limits::inner::bad_coefficients(&volume[at..at + 16])
+    }
+
+    fn blend(volume: &[f32], c: Cells) -> [f32; 16] {
+        let mut numbers = [0.0; 16];
+        for k in 0..16 {
+            numbers[k] = blended(volume, 16, k, c);
         }
-        return 18446744073709551615;
+        numbers
     }
-    0
 }
 
-// ---- 13, of the cells read
-
-pub fn bad_light_cells(light: &[f32], c: Cells) -> bool
-    requires { Inside (length light.now) c }
-    ensures { result ≡ bad_light_cells light.now c }
+// What is found at a position. Refused: 1, 2, 3, 11, and 13 among the numbers of the eight cells read.
+pub fn look_up<L: Looked>(axes: Axes, corners: Corners, list: &[f32], p: Vec3) -> Result<L, Refusal>
+    ensures { LookedUp (L.refusal axes corners list.now p) (L.blend list.now (cells_of axes corners p)) result }
 {
-    let b000 = bad_light_cell(light, c.c000);
-    let b100 = bad_light_cell(light, c.c100);
-    let b010 = bad_light_cell(light, c.c010);
-    let b110 = bad_light_cell(light, c.c110);
-    let b001 = bad_light_cell(light, c.c001);
-    let b101 = bad_light_cell(light, c.c101);
-    let b011 = bad_light_cell(light, c.c011);
-    let b111 = bad_light_cell(light, c.c111);
+    if limits::inner::bad_axes(axes) {
+        return Err(Refusal::Axes);
+    }
+    if limits::inner::bad_grid(corners, axes) {
+        return Err(Refusal::Grid);
+    }
+    if list.len() != grid::inner::voxel_count(axes) * L::EACH {
+        return Err(Refusal::Lengths);
+    }
+    in_grid(axes, corners, list, p)
+}
+
+// The same in a good grid.
+pub fn in_grid<L: Looked>(axes: Axes, corners: Corners, list: &[f32], p: Vec3) -> Result<L, Refusal>
+    requires { GridGood L.EACH axes corners list.now }
+    ensures { LookedUp (L.refusal axes corners list.now p) (L.blend list.now (cells_of axes corners p)) result }
+{
+    if limits::inner::bad_position(p) {
+        return Err(Refusal::Position);
+    }
+    let c = cells(axes, corners, p);
+    if bad_cells::<L>(list, c) {
+        return Err(Refusal::Contents);
+    }
+    Ok(L::blend(list, c))
+}
+
+// Whether 13 refuses one of the cells read.
+pub fn bad_cells<L: Looked>(list: &[f32], c: Cells) -> bool
+    requires { Inside (length list.now / L.EACH) c }
+    ensures { result ≡ some (L.bad_cell list.now) (cells_read c) }
+{
+    let b000 = L::bad_cell(list, c.c000);
+    let b100 = L::bad_cell(list, c.c100);
+    let b010 = L::bad_cell(list, c.c010);
+    let b110 = L::bad_cell(list, c.c110);
+    let b001 = L::bad_cell(list, c.c001);
+    let b101 = L::bad_cell(list, c.c101);
+    let b011 = L::bad_cell(list, c.c011);
+    let b111 = L::bad_cell(list, c.c111);
     b000 | (b100 | (b010 | (b110 | (b001 | (b101 | (b011 | b111))))))
-}
-
-fn bad_light_cell(light: &[f32], i: usize) -> bool
-    requires { i < length light.now }
-    ensures { result ≡ outside light_limit (slice_index_or light.now i nan) }
-{
-    limits::inner::bad_light_number(light[i])
-}
-
-pub fn bad_volume_cells(volume: &[f32], c: Cells) -> bool
-    requires { Inside (length volume.now / 16) c }
-    ensures { result ≡ bad_volume_cells volume.now c }
-{
-    let b000 = bad_volume_cell(volume, c.c000);
-    let b100 = bad_volume_cell(volume, c.c100);
-    let b010 = bad_volume_cell(volume, c.c010);
-    let b110 = bad_volume_cell(volume, c.c110);
-    let b001 = bad_volume_cell(volume, c.c001);
-    let b101 = bad_volume_cell(volume, c.c101);
-    let b011 = bad_volume_cell(volume, c.c011);
-    let b111 = bad_volume_cell(volume, c.c111);
-    b000 | (b100 | (b010 | (b110 | (b001 | (b101 | (b011 | b111))))))
-}
-
-fn bad_volume_cell(volume: &[f32], i: usize) -> bool
-    requires { i < length volume.now / 16 }
-    ensures { result ≡ bad_coefficients (voxel_part 16 i volume.now) }
-{
-    let at = i * 16;
-    limits::inner::bad_coefficients(&volume[at..at + 16])
 }
 
 // ---- the blend
-
-// The sixteen numbers between those of the eight cells.
-pub fn coefficients_blended(volume: &[f32], c: Cells) -> [f32; 16]
-    requires { Inside (length volume.now / 16) c }
-    ensures { result ≡ coefficient_blend volume.now c }
-{
-    let mut numbers = [0.0; 16];
-    let mut k = 0;
-    while k < 16 {
-        numbers[k] = blended(volume, 16, k, c);
-        k += 1;
-    }
-    numbers
-}
 
 // Between the numbers at place k of the eight cells: along x, then y, then z.
 pub fn blended(l: &[f32], stride: usize, k: usize, c: Cells) -> f32

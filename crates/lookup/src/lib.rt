@@ -1,14 +1,17 @@
 // Lookups (module 8): the light and the four coefficients at a position, and one voxel's sixteen numbers as a part of a lent list.
 #![tactic(auto)]
 
-ghost use Rattle.lookup.specs.Lookup.{LightLookedUp, CoefficientsLookedUp, PartLent, PartJudged};
+ghost use Rattle.std.specs.Prelude.{◌≡◌};
+ghost use Rattle.names.specs.Answers.{answer_number};
+ghost use Rattle.lookup.specs.Lookup.{light_from, coefficients_from, part_from, LightLookedUp, CoefficientsLookedUp, PartLent, PartJudged};
 
 use grid::{Axes, Corners};
+use names::Refusal;
 use vectors::Vec3;
 
 pub mod inner;
 
-// The light at a position, or the number of the refusal and 0.
+// What C is answered: the light at a position, or the number of the refusal and 0.
 #[repr(C)]
 #[derive(Clone, Copy)]
 pub struct LightAt {
@@ -16,12 +19,43 @@ pub struct LightAt {
     pub light: f32,
 }
 
-// The four coefficients at a position, x y z w of each in turn, or the number of the refusal and zeros.
+impl From<Result<f32, Refusal>> for LightAt {
+    ghost from_gives = { λ a l. l ≡ light_from a };
+
+    fn from(answer: Result<f32, Refusal>) -> LightAt {
+        match answer {
+            Ok(light) => LightAt { refusal: 0, light },
+            Err(refusal) => LightAt {
+                refusal: u32::from(refusal),
+                light: 0.0,
+            },
+        }
+    }
+}
+
+// What C is answered: the four coefficients at a position, x y z w of each in turn, or the number of the refusal and zeros.
 #[repr(C)]
 #[derive(Clone, Copy)]
 pub struct CoefficientsAt {
     pub refusal: u32,
     pub numbers: [f32; 16],
+}
+
+impl From<Result<[f32; 16], Refusal>> for CoefficientsAt {
+    ghost from_gives = { λ a c. c ≡ coefficients_from a };
+
+    fn from(answer: Result<[f32; 16], Refusal>) -> CoefficientsAt {
+        match answer {
+            Ok(numbers) => CoefficientsAt {
+                refusal: 0,
+                numbers,
+            },
+            Err(refusal) => CoefficientsAt {
+                refusal: u32::from(refusal),
+                numbers: [0.0; 16],
+            },
+        }
+    }
 }
 
 // A place along an axis: its cell, the next one, and how far it lies between them.
@@ -49,133 +83,60 @@ pub struct Cells {
 }
 
 // The light at a position. Refused: 1, 2, 3, 11, and 13 among the eight cells read.
-pub fn light_at(axes: Axes, corners: Corners, light: &[f32], position: Vec3) -> LightAt
-    ensures { LightLookedUp axes corners light.now position result }
+pub fn light_at(axes: Axes, corners: Corners, light: &[f32], position: Vec3) -> Result<f32, Refusal>
+    ensures { LightLookedUp axes corners light.now position (light_from result) }
 {
-    if limits::inner::bad_axes(axes) {
-        return LightAt {
-            refusal: 1,
-            light: 0.0,
-        };
-    }
-    if limits::inner::bad_grid(corners, axes) {
-        return LightAt {
-            refusal: 2,
-            light: 0.0,
-        };
-    }
-    if light.len() != grid::inner::voxel_count(axes) {
-        return LightAt {
-            refusal: 3,
-            light: 0.0,
-        };
-    }
-    if limits::inner::bad_position(position) {
-        return LightAt {
-            refusal: 11,
-            light: 0.0,
-        };
-    }
-    let c = inner::cells(axes, corners, position);
-    if inner::bad_light_cells(light, c) {
-        return LightAt {
-            refusal: 13,
-            light: 0.0,
-        };
-    }
-    LightAt {
-        refusal: 0,
-        light: inner::blended(light, 1, 0, c),
-    }
+    inner::look_up(axes, corners, light, position)
 }
 
-// The four coefficients at a position. Refused: 1, 2, 3, 11, and 13 among all numbers of the eight cells read.
+// The four coefficients at a position, x y z w of each in turn. Refused: 1, 2, 3, 11, and 13 among all numbers of the eight cells read.
 pub fn coefficients_at(
     axes: Axes,
     corners: Corners,
     volume: &[f32],
     position: Vec3,
-) -> CoefficientsAt
-    ensures { CoefficientsLookedUp axes corners volume.now position result }
+) -> Result<[f32; 16], Refusal>
+    ensures { CoefficientsLookedUp axes corners volume.now position (coefficients_from result) }
 {
-    if limits::inner::bad_axes(axes) {
-        return CoefficientsAt {
-            refusal: 1,
-            numbers: [0.0; 16],
-        };
-    }
-    if limits::inner::bad_grid(corners, axes) {
-        return CoefficientsAt {
-            refusal: 2,
-            numbers: [0.0; 16],
-        };
-    }
-    if volume.len() != grid::inner::voxel_count(axes) * 16 {
-        return CoefficientsAt {
-            refusal: 3,
-            numbers: [0.0; 16],
-        };
-    }
-    if limits::inner::bad_position(position) {
-        return CoefficientsAt {
-            refusal: 11,
-            numbers: [0.0; 16],
-        };
-    }
-    let c = inner::cells(axes, corners, position);
-    if inner::bad_volume_cells(volume, c) {
-        return CoefficientsAt {
-            refusal: 13,
-            numbers: [0.0; 16],
-        };
-    }
-    let numbers = inner::coefficients_blended(volume, c);
-    CoefficientsAt {
-        refusal: 0,
-        numbers: numbers,
-    }
+    inner::look_up(axes, corners, volume, position)
 }
 
-// One voxel's sixteen numbers, as a part of the volume or, where unblurred is true, of scratch: no copy. Empty where `voxel_refusal`, on
-// the same arguments, is not 0.
+// One voxel's sixteen numbers, as a part of the volume or, where unblurred is true, of scratch: no copy. Refused: 1, 3, 11.
 pub fn voxel_part<'a>(
     axes: Axes,
     volume: &'a [f32],
     scratch: &'a [f32],
     index: usize,
     unblurred: bool,
-) -> &'a [f32]
-    ensures { PartLent axes volume.now scratch.now index unblurred result.now }
+) -> Result<&'a [f32], Refusal>
+    ensures lent { PartLent axes volume.now scratch.now index unblurred (part_from result) }
+    ensures judged { PartJudged axes volume.now scratch.now index unblurred (answer_number result) }
 {
-    if voxel_refusal(axes, volume, scratch, index, unblurred) != 0 {
-        return &volume[0..0];
-    }
+    voxel_refusal(axes, volume, scratch, index, unblurred)?;
+    let list = if unblurred { scratch } else { volume };
     let at = index * 16;
-    if unblurred {
-        return &scratch[at..at + 16];
-    }
-    &volume[at..at + 16]
+    Ok(&list[at..at + 16])
 }
 
-// The refusal of `voxel_part` on the same arguments: 1, 3, 11, or 0.
+// Whether `voxel_part` refuses the same arguments.
 pub fn voxel_refusal(
     axes: Axes,
     volume: &[f32],
     scratch: &[f32],
     index: usize,
     unblurred: bool,
-) -> u32
-    ensures { PartJudged axes volume.now scratch.now index unblurred result }
+) -> Result<(), Refusal>
+    ensures { PartJudged axes volume.now scratch.now index unblurred (answer_number result) }
 {
     if limits::inner::bad_axes(axes) {
-        return 1;
+        return Err(Refusal::Axes);
     }
     let n = grid::inner::voxel_count(axes);
     if (volume.len() != n * 16) | (scratch.len() != n * 16) {
-        return 3;
+        return Err(Refusal::Lengths);
     }
     if n <= index {
-        return 11;
+        return Err(Refusal::Position);
     }
-    0
+    Ok(())
 }

@@ -1,29 +1,26 @@
--- `lookup::inner::coefficients_blended` meets its contract. The invariant: the first k numbers are written, and what is to follow is what the definition gives from k on.
+-- The blend of the sixteen numbers. The invariant: the first k numbers are written, and what is to follow is what the definition gives from k on.
 use Rattle.std.proofs.Common.{◌/◌, length, sym, refl, ◌∙◌, arith, length-set}
 use Rattle.lists.specs.Fold.{tab_step, tab_end}
 use Rattle.lookup.specs.Lookup.{number_blend, coefficient_blend}
 use Rattle.lookup.specs.PlaceLaws.{readable}
-use Rattle.lookup.proofs.inner.coefficients_blended.Goals as goal
+use Rattle.lookup.proofs.inner.ArrayF3216Looked.blend.Goals as goal
 
 pub loop-k-init : goal.loop-k-init
 unfolding coefficient_blend
-loop-k-init c = (omega arith, refl, refl)
+loop-k-init c = (refl, refl)
 
 pub blended-requires : goal.blended-requires
 blended-requires c = let a = c.args in
     readable (length a.volume.now / 16) 16 _ (length a.volume.now) a.c c.requires c.loop-k-test.true (omega arith)
 
-pub bounds-numbers-k : goal.bounds-numbers-k
-bounds-numbers-k c = omega arith
-
 pub loop-k-preserved : goal.loop-k-preserved
 loop-k-preserved c =
     let a = c.args in
     let i = c.loop-k.invariant in
-    (omega arith, simp length-set i.1, rw (length-set, c.blended.ensures) (tab_step (number_blend a.volume.now a.c) c.loop-k.numbers c.loop-k.k (omega arith) ∙ i.2))
+    (simp length-set i.0, rw (length-set, c.blended.ensures) (tab_step (number_blend a.volume.now a.c) c.loop-k.numbers c.loop-k.k (omega arith) ∙ i.1))
 
 pub returns : goal.returns
 returns c =
     let i = c.loop-k.invariant in
     let a = c.args in
-    sym (tab_end (number_blend a.volume.now a.c) c.loop-k.numbers c.loop-k.k (omega arith)) ∙ i.2
+    sym (tab_end (number_blend a.volume.now a.c) c.loop-k.numbers c.loop-k.k (omega arith)) ∙ i.1
