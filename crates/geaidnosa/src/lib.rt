@@ -498,14 +498,14 @@ pub extern "C" fn geaidnosa_frame_coefficients(
 pub extern "C" fn geaidnosa_file_axes(bytes: &[u8]) -> Head
     ensures { FileAxes bytes.now result }
 {
-    volume::file_axes(bytes)
+    Head::from(volume::file_axes(bytes))
 }
 
 #[unsafe(no_mangle)]
 pub extern "C" fn geaidnosa_volume_bytes(axes: Axes) -> Needed
     ensures { VolumeBytes axes result }
 {
-    volume::volume_bytes(axes)
+    Needed::from(volume::volume_bytes(axes))
 }
 
 #[unsafe(no_mangle)]
@@ -518,7 +518,7 @@ pub extern "C" fn geaidnosa_read_volume(
 ) -> Head
     ensures { VolumeRead bytes.now light.old volume.old active.old occupied.old result light.new volume.new active.new occupied.new }
 {
-    volume::read_volume(bytes, light, volume, occupied, active)
+    Head::from(volume::read_volume(bytes, light, volume, occupied, active))
 }
 
 #[unsafe(no_mangle)]
@@ -533,14 +533,14 @@ pub extern "C" fn geaidnosa_write_volume(
 ) -> u32
     ensures { VolumeWritten axes corners light.now volume.now active.now occupied.now bytes.old result bytes.new }
 {
-    volume::write_volume(axes, corners, light, volume, occupied, active, bytes)
+    names::told(volume::write_volume(axes, corners, light, volume, occupied, active, bytes))
 }
 
 #[unsafe(no_mangle)]
 pub extern "C" fn geaidnosa_file_figures(bytes: &[u8]) -> Figures
     ensures { FileFigures bytes.now result }
 {
-    volume::file_figures(bytes)
+    Figures::from(volume::file_figures(bytes))
 }
 
 // ---- the float functions, on bit patterns

@@ -22,9 +22,9 @@ unfoldable pub no_lights : ℕ → FileLights
 no_lights refusal = record { refusal = refusal; figures = figures_of [] }
 
 -- an answer in one struct
-abbrev pub file_lights_of : Result LightFigures Refusal → FileLights
-file_lights_of (Ok f) = record { refusal = 0; figures = f }
-file_lights_of (Err r) = no_lights (number_of r)
+abbrev pub lights_told : Result LightFigures Refusal → FileLights
+lights_told (Ok f) = record { refusal = 0; figures = f }
+lights_told (Err r) = no_lights (number_of r)
 
 unfoldable pub lights_answer : List ℕ → FileLights
 lights_answer s = record { refusal = 0; figures = light_figures (light_at s) }

@@ -5,7 +5,7 @@ ghost use Rattle.std.specs.Prelude.{◌≡◌, ◌+◌, ◌*◌, ◌≤◌, leng
 ghost use Rattle.lists.specs.Some.{some};
 ghost use Rattle.bytes_le.specs.Bytes.{floats_at};
 ghost use Rattle.light_units.specs.Units.{light_outside};
-ghost use Rattle.league_report.specs.FileLights.{file_lights_of, LightsOfFile};
+ghost use Rattle.league_report.specs.FileLights.{lights_told, LightsOfFile};
 
 use light_figures::LightFigures;
 use names::{LENGTH_LIMIT, Refusal};
@@ -22,7 +22,7 @@ pub struct League {
 
 // The figures that `league` prints of a file. Refused by 18 above 65,536 bytes, then by 12 for any fault, then by 18 for a light outside 0..1.
 pub fn file_lights(bytes: &[u8]) -> Result<LightFigures, Refusal>
-    ensures { LightsOfFile bytes.now (file_lights_of result) }
+    ensures { LightsOfFile bytes.now (lights_told result) }
 {
     if LENGTH_LIMIT < bytes.len() {
         return Err(Refusal::League);
@@ -61,7 +61,7 @@ pub struct FileLights {
 }
 
 impl From<Result<LightFigures, Refusal>> for FileLights {
-    ghost from_gives = { λ a s. s ≡ file_lights_of a };
+    ghost from_gives = { λ a s. s ≡ lights_told a };
 
     #[tactic(auto, unfolding(crate::specs::FileLights::no_lights))]
     fn from(answer: Result<LightFigures, Refusal>) -> FileLights {

@@ -26,7 +26,7 @@ use Rattle.volume_write.specs.FileBytes.{bytes_for, file_bytes, Lent}
 use Rattle.volume.specs.declared.FileGrid.{FileGrid}
 use Rattle.volume.specs.declared.Head.{Head}
 use Rattle.volume.specs.declared.Figures.{Figures}
-use Rattle.volume.specs.Volume.{no_head, head_of, head_answer, file_refusal, FileAxes, needed_refusal, VolumeBytes, read_refusal, VolumeRead, wrong_bytes, bad_lists, write_rows, write_refusal, VolumeWritten, zero_count, no_figures, figures_answer, figures_refusal, FileFigures}
+use Rattle.volume.specs.Volume.{no_head, head_told, head_answer, file_refusal, FileAxes, needed_refusal, VolumeBytes, read_refusal, VolumeRead, wrong_bytes, bad_lists, write_rows, write_refusal, VolumeWritten, zero_count, no_figures, figures_answer, figures_refusal, FileFigures}
 use Rattle.volume.specs.VolumeLaws.{lists_row, lights_numbers, coefficients_numbers, BodiesRead}
 
 -- ---- axes that are not bad
@@ -51,18 +51,18 @@ module _ (s : List ℕ) where
     pub accepted : Accepted s
     pub faultless : faulty s ≡ false
     pub axes : g.axes ≡ axes_at s
-    pub head : head_of (Ok g) ≡ head_answer s
+    pub head : head_told (Ok g) ≡ head_answer s
 
-  pub known : (g : FileGrid) → FileAxes s (head_of (Ok g)) → Known g
+  pub known : (g : FileGrid) → FileAxes s (head_told (Ok g)) → Known g
   unfolding file_refusal first_of unless_refused no_head head_answer
   known g d = by (faulty s) refl d.answer
     where
-      by : (b : Bool) → faulty s ≡ b → head_of (Ok g) ≡ unless_refused (first_of (row 12 b ∷ [])) (head_answer s) (no_head (first_of (row 12 b ∷ []))) → Known g
+      by : (b : Bool) → faulty s ≡ b → head_told (Ok g) ≡ unless_refused (first_of (row 12 b ∷ [])) (head_answer s) (no_head (first_of (row 12 b ∷ []))) → Known g
       by true e h = let z : ◌≡◌ {A = ℕ} 0 12 = ap (λ (x : Head). x.refusal) h in absurd (omega arith)
       by false e h = record { accepted = (accepted_row s).0 e; faultless = e; axes = ap (λ (x : Head). x.axes) h; head = h }
 
   -- and what a refusal says
-  pub refused : (r : Refusal) → FileAxes s (head_of (Err r)) → (faulty s ≡ true) × (number_of r ≡ 12)
+  pub refused : (r : Refusal) → FileAxes s (head_told (Err r)) → (faulty s ≡ true) × (number_of r ≡ 12)
   unfolding file_refusal first_of unless_refused no_head head_answer
   refused r d = by (faulty s) refl d.answer
     where

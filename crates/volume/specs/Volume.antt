@@ -40,9 +40,9 @@ no_head refusal =
     }
 
 -- an answer as C is told it
-abbrev pub head_of : Result FileGrid Refusal → Head
-head_of (Ok g) = record { refusal = 0; axes = g.axes; corners = g.corners }
-head_of (Err r) = no_head (number_of r)
+abbrev pub head_told : Result FileGrid Refusal → Head
+head_told (Ok g) = record { refusal = 0; axes = g.axes; corners = g.corners }
+head_told (Err r) = no_head (number_of r)
 
 unfoldable pub head_answer : List ℕ → Head
 head_answer s = record { refusal = 0; axes = axes_at s; corners = corners_at s }
@@ -65,9 +65,9 @@ unfoldable pub needed_refusal : Axes → ℕ
 needed_refusal a = first_of (needed_rows a)
 
 -- an answer as C is told it
-abbrev pub needed_of : Result ℕ Refusal → Needed
-needed_of (Ok n) = record { refusal = 0; bytes = n }
-needed_of (Err r) = record { refusal = number_of r; bytes = 0 }
+abbrev pub needed_told : Result ℕ Refusal → Needed
+needed_told (Ok n) = record { refusal = 0; bytes = n }
+needed_told (Err r) = record { refusal = number_of r; bytes = 0 }
 
 pub record VolumeBytes (a : Axes) (r : Needed) : Type 0 where
   pub answer : r ≡ unless_refused (needed_refusal a) (record { refusal = 0; bytes = bytes_for (voxels a) }) (record { refusal = needed_refusal a; bytes = 0 })
@@ -131,8 +131,8 @@ no_figures refusal =
     record { refusal = refusal; width = 0; height = 0; depth = 0; occupied = 0; active = 0; zeros = 0 }
 
 -- an answer as C is told it
-abbrev pub figures_of : Result Counts Refusal → Figures
-figures_of (Ok c) =
+abbrev pub figures_told : Result Counts Refusal → Figures
+figures_told (Ok c) =
     record {
       refusal = 0;
       width = c.axes.width;
@@ -142,7 +142,7 @@ figures_of (Ok c) =
       active = c.active;
       zeros = c.zeros;
     }
-figures_of (Err r) = no_figures (number_of r)
+figures_told (Err r) = no_figures (number_of r)
 
 unfoldable pub figures_answer : List ℕ → Figures
 figures_answer s =

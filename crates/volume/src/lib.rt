@@ -8,7 +8,7 @@ ghost use Rattle.names.specs.Numbers.{voxel_limit};
 ghost use Rattle.bytes_le.specs.Bytes.{f32_at, floats_at, bytes_at};
 ghost use Rattle.marks.specs.Marks.{marked_count};
 ghost use Rattle.words.specs.Words.{word_count, words_of};
-ghost use Rattle.volume.specs.Volume.{head_of, needed_of, figures_of, zero_count, wrong_volume_lists, wrong_bytes, bad_lists, write_refusal, FileAxes, VolumeBytes, VolumeRead, VolumeWritten, FileFigures};
+ghost use Rattle.volume.specs.Volume.{head_told, needed_told, figures_told, zero_count, wrong_volume_lists, wrong_bytes, bad_lists, write_refusal, FileAxes, VolumeBytes, VolumeRead, VolumeWritten, FileFigures};
 ghost use Rattle.volume.specs.VolumeLaws.{Room, BodiesRead};
 
 use grid::{Axes, Corners};
@@ -33,7 +33,7 @@ pub struct Counts {
 
 // The axes and corners of a file. Refused by 12. Writes nothing: whoever is to read the file learns here which lists to lend.
 pub fn file_axes(bytes: &[u8]) -> Result<FileGrid, Refusal>
-    ensures { FileAxes bytes.now (head_of result) }
+    ensures { FileAxes bytes.now (head_told result) }
 {
     if volume_file::inner::is_faulty(bytes) {
         return Err(Refusal::File);
@@ -46,7 +46,7 @@ pub fn file_axes(bytes: &[u8]) -> Result<FileGrid, Refusal>
 
 // How many bytes a file with these axes has. Refused by 1.
 pub fn volume_bytes(axes: Axes) -> Result<usize, Refusal>
-    ensures { VolumeBytes axes (needed_of result) }
+    ensures { VolumeBytes axes (needed_told result) }
 {
     if limits::inner::bad_axes(axes) {
         return Err(Refusal::Axes);
@@ -63,7 +63,7 @@ pub fn read_volume(
     occupied: &mut [u64],
     active: &mut [u64],
 ) -> Result<FileGrid, Refusal>
-    ensures { VolumeRead bytes.now light.old volume.old active.old occupied.old (head_of result) light.new volume.new active.new occupied.new }
+    ensures { VolumeRead bytes.now light.old volume.old active.old occupied.old (head_told result) light.new volume.new active.new occupied.new }
 {
     let grid = file_axes(bytes)?;
     let n = grid::inner::voxel_count(grid.axes);
@@ -94,7 +94,7 @@ pub fn write_volume(
 
 // The figures that `volstat` prints. Refused by 14 above 65,536 bytes, then by 12 for any fault.
 pub fn file_figures(bytes: &[u8]) -> Result<Counts, Refusal>
-    ensures { FileFigures bytes.now (figures_of result) }
+    ensures { FileFigures bytes.now (figures_told result) }
 {
     if FIGURES_LIMIT < bytes.len() {
         return Err(Refusal::LongFile);
@@ -121,7 +121,7 @@ pub struct Head {
 }
 
 impl From<Result<FileGrid, Refusal>> for Head {
-    ghost from_gives = { λ a s. s ≡ head_of a };
+    ghost from_gives = { λ a s. s ≡ head_told a };
 
     #[tactic(auto, unfolding(crate::specs::Volume::no_head))]
     fn from(answer: Result<FileGrid, Refusal>) -> Head {
@@ -161,7 +161,7 @@ pub struct Needed {
 }
 
 impl From<Result<usize, Refusal>> for Needed {
-    ghost from_gives = { λ a s. s ≡ needed_of a };
+    ghost from_gives = { λ a s. s ≡ needed_told a };
 
     fn from(answer: Result<usize, Refusal>) -> Needed {
         match answer {
@@ -188,7 +188,7 @@ pub struct Figures {
 }
 
 impl From<Result<Counts, Refusal>> for Figures {
-    ghost from_gives = { λ a s. s ≡ figures_of a };
+    ghost from_gives = { λ a s. s ≡ figures_told a };
 
     #[tactic(auto, unfolding(crate::specs::Volume::no_figures))]
     fn from(answer: Result<Counts, Refusal>) -> Figures {

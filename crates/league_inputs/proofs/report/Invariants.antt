@@ -1,10 +1,5 @@
--- The measure is the number of turns that are left.
-use Rattle.std.proofs.Common.{◌≤◌, length}
 use Rattle.league_report.specs.Report.{LeagueWithin}
 use Rattle.league_inputs.proofs.report.Given as goal
 
-abbrev pub invariant-loop-turns : goal.invariant-loop-turns
-invariant-loop-turns g l = LeagueWithin l.league × (l.at ≤ length l.input)
-
-abbrev pub decreases-loop-turns : goal.decreases-loop-turns
-decreases-loop-turns g l = l.turns
+abbrev pub invariant-loop : goal.invariant-loop
+invariant-loop g l = LeagueWithin l.league
