@@ -3,7 +3,7 @@ ghost use Rattle.std.specs.Prelude.{◌≡◌, ◌≤◌, length};
 ghost use Rattle.names.specs.Answers.{answer_number};
 ghost use Rattle.names.specs.Numbers.{voxel_limit, lamp_limit, voxel_cost};
 ghost use Rattle.names.specs.Scene.{scene_for};
-ghost use Rattle.limits.specs.Limits.{lamp_count};
+ghost use Rattle.limits.specs.Limits.{lamp_count, below_cost};
 ghost use Rattle.words.specs.Words.{word_count, entries_of};
 ghost use Rattle.spread.specs.Spread.{stage};
 ghost use Rattle.intake.specs.Intake.{input_for, wrong_lengths, bad_lighting, bad_progress, bad_volume, bad_contents, bake_refusal};
@@ -14,6 +14,7 @@ use names::{BARE_COST, LAMP_COST, PRIMARY_RAYS, Refusal, SKY_NUMBERS};
 use spread::Progress;
 
 // Refused by the first row that holds; for solid walls or not.
+#[tactic(auto, using(names::specs::Refusals::refusals, limits::specs::LimitsLaws::axes_row, limits::specs::LimitsLaws::lamps_row, grid::specs::GridLaws::voxels_most, limits::specs::LimitsLaws::few_points), unfolding(crate::specs::Intake::bake_refusal, crate::specs::Intake::bake_rows, crate::specs::Intake::wrong_bake_lists))]
 pub fn judge(
     solid: bool,
     axes: Axes,
@@ -86,11 +87,10 @@ pub fn judge(
     if tree::inner::not_accepted(boxed, points, boxes, nodes, order) {
         return Err(Refusal::Tree);
     }
-    let cost = voxel_cost(lamps);
     if bad_progress(n, active, lamps, progress) {
         return Err(Refusal::Progress);
     }
-    if allowance < cost {
+    if below_cost(lamps, allowance) {
         return Err(Refusal::Allowance);
     }
     if bad_contents(active, lights, volume, progress.next, n) {
@@ -101,6 +101,7 @@ pub fn judge(
 
 // ---- 3, of n voxels and t triangles
 
+#[tactic(auto, unfolding(crate::specs::Intake::wrong_lengths))]
 fn wrong_lengths(
     solid: bool,
     n: usize,
@@ -127,6 +128,7 @@ fn wrong_lengths(
 
 // ---- 7
 
+#[tactic(auto, unfolding(crate::specs::Intake::bad_lighting))]
 fn bad_lighting(light: Light, ambient: Ambient, sky: &[f32]) -> bool
     ensures { result ≡ bad_lighting light ambient sky.now }
 {
@@ -138,6 +140,7 @@ fn bad_lighting(light: Light, ambient: Ambient, sky: &[f32]) -> bool
 
 // ---- 9, of n voxels
 
+#[tactic(auto, using(names::specs::Refusals::refusals), unfolding(crate::specs::Intake::bad_progress))]
 fn bad_progress(n: usize, active: &[u64], lamps: &[f32], progress: Progress) -> bool
     requires { (n ≤ voxel_limit) × (length active.now ≡ word_count n) × (lamp_count lamps.now ≤ lamp_limit) }
     ensures { result ≡ bad_progress n (entries_of active.now n) (lamp_count lamps.now) progress }
@@ -151,6 +154,13 @@ fn bad_progress(n: usize, active: &[u64], lamps: &[f32], progress: Progress) -> 
 
 // ---- 10
 
+fn below_cost(lamps: &[f32], allowance: u64) -> bool
+    requires { lamp_count lamps.now ≤ lamp_limit }
+    ensures { result ≡ below_cost (lamp_count lamps.now) allowance }
+{
+    allowance < voxel_cost(lamps)
+}
+
 // The most that a voxel may cost.
 pub fn voxel_cost(lamps: &[f32]) -> u64
     requires { lamp_count lamps.now ≤ lamp_limit }
@@ -162,6 +172,7 @@ pub fn voxel_cost(lamps: &[f32]) -> u64
 // ---- 13
 
 // The mask's unused bits and the lights always; the volume's coefficients where the bake is under way.
+#[tactic(auto, unfolding(crate::specs::Intake::bad_contents))]
 fn bad_contents(active: &[u64], lights: &[f32], volume: &[f32], next: usize, n: usize) -> bool
     requires { length active.now ≡ word_count n }
     ensures { result ≡ bad_contents active.now lights.now volume.now next n }
@@ -172,6 +183,7 @@ fn bad_contents(active: &[u64], lights: &[f32], volume: &[f32], next: usize, n: 
     a | b | c
 }
 
+#[tactic(auto, using(names::specs::Refusals::refusals), unfolding(crate::specs::Intake::bad_volume))]
 fn bad_volume(volume: &[f32], next: usize, n: usize) -> bool
     ensures { result ≡ bad_volume volume.now next n }
 {

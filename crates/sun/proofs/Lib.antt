@@ -1,2 +1,3 @@
--- A list of 1.0 in which the active voxels are written one by one.
+-- A list of 1.0 in which the active voxels are written one by one, and how a call answers.
 mod Lit
+mod Answered

@@ -1,12 +1,12 @@
 -- A list of figures while it is written: 1.0 everywhere at first, which is right of every voxel that is not active, and then one active voxel after the other.
-use mathlib.Core.Path.{◌≡◌, sym, ap, subst, ◌∙◌}
+use mathlib.Core.Path.{◌≡◌, refl, sym, ap, subst, ◌∙◌}
 use mathlib.Core.Bool.{true, false}
-use mathlib.Core.List.{List}
+use mathlib.Core.List.{List, ◌∷◌}
 use mathlib.Core.Logic.{◌⊎◌, inl, inr}
-use Prim.Native.Nat.{ℕ, ◌+◌, ◌-◌, ◌≤◌, ◌<◌}
+use Prim.Native.Nat.{ℕ, zero, suc, ◌+◌, ◌-◌, ◌≤◌, ◌<◌}
 use native.Mathlib.Nat.{zero-add}
 use native.Mathlib.Omega.{arith}
-use lib.ListN.{length, get_or, set}
+use lib.ListN.{length, get_or, set, replicate}
 use lib.Seq.{ext_get_or, get_or-set_same, get_or-set_other}
 use lib.Ieee.{Float, nan}
 use Rattle.names.specs.Bits.{one32}
@@ -32,6 +32,12 @@ module _ (mask : List ℕ) (n i t : ℕ) (h : i ≤ n) (e : t ≡ next_from (is_
   next_active p = ap (is_marked mask) e ∙ next_there (is_marked mask) n (n - i) i (omega arith) (omega arith)
 
 -- ---- the list
+
+-- a list that is filled with 1.0
+pub ones : (k i : ℕ) → replicate k one32 ≡ tab (λ (j : ℕ). one32) k i
+unfolding tab
+ones zero i = refl
+ones (suc k) i = ap (λ (l : List Float). one32 ∷ l) (ones k (i + 1))
 
 module _ (axes : Axes) (low edges l : Vec3) (ahead : Float) (scene : Scene) (mask : List ℕ) (n : ℕ) where
   abbrev figure : ℕ → Float

@@ -2,11 +2,13 @@
 -- the in-grid 3×3×3, divide by the count, square. No active voxel: all 1.0, no blur. Rays reported: the active count." The light is the direction
 -- normalised. The figures before the blur are a definition of their own, which the light's scratch list holds afterwards; where no voxel is active
 -- that list stays as it was.
-use Rattle.std.specs.Prelude.{◌≡◌, Bool, true, false, cond, ◌||◌, List, [], ◌∷◌, ℕ, eqb, length, Float}
+use Rattle.std.specs.Prelude.{◌≡◌, Bool, true, false, cond, ◌||◌, List, [], ◌∷◌, ℕ, eqb, length, Result, Ok, Err, Float}
 use Rattle.std.specs.Float.Ieee as Ieee
 use Rattle.std.specs.Float.{binary32}
 use Rattle.names.specs.Bits.{one32}
 use Rattle.names.specs.Numbers.{sun_shortest, sun_diagonals}
+use Rattle.names.specs.declared.refusal.Refusal.{Refusal}
+use Rattle.names.specs.Answers.{number_of}
 use Rattle.names.specs.Refusals.{Row, row, first_of, unless_refused}
 use Rattle.names.specs.Scene.{Scene, tree_scene, Sound, HitsFit}
 use Rattle.lists.specs.Fold.{tab}
@@ -94,6 +96,11 @@ sun_rows solid axes corners scene direction active light_length scratch_length d
 unfoldable pub sun_refusal : Bool → Axes → Corners → Scene → Vec3 → List ℕ → ℕ → ℕ → ℕ → ℕ → ℕ
 sun_refusal solid axes corners scene direction active light_length scratch_length distances_length places_length =
     first_of (sun_rows solid axes corners scene direction active light_length scratch_length distances_length places_length)
+
+-- the answer as C is told it: no refusal and the rays, or the refusal's number and none
+abbrev pub sunned_of : Result ℕ Refusal → Sunned
+sunned_of (Ok rays) = record { refusal = 0; rays = rays }
+sunned_of (Err r) = record { refusal = number_of r; rays = 0 }
 
 -- what the trace of a voxel asks
 pub record Traceable (axes : Axes) (scene : Scene) (distances_length places_length : ℕ) : Type 0 where

@@ -2,22 +2,21 @@
 #![tactic(auto)]
 
 ghost use Rattle.std.specs.Prelude.{◌≡◌, false, ◌<◌, length};
-ghost use Rattle.names.specs.Bits.{one32};
+ghost use Rattle.names.specs.Answers.{answer_number};
 ghost use Rattle.names.specs.Scene.{scene_of, scene_for};
 ghost use Rattle.tracing.specs.Through.{Through};
-ghost use Rattle.lists.specs.Fold.{tab};
 ghost use Rattle.grid.specs.Grid.{voxels, x_of, y_of, z_of, centre_from};
 ghost use Rattle.words.specs.Words.{entries_of, Tidy};
 ghost use Rattle.scan.specs.Transmittance.{transmittance_of};
-ghost use Rattle.sun.specs.Sun.{sun_ray, sun_before, sun_refusal, Traceable, SunAnswered, SolidSunAnswered, TreeSunAnswered, SunPassed};
+ghost use Rattle.sun.specs.Sun.{sun_ray, sun_before, sun_refusal, Traceable, SunAnswered, SolidSunAnswered, TreeSunAnswered, SunPassed, sunned_of};
 ghost use Rattle.sun.specs.SunLaws.{SunReady};
 
 use grid::{Axes, Corners};
-use names::{SUN_DIAGONALS, SUN_SHORTEST};
+use names::{Refusal, SUN_DIAGONALS, SUN_SHORTEST};
 use tree_rows::ROW_NUMBERS;
 use vectors::Vec3;
 
-// What a sun pass answers: a refusal's number, and the rays, one for each active voxel.
+// What a sun pass answers, as C is told it: 0 and the rays, one for each active voxel, or a refusal's number.
 #[repr(C)]
 #[derive(Clone, Copy)]
 pub struct Sunned {
@@ -25,9 +24,23 @@ pub struct Sunned {
     pub rays: u64,
 }
 
+impl From<Result<u64, Refusal>> for Sunned {
+    ghost from_gives = { λ a s. s ≡ sunned_of a };
+
+    fn from(answer: Result<u64, Refusal>) -> Sunned {
+        match answer {
+            Ok(rays) => Sunned { refusal: 0, rays },
+            Err(refusal) => Sunned {
+                refusal: u32::from(refusal),
+                rays: 0,
+            },
+        }
+    }
+}
+
 // Fills `light` with what each voxel sees of the sun, blurred, and `scratch` with the same before the blur. Where no voxel is active the light is all
 // 1.0, and scratch stays as it was. The two lists of hits are scratch too, and what stands in them afterwards is left open. The mask is in words.
-// Refusals 1 to 7 and 13.
+// Answers the rays, one for each active voxel. Refused by 1 to 7 and 13.
 pub fn sun(
     axes: Axes,
     corners: Corners,
@@ -41,42 +54,17 @@ pub fn sun(
     scratch: &mut [f32],
     distances: &mut [f32],
     places: &mut [usize],
-) -> Sunned
-    ensures { SunAnswered false axes corners (scene_of points.now uses.now kinds.now numbers.now) direction active.now light.old scratch.old distances.old places.old result light.new scratch.new distances.new places.new }
+) -> Result<u64, Refusal>
+    ensures { SunAnswered false axes corners (scene_of points.now uses.now kinds.now numbers.now) direction active.now light.old scratch.old distances.old places.old (sunned_of result) light.new scratch.new distances.new places.new }
 {
-    let none = [0.0f32; 0];
-    let no_node = [0u32; 0];
-    let refusal = judge(
-        false,
-        axes,
-        corners,
-        points,
-        uses,
-        kinds,
-        numbers,
-        false,
-        &none,
-        &no_node,
-        &no_node,
-        direction,
-        active,
-        light.len(),
-        scratch.len(),
-        distances.len(),
-        places.len(),
-    );
-    if refusal == 0 {
-        let rays = pass(
-            axes, corners, points, uses, kinds, numbers, false, &none, &no_node, &no_node, &none,
-            direction, active, light, scratch, distances, places,
-        );
-        return Sunned { refusal: 0, rays };
-    }
-    Sunned { refusal, rays: 0 }
+    treeless_sun(
+        false, axes, corners, points, uses, kinds, numbers, direction, active, light, scratch,
+        distances, places,
+    )
 }
 
-// The same where every material is opaque: a ray ends at its first hit, and no lists of hits are lent. Refusals 1 to 7 and 13; 6 also for a kind other than
-// opaque, used or not.
+// The same where every material is opaque: a ray ends at its first hit, and no lists of hits are lent. Refused by 1 to 7 and 13; by 6 also for a kind other
+// than opaque, used or not.
 pub fn solid_sun(
     axes: Axes,
     corners: Corners,
@@ -88,12 +76,12 @@ pub fn solid_sun(
     active: &[u64],
     light: &mut [f32],
     scratch: &mut [f32],
-) -> Sunned
-    ensures { SolidSunAnswered axes corners (scene_of points.now uses.now kinds.now numbers.now) direction active.now light.old scratch.old result light.new scratch.new }
+) -> Result<u64, Refusal>
+    ensures { SolidSunAnswered axes corners (scene_of points.now uses.now kinds.now numbers.now) direction active.now light.old scratch.old (sunned_of result) light.new scratch.new }
 {
-    let none = [0.0f32; 0];
-    let no_node = [0u32; 0];
-    let refusal = judge(
+    let mut distances = [0.0f32; 0];
+    let mut places = [0usize; 0];
+    treeless_sun(
         true,
         axes,
         corners,
@@ -101,46 +89,17 @@ pub fn solid_sun(
         uses,
         kinds,
         numbers,
-        false,
-        &none,
-        &no_node,
-        &no_node,
         direction,
         active,
-        light.len(),
-        scratch.len(),
-        0,
-        0,
-    );
-    if refusal == 0 {
-        let mut distances = [0.0f32; 0];
-        let mut places = [0usize; 0];
-        let rays = pass(
-            axes,
-            corners,
-            points,
-            uses,
-            kinds,
-            numbers,
-            false,
-            &none,
-            &no_node,
-            &no_node,
-            &none,
-            direction,
-            active,
-            light,
-            scratch,
-            &mut distances,
-            &mut places,
-        );
-        return Sunned { refusal: 0, rays };
-    }
-    Sunned { refusal, rays: 0 }
+        light,
+        scratch,
+        &mut distances,
+        &mut places,
+    )
 }
 
-// The same through a box tree of the scene, with hit scratch: only triangles whose own padded box is not passed over are candidates of a ray. Refusals 1 to 7, 16
-// where the tree is not accepted, and 13.
+// The same through a box tree of the scene, with hit scratch: only triangles whose own padded box is not passed over are candidates of a ray. Refused by 1 to 7,
+// by 16 where the tree is not accepted, and by 13.
 pub fn tree_sun(
     axes: Axes,
     corners: Corners,
@@ -157,10 +116,10 @@ pub fn tree_sun(
     scratch: &mut [f32],
     distances: &mut [f32],
     places: &mut [usize],
-) -> Sunned
-    ensures { TreeSunAnswered axes corners points.now uses.now kinds.now numbers.now boxes.now nodes.now order.now direction active.now light.old scratch.old distances.old places.old result light.new scratch.new distances.new places.new }
+) -> Result<u64, Refusal>
+    ensures { TreeSunAnswered axes corners points.now uses.now kinds.now numbers.now boxes.now nodes.now order.now direction active.now light.old scratch.old distances.old places.old (sunned_of result) light.new scratch.new distances.new places.new }
 {
-    let refusal = judge(
+    judge(
         false,
         axes,
         corners,
@@ -178,17 +137,58 @@ pub fn tree_sun(
         scratch.len(),
         distances.len(),
         places.len(),
-    );
-    if refusal == 0 {
-        let mut rows = [0.0f32; ROW_NUMBERS];
-        tree_rows::inner::lay(points, boxes, nodes, order, &mut rows);
-        let rays = pass(
-            axes, corners, points, uses, kinds, numbers, true, boxes, nodes, order, &rows,
-            direction, active, light, scratch, distances, places,
-        );
-        return Sunned { refusal: 0, rays };
-    }
-    Sunned { refusal, rays: 0 }
+    )?;
+    let mut rows = [0.0f32; ROW_NUMBERS];
+    tree_rows::inner::lay(points, boxes, nodes, order, &mut rows);
+    Ok(pass(
+        axes, corners, points, uses, kinds, numbers, true, boxes, nodes, order, &rows, direction,
+        active, light, scratch, distances, places,
+    ))
+}
+
+// A call without a tree, for solid walls or not; those lend lists of hits that hold nothing.
+fn treeless_sun(
+    solid: bool,
+    axes: Axes,
+    corners: Corners,
+    points: &[f32],
+    uses: &[u32],
+    kinds: &[u8],
+    numbers: &[f32],
+    direction: Vec3,
+    active: &[u64],
+    light: &mut [f32],
+    scratch: &mut [f32],
+    distances: &mut [f32],
+    places: &mut [usize],
+) -> Result<u64, Refusal>
+    ensures { SunAnswered solid axes corners (scene_of points.now uses.now kinds.now numbers.now) direction active.now light.old scratch.old distances.old places.old (sunned_of result) light.new scratch.new distances.new places.new }
+{
+    let none = [0.0f32; 0];
+    let no_node = [0u32; 0];
+    judge(
+        solid,
+        axes,
+        corners,
+        points,
+        uses,
+        kinds,
+        numbers,
+        false,
+        &none,
+        &no_node,
+        &no_node,
+        direction,
+        active,
+        light.len(),
+        scratch.len(),
+        distances.len(),
+        places.len(),
+    )?;
+    Ok(pass(
+        axes, corners, points, uses, kinds, numbers, false, &none, &no_node, &no_node, &none,
+        direction, active, light, scratch, distances, places,
+    ))
 }
 
 // A pass that is not refused, and its rays.
@@ -217,7 +217,7 @@ fn pass(
 {
     let rays = words::inner::count(active, light.len());
     if rays == 0 {
-        brighten(light);
+        light.fill(1.0);
         return 0;
     }
     trace(
@@ -228,8 +228,9 @@ fn pass(
     rays
 }
 
-// The number of the first row that holds: 1, 2, 3, 4, 5, 6, 7, 16, 13, for solid walls or not. The last four arguments are the lengths of the light, its scratch and
+// Refused by the first row that holds: 1, 2, 3, 4, 5, 6, 7, 16, 13, for solid walls or not. The last four arguments are the lengths of the light, its scratch and
 // the two lists of hits.
+#[tactic(auto, using(names::specs::Refusals::refusals, limits::specs::LimitsLaws::axes_row, grid::specs::GridLaws::voxels_most, limits::specs::LimitsLaws::few_points), unfolding(crate::specs::Sun::sun_refusal, crate::specs::Sun::wrong_sun))]
 fn judge(
     solid: bool,
     axes: Axes,
@@ -248,14 +249,14 @@ fn judge(
     scratches: usize,
     distances: usize,
     places: usize,
-) -> u32
-    ensures { result ≡ sun_refusal solid axes corners (scene_for boxed points.now uses.now kinds.now numbers.now boxes.now nodes.now order.now) direction active.now lights scratches distances places }
+) -> Result<(), Refusal>
+    ensures { answer_number result ≡ sun_refusal solid axes corners (scene_for boxed points.now uses.now kinds.now numbers.now boxes.now nodes.now order.now) direction active.now lights scratches distances places }
 {
     if limits::inner::bad_axes(axes) {
-        return 1;
+        return Err(Refusal::Axes);
     }
     if limits::inner::bad_grid(corners, axes) {
-        return 2;
+        return Err(Refusal::Grid);
     }
     let n = grid::inner::voxel_count(axes);
     let t = uses.len();
@@ -268,38 +269,27 @@ fn judge(
         | (scratches != n)
         | limits::inner::short_hits(solid, distances, places, t);
     if wrong {
-        return 3;
+        return Err(Refusal::Lengths);
     }
     if limits::inner::too_many(uses.len(), kinds.len()) {
-        return 4;
+        return Err(Refusal::TooMany);
     }
     if limits::inner::bad_points(points) {
-        return 5;
+        return Err(Refusal::Points);
     }
     if limits::inner::bad_materials_for(solid, uses, kinds, numbers) {
-        return 6;
+        return Err(Refusal::Materials);
     }
     if limits::inner::bad_direction(direction) {
-        return 7;
+        return Err(Refusal::Lighting);
     }
     if tree::inner::not_accepted(boxed, points, boxes, nodes, order) {
-        return 16;
+        return Err(Refusal::Tree);
     }
     if words::inner::unused_set(active, n) {
-        return 13;
+        return Err(Refusal::Contents);
     }
-    0
-}
-
-// 1.0 everywhere.
-fn brighten(light: &mut [f32])
-    ensures { light.new ≡ tab (λ i. one32) (length light.old) 0 }
-{
-    let mut i = 0;
-    while i < light.len() {
-        light[i] = 1.0;
-        i += 1;
-    }
+    Ok(())
 }
 
 // The figures before the blur, in `before`: 1.0 everywhere, and then from active voxel to active voxel what each sees.
@@ -330,7 +320,7 @@ fn trace(
     let l = vectors::normalise(direction);
     let ahead = vectors::length(edges) * SUN_DIAGONALS;
     let low = corners.min;
-    brighten(before);
+    before.fill(1.0);
     let n = before.len();
     let mut i = words::inner::next_marked(active, n, 0);
     while i < n {

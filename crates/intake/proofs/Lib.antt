@@ -1,2 +1,0 @@
--- What row 3 reads of the lists.
-mod Lists
