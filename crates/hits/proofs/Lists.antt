@@ -9,34 +9,39 @@ use native.Mathlib.Numerals.{add-one}
 use native.Mathlib.Omega.{arith}
 use lib.ListN.{length, get_or, set, take, drop, take-append-drop, length-drop, drop_of_length-le}
 use borrow.Rule.Slice.PartMut.{same_len_mid}
-use lib.Seq.{length_front, drop-cons, length-take-le, get_or-take, append_snoc, take_all, take_at, drop_at}
+use lib.Seq.{paste, length_front, drop-cons, length-take-le, get_or-take, append_snoc, take_all, take_at, drop_at}
 use lib.Ieee.{Float, nan}
+use Rattle.std.proofs.lemmas.List.{take-take}
+use Rattle.std.proofs.lemmas.List.Edits.{length-insert}
+use Rattle.std.proofs.lemmas.Slice.{between_is}
 use Rattle.hits.specs.Hits.{Struck, struck, before, insert_of, insert_at, rank_of, paired}
 use Rattle.hits.specs.PairedLaws.{paired_append, stored}
 use Rattle.hits.specs.Merge.{sort_of, insert_all, merge_of, takes_second, Numbers}
 use Rattle.hits.specs.MergeLaws.{insert_all_append, merge_first, merge_second, merge_sorts, numbers_first, numbers_second}
 
-module _ {ℓ} {A : Type ℓ} where
-  step : (s : List A) (m k : ℕ) (c d : A) → k < m → m ≤ length s → insert_at (suc k) (get_or s k d) (take m (set s k c)) ≡ insert_at k c (take m s)
-  unfolding insert_at
-  step s zero k c d h g = absurd (not-suc-le-zero h)
-  step [] (suc m) k c d h g = absurd (not-suc-le-zero g)
-  step (x ∷ s) (suc m) zero c d h g = refl
-  step (x ∷ s) (suc m) (suc k) c d h g = ap (λ (r : List A). x ∷ r) (step s m k c d (le_of_suc-le-suc h) (le_of_suc-le-suc g))
+-- what stands at place j and above is carried up by one, and x is stored there
+module _ {A : Type 0} where
+  carried : (s z : List A) (j n : ℕ) (x : A) → j < length s → set (take (suc j) s ++ take n (drop j s) ++ z) j x ≡ (take j s ++ (x ∷ take n (drop j s))) ++ z
+  carried [] z j n x h = absurd (not-suc-le-zero h)
+  carried (y ∷ s) z zero n x h = refl
+  carried (y ∷ s) z (suc j) n x h = ap (λ (r : List A). y ∷ r) (carried s z j n x (le_of_suc-le-suc h))
 
-  -- what is carried past place k takes the place of what stood there, and that is carried on
-  pub put_step : (s : List A) (m k : ℕ) (c d : A) → k < m → m ≤ length s → insert_at (k + 1) (get_or s k d) (take m (set s k c)) ≡ insert_at k c (take m s)
-  put_step s m k c d h g = rw (add-one, step s m k c d h g)
+  module _ (s : List A) (j m : ℕ) (x : A) (h : j ≤ m) (w : m < length s) where
+    put_whole : set (paste s (j + 1) (drop j s) (m - j)) j x ≡ insert_at j x (take m s) ++ drop (m + 1) s
+    unfolding insert_at
+    put_whole =
+        let e : j + 1 + (m - j) ≡ m + 1 = omega arith in
+        rw (e, add-one j, take-take j m s h, ← between_is s j m) (carried s (drop (m + 1) s) j (m - j) x (omega arith))
 
-  last : (s : List A) (m : ℕ) (c : A) → m < length s → take (suc m) (set s m c) ≡ insert_at m c (take m s)
-  unfolding insert_at
-  last [] m c h = absurd (not-suc-le-zero h)
-  last (x ∷ s) zero c h = refl
-  last (x ∷ s) (suc m) c h = ap (λ (r : List A). x ∷ r) (last s m c (le_of_suc-le-suc h))
+    put_length : length (insert_at j x (take m s)) ≡ m + 1
+    unfolding insert_at
+    put_length = length-insert (take m s) j x (rw (length-take-le m s (omega arith)) h) ∙ omega (arith, length-take-le m s (omega arith))
 
-  -- and at the end it is stored
-  pub put_last : (s : List A) (m : ℕ) (c : A) → m < length s → take (m + 1) (set s m c) ≡ insert_at m c (take m s)
-  put_last s m c h = rw (add-one, last s m c h)
+    pub put_taken : take (m + 1) (set (paste s (j + 1) (drop j s) (m - j)) j x) ≡ insert_at j x (take m s)
+    put_taken = rw put_whole (take_at (insert_at j x (take m s)) _ (m + 1) put_length)
+
+    pub put_dropped : drop (m + 1) (set (paste s (j + 1) (drop j s) (m - j)) j x) ≡ drop (m + 1) s
+    put_dropped = rw put_whole (drop_at (insert_at j x (take m s)) _ (m + 1) put_length)
 
 -- the search for a rank, one hit on
 pub rank_step : (h : Struck) (ts : List Float) (is : List ℕ) (j : ℕ) → j < length ts → j < length is
@@ -237,3 +242,11 @@ then_inserted ts x is p k e w f g h =
       ← insert_all_append [] (paired (take k ts) (take k is)) (paired (drop k ts) (drop k is)),
       ← paired_halves ts is k e w,
     )
+
+-- ---- for the attributes of the code
+
+pub ruleset heads = (rest_cons, rest_none, first_cons, first_none)
+
+pub ruleset merging = (second_within, first_within, rest_none, first_none, stored_then, merge_takes_second, merge_takes_first)
+
+pub ruleset halving = (second_lent_lem, back_length, numbers_halves, halves_in_order)

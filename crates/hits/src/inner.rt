@@ -14,6 +14,7 @@ const FEW: usize = 96;
 const SHORT: usize = 8;
 
 // Puts hits in order.
+#[tactic(auto, unfolding(crate::specs::Hits::paired))]
 pub fn in_order(distances: &mut [f32], places: &mut [usize])
     requires { (length distances.old ≡ length places.old) × Numbers (paired distances.old places.old) }
     ensures { paired distances.new places.new ≡ sort_of (paired distances.old places.old) }
@@ -49,12 +50,13 @@ fn with_room(distances: &mut [f32], places: &mut [usize], ts: &mut [f32], is: &m
     requires { (length distances.old ≡ length places.old) × (length ts.old ≡ length distances.old) × (length is.old ≡ length places.old) × Numbers (paired distances.old places.old) }
     ensures { paired distances.new places.new ≡ sort_of (paired distances.old places.old) }
 {
-    copy_distances(distances, ts);
-    copy_places(places, is);
+    ts.copy_from_slice(distances);
+    is.copy_from_slice(places);
     by_halves(distances, places, ts, is);
 }
 
 // Puts hits in order. The last two lists hold the same hits; their halves are put in order, and merged into the first two.
+#[tactic(auto, using(crate::proofs::Lists::halving), unfolding(crate::specs::Hits::paired))]
 fn by_halves(distances: &mut [f32], places: &mut [usize], ts: &mut [f32], is: &mut [usize])
     requires { (length distances.old ≡ length places.old) × (ts.old ≡ distances.old) × (is.old ≡ places.old) × Numbers (paired distances.old places.old) }
     ensures { paired distances.new places.new ≡ sort_of (paired distances.old places.old) }
@@ -81,148 +83,90 @@ fn by_halves(distances: &mut [f32], places: &mut [usize], ts: &mut [f32], is: &m
 }
 
 // The hits before place `half` and those from there on, merged into two other lists.
+#[tactic(auto, using(crate::proofs::Lists::merging), unfolding(crate::specs::Merge::merge_of, crate::specs::Hits::paired))]
 fn merge(distances: &[f32], places: &[usize], half: usize, ts: &mut [f32], is: &mut [usize])
     requires { (length distances.now ≡ length places.now) × (half ≤ length distances.now) × (length ts.old ≡ length distances.now) × (length is.old ≡ length distances.now) }
     ensures { paired ts.new is.new ≡ merge_of (paired (take half distances.now) (take half places.now)) (paired (drop half distances.now) (drop half places.now)) }
 {
-    let n = distances.len();
     let mut i = 0;
     let mut j = half;
-    let mut k = 0;
-    while k < n {
+    for k in 0..distances.len() {
         if takes_second(distances, places, half, i, j) {
             ts[k] = distances[j];
             is[k] = places[j];
             j += 1;
-            k += 1;
         } else {
             ts[k] = distances[i];
             is[k] = places[i];
             i += 1;
-            k += 1;
         }
     }
 }
 
 // Whether, of what is left of the first half from i on and of the second from j on, the second's head comes next.
+#[tactic(auto, using(crate::proofs::Lists::heads), unfolding(crate::specs::Merge::takes_second))]
 fn takes_second(distances: &[f32], places: &[usize], half: usize, i: usize, j: usize) -> bool
     requires { (length distances.now ≡ length places.now) × (i ≤ half) × (half ≤ j) × (j ≤ length distances.now) }
     ensures { result ≡ takes_second (paired (drop i (take half distances.now)) (drop i (take half places.now))) (paired (drop j distances.now) (drop j places.now)) }
 {
-    if j == distances.len() {
-        return false;
-    }
-    if i == half {
-        return true;
-    }
-    comes_before(distances[j], places[j], distances[i], places[i])
-}
-
-fn copy_distances(from: &[f32], to: &mut [f32])
-    requires { length to.old ≡ length from.now }
-    ensures { to.new ≡ from.now }
-{
-    let mut k = 0;
-    while k < from.len() {
-        to[k] = from[k];
-        k += 1;
-    }
-}
-
-fn copy_places(from: &[usize], to: &mut [usize])
-    requires { length to.old ≡ length from.now }
-    ensures { to.new ≡ from.now }
-{
-    let mut k = 0;
-    while k < from.len() {
-        to[k] = from[k];
-        k += 1;
-    }
+    j < distances.len()
+        && (i == half || comes_before(distances[j], places[j], distances[i], places[i]))
 }
 
 // ---- few, one by one
 
 // Puts the hits from place `from` on, one after the other, into their places among those before them.
+#[tactic(auto, using(crate::proofs::Lists::heads), unfolding(crate::specs::Merge::insert_all))]
 fn one_by_one(distances: &mut [f32], places: &mut [usize], from: usize)
     requires { (length distances.old ≡ length places.old) × (from ≤ length distances.old) }
     ensures { paired distances.new places.new ≡ insert_all (paired (take from distances.old) (take from places.old)) (paired (drop from distances.old) (drop from places.old)) }
 {
-    let n = distances.len();
-    let mut m = from;
-    while m < n {
+    for m in from..distances.len() {
         let t = distances[m];
         let i = places[m];
         add_hit(distances, places, m, t, i);
-        m += 1;
     }
 }
 
 // Puts a hit into its place among the first m.
+#[tactic(auto, using(crate::proofs::Lists::rank_within))]
 fn add_hit(distances: &mut [f32], places: &mut [usize], m: usize, t: f32, i: usize)
     requires { (m < length distances.old) × (m < length places.old) }
     ensures { (paired (take (m + 1) distances.new) (take (m + 1) places.new) ≡ insert_of (struck t i) (paired (take m distances.old) (take m places.old)))
         × (drop (m + 1) distances.new ≡ drop (m + 1) distances.old) × (drop (m + 1) places.new ≡ drop (m + 1) places.old) }
 {
     let j = rank(&distances[..m], &places[..m], t, i);
-    put_distance(distances, j, m, t);
-    put_place(places, j, m, i);
+    put(distances, j, m, t);
+    put(places, j, m, i);
 }
 
 // Where a hit at distance t and place i goes: after each that it does not come before.
+#[tactic(auto, using(crate::proofs::Lists::rank_step, crate::proofs::Lists::rest_none), unfolding(crate::specs::Hits::rank_of, crate::specs::Hits::paired))]
 fn rank(distances: &[f32], places: &[usize], t: f32, i: usize) -> usize
     requires { length distances.now ≡ length places.now }
     ensures { result ≡ rank_of (struck t i) (paired distances.now places.now) }
 {
-    let mut j = 0;
-    while j < distances.len() {
+    for j in 0..distances.len() {
         if comes_before(t, i, distances[j], places[j]) {
             return j;
         }
-        j += 1;
     }
-    j
+    distances.len()
 }
 
 // By distance, then by place.
+#[tactic(auto, unfolding(crate::specs::Hits::before))]
 fn comes_before(t: f32, i: usize, s: f32, j: usize) -> bool
     ensures { result ≡ before (struck t i) (struck s j) }
 {
-    if t < s {
-        return true;
-    }
-    if t == s {
-        return i < j;
-    }
-    false
+    t < s || (t == s && i < j)
 }
 
 // Puts x at place j among the first m, and carries what stood there up.
-fn put_distance(s: &mut [f32], j: usize, m: usize, x: f32)
+fn put<T: Copy>(s: &mut [T], j: usize, m: usize, x: T)
     requires { (j ≤ m) × (m < length s.old) }
     ensures { (take (m + 1) s.new ≡ insert_at j x (take m s.old)) × (drop (m + 1) s.new ≡ drop (m + 1) s.old) }
 {
-    let mut c = x;
-    let mut k = j;
-    while k < m {
-        let y = s[k];
-        s[k] = c;
-        c = y;
-        k += 1;
-    }
-    s[m] = c;
-}
-
-fn put_place(s: &mut [usize], j: usize, m: usize, x: usize)
-    requires { (j ≤ m) × (m < length s.old) }
-    ensures { (take (m + 1) s.new ≡ insert_at j x (take m s.old)) × (drop (m + 1) s.new ≡ drop (m + 1) s.old) }
-{
-    let mut c = x;
-    let mut k = j;
-    while k < m {
-        let y = s[k];
-        s[k] = c;
-        c = y;
-        k += 1;
-    }
-    s[m] = c;
+    s.copy_within(j..m, j + 1);
+    s[j] = x;
 }

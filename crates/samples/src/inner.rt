@@ -18,6 +18,7 @@ pub fn sample_count(t: Triangle, e: f32) -> usize
 }
 
 // Area over the edge squared, times 2.
+#[tactic(auto, unfolding(crate::specs::Samples::density_of))]
 fn density(t: Triangle, e: f32) -> f32
     ensures { result ≡ density_of t e }
 {
@@ -34,6 +35,7 @@ fn target(density: f32) -> f32
 }
 
 // A number clamped to 1..4096, as a whole number.
+#[tactic(auto, unfolding(crate::specs::Samples::count_of))]
 fn count(target: f32) -> usize
     ensures { result ≡ count_of target }
 {
@@ -52,6 +54,7 @@ pub fn side(s: usize) -> usize
     ensures { result ≡ side_of s }
 {
     let mut n = 0;
+    // index loop: a search, which its own test ends
     while n * n < s {
         n += 1;
     }
@@ -59,6 +62,7 @@ pub fn side(s: usize) -> usize
 }
 
 // The voxel into which sample (iu, iv) of n a side falls; the number of voxels where it is skipped or falls outside the grid.
+#[tactic(auto, unfolding(crate::specs::Samples::sample_cell))]
 pub fn sample_cell(
     axes: Axes,
     low: Vec3,
@@ -80,6 +84,7 @@ pub fn sample_cell(
     cell(axes, low, edges, point(t, u, v, w))
 }
 
+#[tactic(auto, unfolding(crate::specs::Samples::share_of))]
 fn share(i: usize, n: usize) -> f32
     requires { (i < 65536) × (n < 65536) }
     ensures { result ≡ share_of i n }
@@ -94,6 +99,7 @@ fn rest(u: f32, v: f32) -> f32
     1.0 - u - v
 }
 
+#[tactic(auto, unfolding(crate::specs::Samples::point_of))]
 fn point(t: Triangle, u: f32, v: f32, w: f32) -> Vec3
     ensures { result ≡ point_of t u v w }
 {
@@ -104,6 +110,7 @@ fn point(t: Triangle, u: f32, v: f32, w: f32) -> Vec3
 }
 
 // The voxel of a point; the number of voxels where it lies outside the grid. A number is cast only where all three lie on their axes.
+#[tactic(auto, using(crate::specs::FallsLaws::on_axis_lem), unfolding(crate::specs::Samples::cell_of, crate::specs::Samples::index_within))]
 fn cell(axes: Axes, low: Vec3, edges: Vec3, p: Vec3) -> usize
     requires { AxesWithin axes }
     ensures { result ≡ cell_of axes low edges p }
@@ -124,14 +131,12 @@ fn cell(axes: Axes, low: Vec3, edges: Vec3, p: Vec3) -> usize
 }
 
 // Whether f has no cell on an axis of n.
+#[tactic(auto, using(crate::specs::FallsLaws::off_axis, crate::specs::FallsLaws::off_below))]
 fn off_axis(f: f32, n: usize) -> bool
     requires { (1 ≤ n) × (n < 65536) }
     ensures { result ≡ nat_le n (cell_on f n) }
 {
-    if 0.0 <= f {
-        return !(f < grid::inner::float(n));
-    }
-    true
+    !(0.0 <= f && f < grid::inner::float(n))
 }
 
 fn floored(f: f32) -> usize

@@ -1,6 +1,4 @@
-use mathlib.Core.Path.{◌≡◌}
-use Prim.Native.Nat.{◌-◌, ◌/◌, ◌≤◌}
-use lib.ListN.{length}
+use Rattle.std.proofs.Common.{◌≡◌, ◌-◌, ◌/◌, length}
 use Rattle.lists.specs.Fold.{fold}
 use Rattle.grid.specs.Grid.{voxels}
 use Rattle.words.specs.Words.{entries_of, Tidy}
@@ -9,10 +7,5 @@ use Rattle.occupy.proofs.inner.mark_all.Given as goal
 
 abbrev pub invariant-loop-k : goal.invariant-loop-k
 invariant-loop-k l =
-    (l.k ≤ length l.points / 9)
-    × (length l.occupied ≡ length l.initial.occupied)
-    × Tidy l.occupied (voxels l.axes)
+    Tidy l.occupied (voxels l.axes)
     × (mark_all l.axes l.low l.edges l.e l.points (entries_of l.initial.occupied (voxels l.axes)) ≡ fold (mark_place l.axes l.low l.edges l.e l.points) (length l.points / 9 - l.k) l.k (entries_of l.occupied (voxels l.axes)))
-
-abbrev pub decreases-loop-k : goal.decreases-loop-k
-decreases-loop-k l = length l.points / 9 - l.k

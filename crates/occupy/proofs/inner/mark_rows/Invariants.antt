@@ -1,6 +1,4 @@
-use mathlib.Core.Path.{◌≡◌}
-use Prim.Native.Nat.{◌-◌, ◌≤◌}
-use lib.ListN.{length}
+use Rattle.std.proofs.Common.{◌≡◌, ◌-◌}
 use Rattle.lists.specs.Fold.{fold}
 use Rattle.grid.specs.Grid.{voxels}
 use Rattle.words.specs.Words.{entries_of, Tidy}
@@ -9,10 +7,5 @@ use Rattle.occupy.proofs.inner.mark_rows.Given as goal
 
 abbrev pub invariant-loop-iu : goal.invariant-loop-iu
 invariant-loop-iu l =
-    (l.iu ≤ l.n)
-    × (length l.occupied ≡ length l.initial.occupied)
-    × Tidy l.occupied (voxels l.axes)
+    Tidy l.occupied (voxels l.axes)
     × (mark_rows l.axes l.low l.edges l.t l.n (entries_of l.initial.occupied (voxels l.axes)) ≡ fold (mark_row l.axes l.low l.edges l.t l.n) (l.n - l.iu) l.iu (entries_of l.occupied (voxels l.axes)))
-
-abbrev pub decreases-loop-iu : goal.decreases-loop-iu
-decreases-loop-iu l = l.n - l.iu

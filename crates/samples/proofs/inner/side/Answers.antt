@@ -1,5 +1,5 @@
 -- `samples::inner::side` counts up as the definition does: what is left to try gives the same side. Assumes nothing.
-use Rattle.std.proofs.Common.{◌≡◌, ℕ, zero, suc, ◌+◌, ◌-◌, ◌*◌, ◌<◌, ◌≤◌, sym, refl, ◌∙◌, mul-le-mul, arith, le-ltb, lt-ltb}
+use Rattle.std.proofs.Common.{◌≡◌, ℕ, zero, suc, ◌+◌, ◌-◌, ◌*◌, ◌<◌, ◌≤◌, sym, refl, ◌∙◌, arith, le-ltb, lt-ltb}
 use native.Mathlib.Nat.{sub-zero}
 use Rattle.lists.specs.Fold.{ahead}
 use Rattle.samples.specs.Samples.{side_from, side_of}
@@ -19,15 +19,6 @@ found s (suc k) n e = rw (le-ltb (n * n) s e) refl
 pub loop-n-init : goal.loop-n-init
 unfolding side_of
 loop-n-init c = (omega arith, rw sub-zero refl)
-
-pub overflow_mul-n : goal.overflow_mul-n
-overflow_mul-n c = let h : c.loop-n.n ≤ 4096 = omega arith in omega (arith, mul-le-mul h h)
-
-pub overflow_add-n : goal.overflow_add-n
-overflow_add-n c = omega arith
-
-pub loop-n-smaller : goal.loop-n-smaller
-loop-n-smaller c = omega (arith, square_most c.loop-n.n)
 
 pub loop-n-preserved : goal.loop-n-preserved
 loop-n-preserved c =
