@@ -68,6 +68,6 @@ pub fn next<'a>(rt: &impl Input, buffer: &'a mut [u8]) -> io::Result<Option<&'a 
 
 // Whether a record that was made for the engine with hit scratch is put to the one for solid walls too: every kind is opaque, and both lists of hits are
 // long enough for t triangles, so that the two have one answer.
-pub fn through_both(kinds: &[u8], t: usize, distances: &[f32], places: &[usize]) -> bool {
-    kinds.iter().all(|kind| *kind == 0) && t <= distances.len() && t <= places.len()
+pub fn through_both(kinds: &[u8], t: usize, distances: usize, places: usize) -> bool {
+    kinds.iter().all(|kind| *kind == 0) && t <= distances && t <= places
 }

@@ -93,11 +93,6 @@ impl<'a> Words<'a> {
         self.word(2 + i % k)
     }
 
-    // How many entries the list that begins here has.
-    pub fn entries<E: Entry>(self) -> usize {
-        E::entries(self.count(0))
-    }
-
     // Fills a list with the one that begins here.
     pub fn fill<E: Entry>(self, list: &mut [E]) {
         for (i, entry) in list.iter_mut().enumerate() {
@@ -105,18 +100,25 @@ impl<'a> Words<'a> {
         }
     }
 
-    // The list that begins here, at the front of `room`; none where it is longer.
+    // The front of `room`, as long as the list that begins here; none where the list is longer.
+    pub fn fit<'r, E: Entry>(self, room: &'r mut [E]) -> Option<&'r mut [E]>
+        ensures { IfSome result (λ front. length front.now ≤ length room.old) }
+    {
+        room.get_mut(..E::entries(self.count(0)))
+    }
+
+    // The same, filled with the list.
     pub fn lend<'r, E: Entry>(self, room: &'r mut [E]) -> Option<&'r mut [E]>
         ensures { IfSome result (λ list. length list.now ≤ length room.old) }
     {
-        let list = room.get_mut(..self.entries::<E>())?;
+        let list = self.fit(room)?;
         self.fill(list);
         Some(list)
     }
 
     // Whether a list is the one that begins here, length and bits.
     pub fn is_list<E: Entry>(self, list: &[E]) -> bool {
-        list.len() == self.entries::<E>()
+        list.len() == E::entries(self.count(0))
             && list
                 .iter()
                 .enumerate()

@@ -3,7 +3,7 @@
 
 use grid::{Axes, Corners};
 use limits::{Ambient, Light};
-use replay::Words;
+use replay::{Words, room};
 use vectors::{Ray, Triangle, Vec3};
 
 // Three numbers.
@@ -66,5 +66,76 @@ pub fn ambient(w: Words) -> Ambient {
         c1: vector(w.skip(3)),
         c2: vector(w.skip(6)),
         c3: vector(w.skip(9)),
+    }
+}
+
+// A scene's lists, and its box tree's where it has one.
+#[derive(Clone, Copy)]
+pub struct Scene<'a> {
+    pub points: &'a [f32],
+    pub uses: &'a [u32],
+    pub kinds: &'a [u8],
+    pub numbers: &'a [f32],
+    pub tree: Option<Tree<'a>>,
+}
+
+#[derive(Clone, Copy)]
+pub struct Tree<'a> {
+    pub boxes: &'a [f32],
+    pub nodes: &'a [u32],
+    pub order: &'a [u32],
+}
+
+// Room for the lists of a scene and of its tree.
+#[derive(Drop)]
+pub struct SceneRoom {
+    points: [f32; room::POINTS],
+    uses: [u32; room::USES],
+    kinds: [u8; room::KINDS],
+    numbers: [f32; room::NUMBERS],
+    boxes: [f32; room::BOXES],
+    nodes: [u32; room::NODES],
+    order: [u32; room::ORDER],
+}
+
+impl SceneRoom {
+    pub fn new() -> SceneRoom {
+        SceneRoom {
+            points: [0.0; room::POINTS],
+            uses: [0; room::USES],
+            kinds: [0; room::KINDS],
+            numbers: [0.0; room::NUMBERS],
+            boxes: [0.0; room::BOXES],
+            nodes: [0; room::NODES],
+            order: [0; room::ORDER],
+        }
+    }
+
+    // The scene whose lists begin at `lists`, with the tree whose lists begin at `tree`; none where there is no room for one of them.
+    pub fn lend<'a>(&'a mut self, lists: Words, tree: Option<Words>) -> Option<Scene<'a>> {
+        let SceneRoom {
+            points,
+            uses,
+            kinds,
+            numbers,
+            boxes,
+            nodes,
+            order,
+        } = self;
+        let tree = match tree {
+            None => None,
+            Some(lists) => Some(Tree {
+                boxes: lists.lend(boxes)?,
+                nodes: lists.list(1).lend(nodes)?,
+                order: lists.list(2).lend(order)?,
+            }),
+        };
+        Some(Scene {
+            points: lists.lend(points)?,
+            uses: lists.list(1).lend(uses)?,
+            kinds: lists.list(2).lend(kinds)?,
+            numbers: lists.list(3).lend(numbers)?,
+            tree,
+        })
     }
 }
