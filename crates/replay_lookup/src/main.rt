@@ -3,6 +3,7 @@
 
 ghost use Rattle.std.specs.Prelude.{◌*◌, ◌^◌, ◌<◌};
 
+use lookup::{CoefficientsAt, LightAt};
 use replay::{Tally, Words, room};
 use std::io;
 
@@ -17,7 +18,12 @@ const PART: u32 = 10;
 fn light_at(w: Words, t: Tally, position: Words, light: &[f32]) -> Tally {
     let axes = replay_values::axes(w.skip(1));
     let corners = replay_values::corners(w.skip(7));
-    let r = lookup::light_at(axes, corners, light, replay_values::vector(position));
+    let r = LightAt::from(lookup::light_at(
+        axes,
+        corners,
+        light,
+        replay_values::vector(position),
+    ));
     t.held((r.refusal == position.word(3)) & position.is_number(4, r.light))
 }
 
@@ -38,7 +44,12 @@ fn lights(w: Words, t: Tally) -> Option<Tally> {
 fn coefficients_at(w: Words, t: Tally, position: Words, volume: &[f32]) -> Tally {
     let axes = replay_values::axes(w.skip(1));
     let corners = replay_values::corners(w.skip(7));
-    let r = lookup::coefficients_at(axes, corners, volume, replay_values::vector(position));
+    let r = CoefficientsAt::from(lookup::coefficients_at(
+        axes,
+        corners,
+        volume,
+        replay_values::vector(position),
+    ));
     let numbers = r.numbers;
     let same = numbers
         .iter()
@@ -79,8 +90,8 @@ fn held_part(w: Words, t: Tally, asked: Words, volume: &[f32], scratch: &[f32]) 
     let index = asked.whole(0);
     let choice = asked.word(2) != 0;
     let refusal = lookup::voxel_refusal(axes, volume, scratch, index, choice);
-    let lent = lookup::voxel_part(axes, volume, scratch, index, choice);
-    t.held(refusal == asked.word(3))
+    let lent = lookup::voxel_part(axes, volume, scratch, index, choice).unwrap_or(&[]);
+    t.held(names::told(refusal) == asked.word(3))
         .held(asked.skip(4).is_list(lent))
 }
 

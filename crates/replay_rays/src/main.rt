@@ -7,6 +7,7 @@ use rays::{Found, Met, Transmitted};
 use replay::{Tally, Words, room};
 use replay_values::{Scene, SceneRoom};
 use std::io;
+use tree_build::TreeBuilt;
 
 // The four kinds of record: one triangle, rays over a scene, rays through a tree, and the builder.
 const TRIANGLE: u32 = 1;
@@ -198,7 +199,7 @@ fn build(lists: Words, t: Tally) -> Option<Tally> {
     let boxes = lists.list(1).lend(&mut boxes)?;
     let nodes = lists.list(2).lend(&mut nodes)?;
     let order = lists.list(3).lend(&mut order)?;
-    let r = tree_build::build_tree(points, boxes, nodes, order);
+    let r = TreeBuilt::from(tree_build::build_tree(points, boxes, nodes, order));
     let answer = lists.list(4);
     let after = answer.skip(3);
     Some(

@@ -3,6 +3,7 @@
 #![tactic(auto)]
 
 use grid::{Axes, Corners};
+use names::Refusal;
 use replay::{Tally, Words, room};
 use replay_values::{Scene, SceneRoom};
 use std::io;
@@ -50,8 +51,9 @@ struct Written<'a> {
 }
 
 // Holds the answer, the light and its scratch to the record.
-fn held(answer: Words, t: Tally, r: Sunned, written: &Written) -> Tally {
+fn held(answer: Words, t: Tally, r: Result<u64, Refusal>, written: &Written) -> Tally {
     let lists = answer.skip(4);
+    let r = Sunned::from(r);
     t.held(r.refusal == answer.word(1))
         .held(r.rays == answer.long(2))
         .held(lists.is_list(written.light))
@@ -90,7 +92,7 @@ fn lent(lists: Words, answer: Words, t: Tally, given: Given, written: &mut Writt
     held(answer, t, r, written).held_if(answer.word(0) != 0, same)
 }
 
-fn traced(given: Given, written: &mut Written) -> Sunned {
+fn traced(given: Given, written: &mut Written) -> Result<u64, Refusal> {
     let scene = given.scene;
     match scene.tree {
         Some(tree) => sun::tree_sun(
