@@ -1,5 +1,6 @@
 // From a position to its eight cells, the tests of what stands in them, and the blend between them.
 ghost use Rattle.std.specs.Prelude.{◌≡◌, ℕ, ◌+◌, ◌*◌, ◌/◌, ◌<◌, ◌≤◌, Bool, List, length, get_or, slice_index_or, Float};
+ghost use Rattle.std.specs.List.{All, list_any};
 ghost use Rattle.std.specs.Float.{nan};
 ghost use Rattle.names.specs.Numbers.{axis_limit, light_limit};
 ghost use Rattle.lists.specs.Laid.{voxel_part};
@@ -210,15 +211,17 @@ pub fn bad_cells<L: Looked>(list: &[f32], c: Cells) -> bool
     requires { Inside (length list.now / L.EACH) c }
     ensures { result ≡ some (L.bad_cell list.now) (cells_read c) }
 {
-    let b000 = L::bad_cell(list, c.c000);
-    let b100 = L::bad_cell(list, c.c100);
-    let b010 = L::bad_cell(list, c.c010);
-    let b110 = L::bad_cell(list, c.c110);
-    let b001 = L::bad_cell(list, c.c001);
-    let b101 = L::bad_cell(list, c.c101);
-    let b011 = L::bad_cell(list, c.c011);
-    let b111 = L::bad_cell(list, c.c111);
-    b000 | (b100 | (b010 | (b110 | (b001 | (b101 | (b011 | b111))))))
+    let read = [
+        c.c000, c.c100, c.c010, c.c110, c.c001, c.c101, c.c011, c.c111,
+    ];
+    any_bad::<L>(list, &read)
+}
+
+fn any_bad<L: Looked>(list: &[f32], read: &[usize]) -> bool
+    requires { All (λ i. i < length list.now / L.EACH) read.now }
+    ensures { result ≡ list_any (L.bad_cell list.now) read.now }
+{
+    read.iter().any(|i| L::bad_cell(list, *i))
 }
 
 // ---- the blend

@@ -31,11 +31,3 @@ returns-then-list-voxel_count g c =
     let each = ap₂ (λ (n m : ℕ). n * m) c.voxel_count.ensures c.EACH.ensures in
     looked_refused g.L.Looked.laws _ _ _ _ _ Lengths (row_passed _ _ _ _ (sym c.bad_axes.ensures ∙ c.if-bad_axes.false) (row_passed _ _ _ _ (sym c.bad_grid.ensures ∙ c.if-bad_grid.false)
     (row_holds _ _ _ (ap not (ne_eqb _ _ (λ e. c.if-list-voxel_count.true (e ∙ sym each)))))))
-
-pub in_grid-requires : goal.in_grid-requires
-in_grid-requires g c =
-    record {
-      axes = sym c.bad_axes.ensures ∙ c.if-bad_axes.false;
-      grid = sym c.bad_grid.ensures ∙ c.if-bad_grid.false;
-      fits = ap not (eq-eqb _ _ (c.if-list-voxel_count.false ∙ ap₂ (λ (n m : ℕ). n * m) c.voxel_count.ensures c.EACH.ensures));
-    }

@@ -9,10 +9,6 @@ pub loop-k-init : goal.loop-k-init
 unfolding coefficient_blend
 loop-k-init c = (refl, refl)
 
-pub blended-requires : goal.blended-requires
-blended-requires c = let a = c.args in
-    readable (length a.volume.now / 16) 16 _ (length a.volume.now) a.c c.requires c.loop-k-test.true (omega arith)
-
 pub loop-k-preserved : goal.loop-k-preserved
 loop-k-preserved c =
     let a = c.args in
