@@ -14,7 +14,7 @@ use super::Reached;
 use grid::{Axes, Corners};
 use limits::{Ambient, Light};
 
-// Goes through the voxels from next on, in order, while the allowance lasts; from an inactive one to the next active one.
+// Goes through the active voxels from next on, in order, while the allowance lasts.
 pub fn walk(
     axes: Axes,
     corners: Corners,
@@ -56,22 +56,14 @@ pub fn walk(
 {
     let n = lights.len();
     let cost = intake::inner::voxel_cost(lamps);
-    let mut i = next;
     let mut rays: u64 = 0;
-    while i < n {
-        let at = i;
-        i += 1;
-        if words::inner::is_marked(active, at) {
-            if allowance - rays < cost {
-                return Reached { next: at, rays };
-            }
-            rays += take(
-                axes, corners, points, uses, kinds, numbers, boxed, boxes, nodes, order, rows,
-                light, ambient, sky, lamps, table, lights, volume, distances, places, at,
-            );
-        } else {
-            i = words::inner::next_marked(active, n, i);
-        }
+    let mut i = words::inner::next_marked(active, n, next);
+    while i < n && cost <= allowance - rays {
+        rays += take(
+            axes, corners, points, uses, kinds, numbers, boxed, boxes, nodes, order, rows, light,
+            ambient, sky, lamps, table, lights, volume, distances, places, i,
+        );
+        i = words::inner::next_marked(active, n, i + 1);
     }
     Reached { next: i, rays }
 }
