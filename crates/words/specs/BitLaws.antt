@@ -5,6 +5,7 @@ use Rattle.std.proofs.Math.Nat.{div-eq_of_lt}
 use Rattle.std.proofs.Math.Pow.{split, high, low, field, mod-mod-pow}
 use Rattle.std.proofs.lemmas.Bool.{eqb-false}
 use Rattle.std.proofs.Math.Arith.{lt_of_le-ne, digits_lt}
+use Rattle.std.specs.Int.{from_bool}
 use Rattle.std.specs.Int.Bits.{bit_or, or_zero_r}
 use Rattle.std.proofs.lemmas.Nat.{or_block}
 use Rattle.std.specs.Int.Count.{ones, ones_step, count_trailing_zeros, under}
@@ -69,6 +70,11 @@ some_bit (suc d) w h p = go (same_or_not (w % 2) 1) (λ q. some_bit d (w / 2) (h
     go (inr ne) rest = let r = rest (omega arith) in (suc r.0, omega (arith, r.1), bit_suc w r.0 ∙ r.2)
 
 -- ---- a number put together from its bits
+
+-- a test as a number
+pub bit_is : (b : Bool) → from_bool b ≡ cond b 1 0
+bit_is true = refl
+bit_is false = refl
 
 pub one_below : (b : Bool) → cond {A = ℕ} b 1 0 < 2
 one_below true = omega arith

@@ -39,10 +39,8 @@ pub fn next_marked(words: &[u64], n: usize, i: usize) -> usize
     requires { Tidy words.now n × (n < 9223372036854775808) }
     ensures { result ≡ next_from (is_marked (entries_of words.now n)) n (n - i) i }
 {
-    if i < n {
-        if is_marked(words, i) {
-            return i;
-        }
+    if i < n && is_marked(words, i) {
+        return i;
     }
     search(words, n, i)
 }
@@ -56,25 +54,11 @@ fn search(words: &[u64], n: usize, i: usize) -> usize
     while at < n {
         let w = words[at / 64] >> (at % 64);
         if w != 0 {
-            return at + places_below(w);
+            return at + w.trailing_zeros() as usize;
         }
-        at = next_word(at);
+        at = (at / 64 + 1) * 64;
     }
     n
-}
-
-fn places_below(w: u64) -> usize
-    ensures { (result ≡ count_trailing_zeros 64 w) × (result ≤ 64) }
-{
-    u64::trailing_zeros(w) as usize
-}
-
-// The first place of the word after that of place i.
-fn next_word(i: usize) -> usize
-    requires { i < 9223372036854775808 }
-    ensures { result ≡ (i / 64 + 1) * 64 }
-{
-    (i / 64 + 1) * 64
 }
 
 // Sets bit i.
@@ -82,18 +66,14 @@ pub fn set_bit(words: &mut [u64], i: usize)
     requires { i / 64 < length words.old }
     ensures { words.new ≡ put_at words.old i 1 }
 {
-    words[i / 64] = words[i / 64] | (1 << (i % 64));
+    words[i / 64] |= 1 << (i % 64);
 }
 
 // No bit set.
 pub fn clear(words: &mut [u64])
     ensures { words.new ≡ no_bits (length words.old) }
 {
-    let mut k = 0;
-    while k < words.len() {
-        words[k] = 0;
-        k += 1;
-    }
+    words.fill(0);
 }
 
 // The words of entries, in words.
@@ -101,10 +81,8 @@ pub fn pack(entries: &[u8], words: &mut [u64])
     requires { length words.old ≡ word_count (length entries.now) }
     ensures { words.new ≡ words_of entries.now }
 {
-    let mut k = 0;
-    while k < words.len() {
-        words[k] = word_of(entries, k * 64);
-        k += 1;
+    for (k, word) in words.iter_mut().enumerate() {
+        *word = word_of(entries, k * 64);
     }
 }
 
@@ -124,10 +102,8 @@ fn full_word(entries: &[u8], first: usize) -> u64
     requires { first + 64 ≤ length entries.now }
     ensures { result ≡ packed (is_marked entries.now) 64 first }
 {
-    let mut w: u64 = 0;
-    let mut j = 8;
-    while 0 < j {
-        j -= 1;
+    let mut w = 0;
+    for j in (0..8).rev() {
         w = eight_of(entries, first + j * 8) + 256 * w;
     }
     w
@@ -138,11 +114,9 @@ fn last_word(entries: &[u8], first: usize) -> u64
     requires { (first ≤ length entries.now) × (length entries.now < first + 64) }
     ensures { result ≡ packed (is_marked entries.now) 64 first }
 {
-    let mut w: u64 = 0;
-    let mut j = entries.len() - first;
-    while 0 < j {
-        j -= 1;
-        w = one_if_marked(entries[first + j]) + 2 * w;
+    let mut w = 0;
+    for j in (0..entries.len() - first).rev() {
+        w = u64::from(entries[first + j] == 1) + 2 * w;
     }
     w
 }
@@ -152,23 +126,14 @@ fn eight_of(entries: &[u8], first: usize) -> u64
     requires { first + 8 ≤ length entries.now }
     ensures { (result ≡ packed (is_marked entries.now) 8 first) × (result < 256) }
 {
-    one_if_marked(entries[first])
-        + one_if_marked(entries[first + 1]) * 2
-        + one_if_marked(entries[first + 2]) * 4
-        + one_if_marked(entries[first + 3]) * 8
-        + one_if_marked(entries[first + 4]) * 16
-        + one_if_marked(entries[first + 5]) * 32
-        + one_if_marked(entries[first + 6]) * 64
-        + one_if_marked(entries[first + 7]) * 128
-}
-
-fn one_if_marked(entry: u8) -> u64
-    ensures { (result ≡ cond (eqb entry 1) 1 0) × (result < 2) }
-{
-    if entry == 1 {
-        return 1;
-    }
-    0
+    u64::from(entries[first] == 1)
+        + u64::from(entries[first + 1] == 1) * 2
+        + u64::from(entries[first + 2] == 1) * 4
+        + u64::from(entries[first + 3] == 1) * 8
+        + u64::from(entries[first + 4] == 1) * 16
+        + u64::from(entries[first + 5] == 1) * 32
+        + u64::from(entries[first + 6] == 1) * 64
+        + u64::from(entries[first + 7] == 1) * 128
 }
 
 // The entries of words, in entries: eight at a time, then the rest.
@@ -176,14 +141,13 @@ pub fn unpack(words: &[u64], entries: &mut [u8])
     requires { length words.now ≡ word_count (length entries.old) }
     ensures { entries.new ≡ entries_of words.now (length entries.old) }
 {
-    let mut i = 0;
-    while 8 <= entries.len() - i {
+    let eights = entries.len() / 8;
+    for k in 0..eights {
+        let i = k * 8;
         put_eight(entries, i, spread((words[i / 64] >> (i % 64)) % 256));
-        i += 8;
     }
-    while i < entries.len() {
+    for i in eights * 8..entries.len() {
         entries[i] = bit_at(words, i);
-        i += 1;
     }
 }
 
@@ -202,14 +166,7 @@ fn put_eight(entries: &mut [u8], first: usize, x: u64)
     requires { first + 8 ≤ length entries.old }
     ensures { entries.new ≡ sets entries.old first (eight_bytes x) }
 {
-    entries[first] = (x % 256) as u8;
-    entries[first + 1] = (x / 256 % 256) as u8;
-    entries[first + 2] = (x / 65536 % 256) as u8;
-    entries[first + 3] = (x / 16777216 % 256) as u8;
-    entries[first + 4] = (x / 4294967296 % 256) as u8;
-    entries[first + 5] = (x / 1099511627776 % 256) as u8;
-    entries[first + 6] = (x / 281474976710656 % 256) as u8;
-    entries[first + 7] = (x / 72057594037927936 % 256) as u8;
+    entries[first..first + 8].copy_from_slice(&x.to_le_bytes());
 }
 
 // How many of n voxels are marked.
@@ -217,11 +174,9 @@ pub fn count(words: &[u64], n: usize) -> u64
     requires { Tidy words.now n }
     ensures { result ≡ marked_count (entries_of words.now n) }
 {
-    let mut c: u64 = 0;
-    let mut k = 0;
-    while k < words.len() {
-        c = c + ones_of(words[k]);
-        k += 1;
+    let mut c = 0;
+    for word in words {
+        c += u64::from(word.count_ones());
     }
     c
 }
@@ -232,11 +187,9 @@ pub fn count_below(words: &[u64], p: usize) -> u64
     ensures { ((n : ℕ) → p ≤ n → result ≡ marked_below (entries_of words.now n) p) × (result ≤ p) }
 {
     let last = p / 64;
-    let mut c: u64 = 0;
-    let mut k = 0;
-    while k < last {
-        c = c + ones_of(words[k]);
-        k += 1;
+    let mut c = 0;
+    for word in &words[..last] {
+        c += u64::from(word.count_ones());
     }
     if p % 64 == 0 {
         return c;
@@ -244,18 +197,12 @@ pub fn count_below(words: &[u64], p: usize) -> u64
     c + ones_below(words[last], p % 64)
 }
 
-fn ones_of(w: u64) -> u64
-    ensures { (result ≡ ones w) × (result ≤ 64) }
-{
-    u64::count_ones(w) as u64
-}
-
 // The ones below place j.
 fn ones_below(w: u64, j: usize) -> u64
     requires { j < 64 }
     ensures { (result ≡ ones (w % 2 ^ j)) × (result ≤ j) }
 {
-    ones_of(w % (1 << j))
+    u64::from((w % (1 << j)).count_ones())
 }
 
 // Whether a bit past the last of n voxels is set.
@@ -263,8 +210,5 @@ pub fn unused_set(words: &[u64], n: usize) -> bool
     requires { length words.now ≡ word_count n }
     ensures { result ≡ unused_set words.now n }
 {
-    if n % 64 == 0 {
-        return false;
-    }
-    (words[n / 64] >> (n % 64)) != 0
+    n % 64 != 0 && (words[n / 64] >> (n % 64)) != 0
 }

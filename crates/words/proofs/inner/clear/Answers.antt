@@ -1,33 +1,17 @@
--- `words::inner::clear` fills the words with zeros: what is written and the zeros for the rest are the whole. Assumes nothing.
-use mathlib.Core.Path.{refl, sym, ◌∙◌}
-use native.Mathlib.Omega.{arith}
-use native.Mathlib.Nat.{sub-zero}
-use lib.ListN.{length-set}
-use Rattle.lists.specs.Fold.{tab_step, tab_end}
+-- `words::inner::clear` fills the words with zeros. Assumes nothing.
+use mathlib.Core.Path.{◌≡◌, refl, ap, ◌∙◌}
+use mathlib.Core.List.{List, ◌∷◌}
+use Prim.Native.Nat.{ℕ, zero, suc, ◌+◌}
+use lib.ListN.{length, replicate}
+use Rattle.lists.specs.Fold.{tab}
 use Rattle.words.specs.ByWords.{no_bits}
 use Rattle.words.proofs.inner.clear.Goals as goal
 
-pub loop-k-init : goal.loop-k-init
-unfolding no_bits
-loop-k-init c = (omega arith, refl, rw sub-zero refl)
-
-pub offset_bounds-words-k : goal.offset_bounds-words-k
-offset_bounds-words-k c = omega arith
-
-pub bounds-words-k : goal.bounds-words-k
-bounds-words-k c = omega arith
-
-pub overflow_add-k : goal.overflow_add-k
-overflow_add-k c = omega arith
-
-pub loop-k-smaller : goal.loop-k-smaller
-loop-k-smaller c = simp length-set (omega arith)
-
-pub loop-k-preserved : goal.loop-k-preserved
-loop-k-preserved c = let l = c.loop-k in simp length-set (omega arith, l.invariant.1, tab_step (λ j. 0) l.words l.k (omega arith) ∙ l.invariant.2)
-
-pub shape_of-words : goal.shape_of-words
-shape_of-words c = omega arith
+zeros : (n i : ℕ) → replicate {A = ℕ} n 0 ≡ tab (λ k. 0) n i
+unfolding tab
+zeros zero i = refl
+zeros (suc n) i = ap (λ (l : List ℕ). 0 ∷ l) (zeros n (i + 1))
 
 pub returns : goal.returns
-returns c = sym (tab_end (λ j. 0) c.loop-k.words c.loop-k.k (omega arith)) ∙ c.loop-k.invariant.2
+unfolding no_bits
+returns c = c.fill.ensures.after (λ y e. e) ∙ zeros (length c.args.words.now) 0

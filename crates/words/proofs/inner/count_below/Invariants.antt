@@ -1,11 +1,8 @@
 use mathlib.Core.Path.{◌≡◌}
-use Prim.Native.Nat.{◌-◌, ◌*◌, ◌≤◌}
+use Prim.Native.Nat.{◌*◌}
 use Rattle.words.specs.Words.{bit_at}
 use Rattle.words.specs.BitLaws.{total}
 use Rattle.words.proofs.inner.count_below.Given as goal
 
-abbrev pub invariant-loop-k : goal.invariant-loop-k
-invariant-loop-k l = (l.k ≤ l.last) × (l.c ≡ total (bit_at l.words) (l.k * 64) 0)
-
-abbrev pub decreases-loop-k : goal.decreases-loop-k
-decreases-loop-k l = l.last - l.k
+abbrev pub invariant-loop-word : goal.invariant-loop-word
+invariant-loop-word l = l.c ≡ total (bit_at l.words) (l.word-index * 64) 0

@@ -14,9 +14,6 @@ returns-then-n-i c =
       same = sym (set_out (entries_of s.args.words.now s.args.n) s.args.i 1 (omega (arith, entries_length s.args.words.now s.args.n)));
     }
 
-pub set_bit-requires : goal.set_bit-requires
-set_bit-requires c = omega (arith, c.requires.long)
-
 pub returns : goal.returns
 returns c =
     let s = c.before.before.before.before.before.before in

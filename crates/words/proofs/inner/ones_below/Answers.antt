@@ -3,7 +3,6 @@ use mathlib.Core.Path.{◌≡◌, ap, ◌∙◌}
 use Prim.Native.Nat.{ℕ, ◌*◌, ◌%◌, ◌^◌, ◌<◌}
 use native.Mathlib.Omega.{arith}
 use native.Mathlib.Nat.{one-mul}
-use lib.Pow.{pow_pos}
 use lib.Count.{ones}
 use Rattle.words.specs.Words.{bit_of}
 use Rattle.words.specs.BitLaws.{shifted, bit_lt, total_most, low_ones}
@@ -12,13 +11,10 @@ use Rattle.words.proofs.inner.ones_below.Goals as goal
 bound : (j : ℕ) → j < 64 → 1 * 2 ^ j % 2 ^ 64 ≡ 2 ^ j
 bound j h = shifted 1 j (omega arith) h ∙ one-mul (2 ^ j)
 
-pub nonzero_rem-w : goal.nonzero_rem-w
-nonzero_rem-w c = let s = c in omega (arith, bound s.args.j s.requires, pow_pos s.args.j)
-
 pub returns : goal.returns
 returns c =
     let s = c.before in
     let w = s.args.w in
     let j = s.args.j in
-    let e : c.ones_of.result ≡ ones (w % 2 ^ j) = c.ones_of.ensures.0 ∙ ap (λ (y : ℕ). ones (w % y)) (bound j s.requires) in
+    let e : c.from.result ≡ ones (w % 2 ^ j) = c.from.ensures ∙ ap (λ (y : ℕ). ones (w % y)) (bound j s.requires) in
     (e, omega (arith, e, low_ones j w, total_most (bit_of w) j 0 (bit_lt w)))

@@ -1,33 +1,22 @@
--- `words::inner::put_eight`: the stores are a run of stores as they stand. Assumes nothing.
-use Prim.Native.Nat.{◌/◌, ◌%◌}
+-- `words::inner::put_eight` writes a part of the list, which is the run of stores. Assumes nothing.
+use mathlib.Core.Path.{sym, ◌∙◌, refl, ◌≡◌}
+use mathlib.Core.List.{List, ◌++◌}
+use Prim.Native.Nat.{ℕ, ◌+◌, ◌≤◌}
 use native.Mathlib.Omega.{arith}
-use lib.ListN.{length-set}
-use Rattle.words.specs.EightLaws.{eight_stores}
+use lib.ListN.{length, take, drop}
+use borrow.Rule.Slice.PartMut.{put_mid}
+use Rattle.std.proofs.Common.{append_assoc}
+use Rattle.std.proofs.lemmas.List.Edits.{sets, sets-eq, paste_all}
+use Rattle.std.proofs.lemmas.Slice.{put_mid-paste}
+use Rattle.words.specs.ByWords.{eight_bytes}
 use Rattle.words.proofs.inner.put_eight.Goals as goal
 
-pub bounds-entries-first-2 : goal.bounds-entries-first-2
-bounds-entries-first-2 c = simp length-set (omega arith)
-
-pub bounds-entries-first-3 : goal.bounds-entries-first-3
-bounds-entries-first-3 c = simp length-set (omega arith)
-
-pub bounds-entries-first-4 : goal.bounds-entries-first-4
-bounds-entries-first-4 c = simp length-set (omega arith)
-
-pub bounds-entries-first-5 : goal.bounds-entries-first-5
-bounds-entries-first-5 c = simp length-set (omega arith)
-
-pub bounds-entries-first-6 : goal.bounds-entries-first-6
-bounds-entries-first-6 c = simp length-set (omega arith)
-
-pub bounds-entries-first-7 : goal.bounds-entries-first-7
-bounds-entries-first-7 c = simp length-set (omega arith)
-
-pub bounds-entries-first-8 : goal.bounds-entries-first-8
-bounds-entries-first-8 c = simp length-set (omega arith)
+written : (xs ys vs : List ℕ) (at n k : ℕ) → ys ≡ vs → length vs ≡ n → n ≡ k → at + n ≤ length xs → put_mid at k xs ys ≡ sets xs at vs
+written xs ys vs at n k e l m h =
+    let s : sets xs at vs ≡ take at xs ++ vs ++ drop (at + length vs) xs = sets-eq vs xs at (omega arith) in
+    put_mid-paste at k xs ys vs n e m (sym l) ∙ paste_all xs at vs n (sym l) ∙ rw (s, l, append_assoc)
 
 pub returns : goal.returns
 returns c =
-    let x = c.args.x in
-    eight_stores c.args.entries.now c.args.first (x % 256) (x / 256 % 256) (x / 65536 % 256) (x / 16777216 % 256) (x / 4294967296 % 256)
-    (x / 1099511627776 % 256) (x / 281474976710656 % 256) (x / 72057594037927936 % 256)
+    let a = c.args in
+    written a.entries.now _ (eight_bytes a.x) a.first 8 _ (c.copy_from_slice.ensures.after ∙ c.to_le_bytes.ensures) refl (omega arith) (omega arith)
