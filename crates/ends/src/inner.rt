@@ -10,18 +10,18 @@ use limits::Ambient;
 use vectors::Vec3;
 
 // Fills the volume with ambient: light in coefficient 0's fourth place, 1.0 in coefficient 1's.
+#[tactic(auto, using(lists::specs::Laid::laid_next), unfolding(crate::specs::Ends::filled_of, lists::specs::Laid::laid))]
 pub fn fill(ambient: Ambient, lights: &[f32], volume: &mut [f32])
     requires { (length volume.old ≡ length lights.now * 16) × (length lights.now ≤ voxel_limit) }
     ensures { volume.new ≡ filled_of ambient lights.now }
 {
-    let mut i = 0;
-    while i < lights.len() {
-        fill_voxel(ambient, lights[i], volume, i * 16);
-        i += 1;
+    for (i, light) in lights.iter().enumerate() {
+        fill_voxel(ambient, *light, volume, i * 16);
     }
 }
 
 // After the last voxel: where any voxel is active, scratch gets the unblurred volume and the volume its mean.
+#[tactic(auto, using(marks::specs::MarksLaws::none_active_lem, marks::specs::MarksLaws::active_none))]
 pub fn finish(axes: Axes, active: &[u64], volume: &mut [f32], scratch: &mut [f32])
     requires width_nonzero { (0 < axes.width) × (0 < axes.height) × (axes.depth * axes.height * axes.width * 16 ≡ length volume.old)
         × (length scratch.old ≡ length volume.old) }
@@ -32,11 +32,12 @@ pub fn finish(axes: Axes, active: &[u64], volume: &mut [f32], scratch: &mut [f32
     if words::inner::count(active, n) == 0 {
         return;
     }
-    means::inner::copy(volume, scratch);
+    scratch.copy_from_slice(volume);
     means::inner::mean(scratch, volume, axes.width, axes.height, axes.depth);
 }
 
 // The sixteen numbers of one voxel, from the place at on.
+#[tactic(auto, unfolding(crate::specs::Ends::ambient_voxel))]
 fn fill_voxel(ambient: Ambient, light: f32, volume: &mut [f32], at: usize)
     requires { at + 16 ≤ length volume.old }
     ensures { take (at + 16) volume.new ≡ take at volume.old ++ ambient_voxel ambient light }
@@ -48,13 +49,11 @@ fn fill_voxel(ambient: Ambient, light: f32, volume: &mut [f32], at: usize)
 }
 
 // A colour and its fourth place.
+#[tactic(auto, using(std::proofs::lemmas::Slice::overwrites))]
 fn fill_coefficient(colour: Vec3, fourth: f32, volume: &mut [f32], at: usize)
     requires { at + 4 ≤ length volume.old }
     ensures { take (at + 4) volume.new
         ≡ take at volume.old ++ (colour.x ∷ colour.y ∷ colour.z ∷ fourth ∷ []) }
 {
-    volume[at] = colour.x;
-    volume[at + 1] = colour.y;
-    volume[at + 2] = colour.z;
-    volume[at + 3] = fourth;
+    volume[at..at + 4].copy_from_slice(&[colour.x, colour.y, colour.z, fourth]);
 }

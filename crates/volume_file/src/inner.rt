@@ -14,6 +14,7 @@ use names::{COEFFICIENT_LIMIT, LIGHT_LIMIT};
 use vectors::Vec3;
 
 // Whether the bytes are no volume file.
+#[tactic(auto, using(contents::proofs::ContentsLaws::headed_found, crate::proofs::Judge::to_axes, grid::specs::GridLaws::voxels_most), unfolding(crate::specs::VolumeFile::faulty))]
 pub fn is_faulty(s: &[u8]) -> bool
     ensures { result ≡ faulty s.now }
 {
@@ -37,24 +38,24 @@ pub fn offset_at(s: &[u8], i: usize) -> usize
     requires { (12 + i * 12 + 12 ≤ length s.now) × (i < 16) }
     ensures { result ≡ offset_at s.now i }
 {
-    size(bytes_le::inner::u32_at(s, 12 + i * 12 + 4))
+    bytes_le::inner::u32_at(s, 12 + i * 12 + 4) as usize
 }
 
 // The six floats of the fifth body.
+#[tactic(auto, unfolding(crate::specs::VolumeFile::corners_at))]
 pub fn corners_at(s: &[u8]) -> Corners
     requires { (72 ≤ length s.now) × (offset_at s.now 4 + 24 ≤ length s.now) }
     ensures { result ≡ corners_at s.now }
 {
     let at = offset_at(s, 4);
-    let low = vector_at(s, at);
-    let high = vector_at(s, at + 12);
     Corners {
-        min: low,
-        max: high,
+        min: vector_at(s, at),
+        max: vector_at(s, at + 12),
     }
 }
 
 // Whether a number of the bodies is bad: the corners with the axes, the light, the coefficients, the two masks.
+#[tactic(auto, unfolding(crate::specs::VolumeFile::bad_bodies, limits::specs::Limits::bad_lights, limits::specs::Limits::bad_coefficients))]
 fn bad_bodies(s: &[u8], axes: Axes, n: usize) -> bool
     requires { (72 ≤ length s.now) × AxesWithin axes × Laid s.now n × (n ≤ voxel_limit) }
     ensures { result ≡ bad_bodies s.now axes n }
@@ -68,15 +69,14 @@ fn bad_bodies(s: &[u8], axes: Axes, n: usize) -> bool
 }
 
 // Whether one of the n numbers from `at` on is not finite or beyond ±b. It goes to the end, so that several are tested at once.
+#[tactic(auto, using(crate::proofs::Scan::more, crate::proofs::Scan::all))]
 fn bad_floats(s: &[u8], at: usize, n: usize, b: f32) -> bool
     requires { at + n * 4 ≤ length s.now }
     ensures { result ≡ some (outside b) (floats_at s.now at n) }
 {
     let mut any = false;
-    let mut i: usize = 0;
-    while i < n {
-        any = any | limits::inner::out_of(b, bytes_le::inner::f32_at(s, at + i * 4));
-        i += 1;
+    for i in 0..n {
+        any |= limits::inner::out_of(b, bytes_le::inner::f32_at(s, at + i * 4));
     }
     any
 }
@@ -86,22 +86,16 @@ fn bad_mask(s: &[u8], at: usize, n: usize) -> bool
     requires { at + n ≤ length s.now }
     ensures { result ≡ bad_mask (bytes_at s.now at n) }
 {
-    let end = at + n;
-    limits::inner::bad_mask(&s[at..end])
+    limits::inner::bad_mask(&s[at..at + n])
 }
 
 fn vector_at(s: &[u8], at: usize) -> Vec3
     requires { at + 12 ≤ length s.now }
     ensures { result ≡ vector_at s.now at }
 {
-    let x = bytes_le::inner::f32_at(s, at);
-    let y = bytes_le::inner::f32_at(s, at + 4);
-    let z = bytes_le::inner::f32_at(s, at + 8);
-    Vec3 { x, y, z }
-}
-
-fn size(n: u32) -> usize
-    ensures { result ≡ n }
-{
-    n as usize
+    Vec3 {
+        x: bytes_le::inner::f32_at(s, at),
+        y: bytes_le::inner::f32_at(s, at + 4),
+        z: bytes_le::inner::f32_at(s, at + 8),
+    }
 }

@@ -1,2 +1,0 @@
--- Lists that are written a few numbers at a time.
-mod Stores
