@@ -8,191 +8,165 @@ ghost use Rattle.grid.specs.Grid.{AxesWithin, voxels};
 
 use grid::Axes;
 use limits::Lamp;
-use replay::Tally;
+use replay::{Tally, Words};
+use replay_values::Scene;
 use scan::Nearest;
 use surface::{Setting, Surface};
 use vectors::{Ray, Vec3};
-
-// Where the lists begin: points, uses, kinds, numbers, sky, lamps, active, light, volume, scratch, distances, places.
-const FROM: usize = 31;
 
 // What is asked along a ray: the nearest hit, or how much light passes.
 const NEAREST: u32 = 0;
 
 const PASSES: u32 = 1;
 
-// What was compared so far, the place of the next recorded ray, and how many rays were listed.
+// What was compared so far, the recorded rays that are left, how many rays were listed, and the voxel that they are of.
 #[derive(Clone, Copy)]
-struct Listing {
+struct Listing<'a> {
     tally: Tally,
-    at: usize,
+    left: Words<'a>,
     rays: u64,
+    voxel: usize,
+}
+
+// A bake whose lists fit each other and whose axes are within the limits.
+#[derive(Clone, Copy)]
+struct Bake<'a> {
+    values: Words<'a>,
+    axes: Axes,
+    points: &'a [f32],
+    uses: &'a [u32],
+    kinds: &'a [u8],
+    numbers: &'a [f32],
+    lamps: &'a [f32],
+    ghost sound: { Sound (scene_of points.now uses.now kinds.now numbers.now) },
+    ghost axes_within: { AxesWithin axes },
 }
 
 // ---- one ray
 
 // Whether three numbers have the recorded bits.
-fn same_vector(s: &[u8], at: usize, v: Vec3) -> bool {
-    replay::same_number(s, at, v.x)
-        & replay::same_number(s, replay::further(at, 1), v.y)
-        & replay::same_number(s, replay::further(at, 2), v.z)
+fn is_vector(w: Words, v: Vec3) -> bool {
+    w.is_number(0, v.x) & w.is_number(1, v.y) & w.is_number(2, v.z)
 }
 
 // Whether a ray has the recorded bits: origin, direction, shortest, longest.
-fn same_ray(s: &[u8], at: usize, ray: Ray) -> bool {
-    same_vector(s, at, ray.origin)
-        & same_vector(s, replay::further(at, 3), ray.direction)
-        & replay::same_number(s, replay::further(at, 6), ray.shortest)
-        & replay::same_number(s, replay::further(at, 7), ray.longest)
+fn is_ray(w: Words, ray: Ray) -> bool {
+    is_vector(w, ray.origin)
+        & is_vector(w.skip(3), ray.direction)
+        & w.is_number(6, ray.shortest)
+        & w.is_number(7, ray.longest)
 }
 
-// Holds the next ray to the next recorded one: its voxel, what is asked along it, and its eight numbers.
-fn fire(s: &[u8], listing: Listing, voxel: usize, asked: u32, ray: Ray) -> Listing {
-    let at = listing.at;
-    let whole = (replay::small(s, at) == voxel)
-        & (replay::word(s, replay::further(at, 1)) == asked);
-    let same = whole & same_ray(s, replay::further(at, 2), ray);
-    let tally = replay::held(listing.tally, same);
-    Listing {
-        tally,
-        at: replay::further(at, 10),
-        rays: more(listing.rays),
+impl<'a> Listing<'a> {
+    // Holds the next ray to the next recorded one: its voxel, what is asked along it, and its eight numbers.
+    fn fire(self, asked: u32, ray: Ray) -> Listing<'a> {
+        let recorded = self.left;
+        let same = (recorded.count(0) == self.voxel)
+            & (recorded.word(1) == asked)
+            & is_ray(recorded.skip(2), ray);
+        Listing {
+            tally: self.tally.held(same),
+            left: recorded.skip(10),
+            rays: self.rays.saturating_add(1),
+            voxel: self.voxel,
+        }
     }
-}
-
-fn more(n: u64) -> u64 {
-    if n < 4294967296 {
-        return n + 1;
-    }
-    n
 }
 
 // ---- the rays of a surface
 
 // The four rays over the hemisphere.
-fn sky_rays(
-    s: &[u8],
-    listing: Listing,
-    voxel: usize,
-    setting: Setting,
-    surface: Surface,
-) -> Listing {
+fn sky_rays<'a>(listing: Listing<'a>, setting: Setting, surface: Surface) -> Listing<'a> {
     let table = bounce::inner::hemisphere_table();
     let basis = bounce::inner::basis_of(surface.normal);
     let mut so_far = listing;
-    let mut j: usize = 0;
-    while j < 4 {
+    for j in 0..4 {
         let ray = surface::inner::sky_ray(setting, surface, basis, &table, j);
-        so_far = fire(s, so_far, voxel, PASSES, ray);
-        j += 1;
+        so_far = so_far.fire(PASSES, ray);
     }
     so_far
 }
 
 // The ray to the sun, where the sun is above the surface.
-fn sun_ray(
-    s: &[u8],
-    listing: Listing,
-    voxel: usize,
-    setting: Setting,
-    surface: Surface,
-) -> Listing {
+fn sun_ray<'a>(listing: Listing<'a>, setting: Setting, surface: Surface) -> Listing<'a> {
     if bounce::inner::slant(surface.normal, setting.toward) > 0.0 {
-        let ray = surface::inner::shadow_ray(setting, surface);
-        return fire(s, listing, voxel, PASSES, ray);
+        return listing.fire(PASSES, surface::inner::shadow_ray(setting, surface));
     }
     listing
 }
 
 // The rays to the lamps that reach the surface, in list order.
-fn lamp_rays(
-    s: &[u8],
-    listing: Listing,
-    voxel: usize,
+fn lamp_rays<'a>(
+    listing: Listing<'a>,
     lamps: &[f32],
     setting: Setting,
     surface: Surface,
-) -> Listing {
-    let n = limits::inner::lamp_count(lamps);
+) -> Listing<'a> {
     let mut so_far = listing;
-    let mut j: usize = 0;
-    while j < n {
+    for j in 0..limits::inner::lamp_count(lamps) {
         let lamp = limits::inner::lamp_at(lamps, j);
-        so_far = lamp_ray(s, so_far, voxel, setting, surface, lamp);
-        j += 1;
+        so_far = lamp_ray(so_far, setting, surface, lamp);
     }
     so_far
 }
 
 // The ray to a lamp, where the lamp reaches the surface.
-fn lamp_ray(
-    s: &[u8],
-    listing: Listing,
-    voxel: usize,
+fn lamp_ray<'a>(
+    listing: Listing<'a>,
     setting: Setting,
     surface: Surface,
     lamp: Lamp,
-) -> Listing {
+) -> Listing<'a> {
     let way = bounce::inner::way_to(surface.point, lamp.position);
     if bounce::inner::unlit(surface.normal, way) {
         return listing;
     }
-    let ray = surface::inner::lamp_ray(setting, surface, way);
-    fire(s, listing, voxel, PASSES, ray)
+    listing.fire(PASSES, surface::inner::lamp_ray(setting, surface, way))
 }
 
 // None where the surface is black; else to the sun, over the hemisphere and to the lamps, in this order.
-fn surface_rays(
-    s: &[u8],
-    listing: Listing,
-    voxel: usize,
+fn surface_rays<'a>(
+    listing: Listing<'a>,
     lamps: &[f32],
     setting: Setting,
     surface: Surface,
-) -> Listing {
+) -> Listing<'a> {
     if bounce::inner::black(surface.albedo, surface.emissive) {
         return listing;
     }
-    let sun = sun_ray(s, listing, voxel, setting, surface);
-    let sky = sky_rays(s, sun, voxel, setting, surface);
-    lamp_rays(s, sky, voxel, lamps, setting, surface)
+    let sun = sun_ray(listing, setting, surface);
+    let sky = sky_rays(sun, setting, surface);
+    lamp_rays(sky, lamps, setting, surface)
 }
 
 // ---- the rays of a voxel
 
 // The primary ray along a direction, and the rays of the surface that it meets.
-fn along(
-    s: &[u8],
-    listing: Listing,
-    voxel: usize,
-    points: &[f32],
-    uses: &[u32],
-    kinds: &[u8],
-    numbers: &[f32],
-    lamps: &[f32],
+#[tactic(auto, using(gather::specs::GatherLaws::place_below))]
+fn along<'a>(
+    listing: Listing<'a>,
+    bake: Bake,
     setting: Setting,
     centre: Vec3,
     direction: Vec3,
-) -> Listing
-    requires { Sound (scene_of points.now uses.now kinds.now numbers.now) }
-{
+) -> Listing<'a> {
     let ray = gather::inner::primary_ray(setting, centre, direction);
-    let first = fire(s, listing, voxel, NEAREST, ray);
-    let found = scan::inner::nearest(points, uses, kinds, numbers, ray);
+    let first = listing.fire(NEAREST, ray);
+    let found = scan::inner::nearest(bake.points, bake.uses, bake.kinds, bake.numbers, ray);
     match found {
         Nearest::Nothing => first,
         Nearest::At(place, distance, _, _, _) => {
             let surface = surface::inner::surface_at(
-                points,
-                uses,
-                kinds,
-                numbers,
+                bake.points,
+                bake.uses,
+                bake.kinds,
+                bake.numbers,
                 ray,
                 place,
                 distance,
                 setting.biases.hit,
             );
-            surface_rays(s, first, voxel, lamps, setting, surface)
+            surface_rays(first, bake.lamps, setting, surface)
         }
     }
 }
@@ -210,31 +184,20 @@ fn direction_at(table: &[f32; 1728], k: usize) -> Vec3
 }
 
 // Along the 64 directions of a set.
-fn along_all(
-    s: &[u8],
-    listing: Listing,
-    voxel: usize,
-    points: &[f32],
-    uses: &[u32],
-    kinds: &[u8],
-    numbers: &[f32],
-    lamps: &[f32],
+fn along_all<'a>(
+    listing: Listing<'a>,
+    bake: Bake,
     setting: Setting,
     centre: Vec3,
     table: &[f32; 1728],
     set: usize,
-) -> Listing
-    requires sound { Sound (scene_of points.now uses.now kinds.now numbers.now) }
-    requires set_bound { set < 9 }
+) -> Listing<'a>
+    requires { set < 9 }
 {
     let mut so_far = listing;
-    let mut k: usize = 0;
-    while k < 64 {
+    for k in 0..64 {
         let direction = direction_at(table, set * 64 + k);
-        so_far = along(
-            s, so_far, voxel, points, uses, kinds, numbers, lamps, setting, centre, direction,
-        );
-        k += 1;
+        so_far = along(so_far, bake, setting, centre, direction);
     }
     so_far
 }
@@ -248,106 +211,82 @@ fn set_at(axes: Axes, i: usize) -> usize
     directions::set_of_voxel(i % axes.width, row % axes.height, row / axes.height)
 }
 
-fn voxel_rays(
-    s: &[u8],
-    listing: Listing,
-    axes: Axes,
-    points: &[f32],
-    uses: &[u32],
-    kinds: &[u8],
-    numbers: &[f32],
-    lamps: &[f32],
-    table: &[f32; 1728],
-    i: usize,
-) -> Listing
-    requires sound { Sound (scene_of points.now uses.now kinds.now numbers.now) }
-    requires axes_within { AxesWithin axes }
-    requires i_bound { i < voxels axes }
+fn voxel_rays<'a>(listing: Listing<'a>, bake: Bake, table: &[f32; 1728], i: usize) -> Listing<'a>
+    requires { i < voxels bake.axes }
 {
-    let corners = replay_values::corners(s, 7);
-    let edges = grid::inner::edges(corners, axes);
+    let corners = replay_values::corners(bake.values.skip(7));
+    let edges = grid::inner::edges(corners, bake.axes);
     let setting = gather::inner::setting_of(
         edges,
-        replay_values::light(s, 13),
-        replay_values::ambient(s, 19),
+        replay_values::light(bake.values.skip(13)),
+        replay_values::ambient(bake.values.skip(19)),
     );
-    let centre = grid::inner::centre_of(corners.min, axes, edges, i);
-    let set = set_at(axes, i);
-    along_all(
-        s, listing, i, points, uses, kinds, numbers, lamps, setting, centre, table, set,
-    )
+    let centre = grid::inner::centre_of(corners.min, bake.axes, edges, i);
+    let set = set_at(bake.axes, i);
+    let voxel = Listing {
+        voxel: i,
+        ..listing
+    };
+    along_all(voxel, bake, setting, centre, table, set)
 }
 
 // ---- the rays of a bake
 
 // Whether voxel i is active.
-fn marked(active: &[u64], i: usize) -> bool {
-    if i / 64 < active.len() {
-        return (active[i / 64] >> (i % 64)) % 2 == 1;
-    }
-    false
+fn is_marked(active: &[u64], i: usize) -> bool {
+    active
+        .get(i / 64)
+        .is_some_and(|word| (*word >> (i % 64)) & 1 == 1)
 }
 
 // The active voxels, in the order of their indices.
-fn all_rays(
-    s: &[u8],
-    listing: Listing,
-    axes: Axes,
-    points: &[f32],
-    uses: &[u32],
-    kinds: &[u8],
-    numbers: &[f32],
-    lamps: &[f32],
-    active: &[u64],
-) -> Listing
-    requires sound { Sound (scene_of points.now uses.now kinds.now numbers.now) }
-    requires axes_within { AxesWithin axes }
-{
+fn all_rays<'a>(listing: Listing<'a>, bake: Bake, active: &[u64]) -> Listing<'a> {
     let table = directions::table();
-    let n = grid::inner::voxel_count(axes);
     let mut so_far = listing;
-    let mut i: usize = 0;
-    while i < n {
-        if marked(active, i) {
-            so_far = voxel_rays(
-                s, so_far, axes, points, uses, kinds, numbers, lamps, &table, i,
-            );
+    for i in 0..grid::inner::voxel_count(bake.axes) {
+        if is_marked(active, i) {
+            so_far = voxel_rays(so_far, bake, &table, i);
         }
-        i += 1;
     }
     so_far
 }
 
-// Holds the port's rays to the recorded ones, and their number. A scene whose lists do not fit is no such record.
+// Holds the port's rays to the recorded ones, which stand behind their number, and their number. A scene whose lists do not fit is no such record.
 pub fn listed(
-    s: &[u8],
+    values: Words,
+    recorded: Words,
     t: Tally,
-    points: &[f32],
-    uses: &[u32],
-    kinds: &[u8],
-    numbers: &[f32],
+    scene: Scene,
     lamps: &[f32],
     active: &[u64],
 ) -> Tally {
-    let axes = replay_values::axes(s, 1);
-    if limits::inner::bad_axes(axes) {
-        return replay::held(t, false);
+    let axes = replay_values::axes(values.skip(1));
+    let points = scene.points;
+    let uses = scene.uses;
+    let kinds = scene.kinds;
+    let numbers = scene.numbers;
+    if limits::inner::bad_axes(axes)
+        || limits::inner::wrong_scene(points, uses, kinds, numbers)
+        || limits::inner::too_many(uses.len(), kinds.len())
+        || limits::inner::bad_materials_for(false, uses, kinds, numbers)
+    {
+        return t.held(false);
     }
-    if limits::inner::wrong_scene(points, uses, kinds, numbers) {
-        return replay::held(t, false);
-    }
-    if limits::inner::too_many(uses.len(), kinds.len()) {
-        return replay::held(t, false);
-    }
-    if limits::inner::bad_materials_for(false, uses, kinds, numbers) {
-        return replay::held(t, false);
-    }
-    let from = replay::nth(s, FROM, 12);
+    let bake = Bake {
+        values,
+        axes,
+        points,
+        uses,
+        kinds,
+        numbers,
+        lamps,
+    };
     let start = Listing {
         tally: t,
-        at: replay::further(from, 1),
+        left: recorded.skip(1),
         rays: 0,
+        voxel: 0,
     };
-    let done = all_rays(s, start, axes, points, uses, kinds, numbers, lamps, active);
-    replay::held(done.tally, done.rays == replay::half(s, from))
+    let done = all_rays(start, bake, active);
+    done.tally.held(done.rays == u64::from(recorded.word(0)))
 }
