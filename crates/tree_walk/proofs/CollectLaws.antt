@@ -1,6 +1,6 @@
 -- What passes after the hits that were collected of a list of places, each present triangle once among them, is the transmittance over the boxed triangles; a walk through an accepted tree goes
 -- through such a list. Assumes nothing.
-use Rattle.std.specs.Prelude.{◌≡◌, Bool, get_or, Float}
+use Rattle.std.specs.Prelude.{Option, None, Some, ◌≡◌, Bool, get_or, Float}
 use Rattle.std.proofs.Math.Path.{refl, sym, ap, subst}
 use Rattle.std.proofs.Common.{◌∙◌, arith}
 use Rattle.std.proofs.Math.Bool.{true, false, cond}
@@ -11,8 +11,7 @@ use Rattle.std.proofs.Math.ListN.{length}
 use Rattle.names.specs.Bits.{zero32, one32}
 use Rattle.names.specs.Scene.{Scene, Sound, hit_room, HitsFit}
 use Rattle.vectors.specs.declared.Ray.{Ray}
-use Rattle.triangle.specs.declared.Meet.{Meet}
-use Rattle.triangle.specs.declared.Meet.TheVariants.{Miss, Hit}
+use Rattle.triangle.specs.declared.Hit.{Hit}
 use Rattle.panels.specs.Panels.{kind_at, stops_light}
 use Rattle.hits.specs.Hits.{Struck, struck, insert_of, with_meet, places_of}
 use Rattle.hits.proofs.HitLaws.{put_here, put_kept, places_below}
@@ -69,7 +68,7 @@ node_dark points uses kinds ray boxes nodes order levels i = node_still (collect
 -- ---- what is collected, beside the hits in order
 
 -- a miss adds nothing
-pub collect_missed : (uses kinds : List ℕ) (c : Collected) (i : ℕ) (m : Meet) → m ≡ Miss → collect_meet uses kinds c i m ≡ c
+pub collect_missed : (uses kinds : List ℕ) (c : Collected) (i : ℕ) (m : Option Hit) → m ≡ None → collect_meet uses kinds c i m ≡ c
 unfolding collect_meet
 collect_missed uses kinds dark i m e = refl
 collect_missed uses kinds (came hs) i m e = rw e refl
@@ -84,19 +83,19 @@ module _ (uses kinds : List ℕ) where
   CollectedOf dark hs = (h : Struck) × Memᴰ h hs × (stops_light (kind_at uses kinds h.place) ≡ true)
   CollectedOf (came gs) hs = (hs ≡ sort_of gs) × NoneOpaque uses kinds hs × Numbers gs
 
-  pub meet_kept : (c : Collected) (hs : List Struck) (i : ℕ) (m : Meet) → NumberMeet m → CollectedOf c hs → CollectedOf (collect_meet uses kinds c i m) (with_meet hs i m)
+  pub meet_kept : (c : Collected) (hs : List Struck) (i : ℕ) (m : Option Hit) → NumberMeet m → CollectedOf c hs → CollectedOf (collect_meet uses kinds c i m) (with_meet hs i m)
   unfolding collect_meet with_meet
-  meet_kept dark hs i Miss n r = r
-  meet_kept dark hs i (Hit t u v front) n r = (r.0, put_kept (struck t i) hs r.1, r.2)
-  meet_kept (came gs) hs i Miss n r = r
-  meet_kept (came gs) hs i (Hit t u v front) n r = by (stops_light (kind_at uses kinds i)) refl
+  meet_kept dark hs i None n r = r
+  meet_kept dark hs i (Some h) n r = (r.0, put_kept (struck h.t i) hs r.1, r.2)
+  meet_kept (came gs) hs i None n r = r
+  meet_kept (came gs) hs i (Some h) n r = by (stops_light (kind_at uses kinds i)) refl
     where
-      by : (b : Bool) → stops_light (kind_at uses kinds i) ≡ b → CollectedOf (cond b dark (came (gs ++ (struck t i ∷ [])))) (insert_of (struck t i) hs)
-      by true e = (struck t i, put_here (struck t i) hs, e)
+      by : (b : Bool) → stops_light (kind_at uses kinds i) ≡ b → CollectedOf (cond b dark (came (gs ++ (struck h.t i ∷ [])))) (insert_of (struck h.t i) hs)
+      by true e = (struck h.t i, put_here (struck h.t i) hs, e)
       by false e = (
-        ap (insert_of (struck t i)) r.0 ∙ sym (insert_last (struck t i) gs),
-        none_opaque_put uses kinds (struck t i) hs e r.1,
-        numbers_append gs (struck t i ∷ []) r.2 (n, tt),
+        ap (insert_of (struck h.t i)) r.0 ∙ sym (insert_last (struck h.t i) gs),
+        none_opaque_put uses kinds (struck h.t i) hs e r.1,
+        numbers_append gs (struck h.t i ∷ []) r.2 (n, tt),
       )
 
 module _ (scene : Scene) where

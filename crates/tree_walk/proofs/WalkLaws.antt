@@ -1,7 +1,7 @@
 -- "For any accepted tree, nearest hit and transmittance equal the plain scan over the triangles whose own padded box is not passed over, ties by place as before."
 -- A box that is passed over may be left out, since then every triangle's own box under it is passed over; the others come in the order of the tree, and the order
 -- does not matter; each present triangle comes once. So two accepted trees of one scene give the same answers. Assumes nothing.
-use Rattle.std.specs.Prelude.{◌≡◌, Bool, length, Float}
+use Rattle.std.specs.Prelude.{None, ◌≡◌, Bool, length, Float}
 use Rattle.std.proofs.Math.Path.{refl, sym, ap}
 use Rattle.std.proofs.Common.{◌∙◌, arith}
 use Rattle.std.proofs.Math.Bool.{true, false, cond}
@@ -14,7 +14,6 @@ use Rattle.names.specs.Scene.{Scene, Sound}
 use Rattle.vectors.specs.declared.Ray.{Ray}
 use Rattle.scan.specs.Transmittance.{transmittance_of}
 use Rattle.panels.specs.Panels.{own_passed}
-use Rattle.scan.specs.declared.Nearest.TheVariants.{Nothing}
 use Rattle.boxes.specs.Boxes.{bounds_at, passed_over}
 use Rattle.tree.specs.Tree.{box_count, count_at, inner_at, left_at, right_at, place_at, AcceptedTree}
 use Rattle.tree.specs.SumLaws.{positive}
@@ -123,7 +122,7 @@ module _ (scene : Scene) (sound : Sound scene) (boxes : List Float) (nodes order
   unfolding nearest_through
   walk_nearest ray =
       walk_listed scene.points boxes nodes order t ray (nearest_step scene.points scene.uses scene.kinds ray)
-      (λ b p h. nearer_missed b p (boxed_meet_at scene ray p) (boxed_over scene ray p h)) Nothing
+      (λ b p h. nearer_missed b p (boxed_meet_at scene ray p) (boxed_over scene ray p h)) None
       ∙ listed_nearest scene sound (tree_places nodes order) (tree_once scene.points boxes nodes order t) ray
 
   -- the hits

@@ -1,6 +1,6 @@
 -- Boxed scans computed, over the two sheets of tree's figures, at z = 0 and z = 1: a ray down through both, and a ray up from z = 3/2 whose distances reach back below zero. There
 -- the full scan hits both sheets behind the origin; their own padded boxes are passed over, so the boxed scan hits nothing: such triangles are the request's differences.
-use Rattle.std.specs.Prelude.{◌≡◌, refl, [], ◌∷◌, ◌++◌, ℕ, suc, Float}
+use Rattle.std.specs.Prelude.{Option, None, Some, ◌≡◌, refl, [], ◌∷◌, ◌++◌, ℕ, suc, Float}
 use Rattle.std.specs.Float.Ieee as Ieee
 use Rattle.names.specs.Bits.{lit, zero32, quarter32, half32, one32, two32}
 use Rattle.names.specs.Scene.{Scene, scene_of}
@@ -12,8 +12,7 @@ use Rattle.triangle.specs.Places.{triangle_at}
 use Rattle.panels.specs.Panels.{counts, counted_of, met_at, own_passed, met_by}
 use Rattle.hits.specs.Hits.{before, insert_of, with_meet, hits_of, places_of}
 use Rattle.scan.specs.Nearest.{beats, nearer_of, nearest_to, nearest_of}
-use Rattle.scan.specs.declared.Nearest.{Nearest}
-use Rattle.scan.specs.declared.Nearest.TheVariants.{Nothing, At}
+use Rattle.scan.specs.declared.PlacedHit.{PlacedHit}
 use Rattle.boxes.specs.Boxes.{padded_of, beyond, passed_over}
 use Rattle.tree.specs.TreeFigures.{raised_to}
 use Rattle.tree_walk.specs.Boxed.{nearest_boxed, hits_boxed}
@@ -34,9 +33,9 @@ abbrev up : Ray
 up = along_z one32 (lit 0xc0000000)
 
 -- 0 for nothing, else one more than the place
-abbrev told : Nearest → ℕ
-told Nothing = 0
-told (At i t u v front) = suc i
+abbrev told : Option PlacedHit → ℕ
+told None = 0
+told (Some best) = suc best.place
 
 -- down: the upper sheet is the nearer, and both are hit, the upper first
 pub down_boxed : told (nearest_of sheets down) ∷ told (nearest_boxed sheets down) ∷ places_of (hits_boxed sheets down 2) ≡ 2 ∷ 2 ∷ 1 ∷ 0 ∷ []

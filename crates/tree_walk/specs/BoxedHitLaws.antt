@@ -1,13 +1,12 @@
 -- The hits of a scan through boxes are those of the scan without, in their order, but for the triangles whose own padded box is passed over. Assumes nothing.
-use Rattle.std.specs.Prelude.{◌≡◌, Bool, ℕ, zero, suc, Float}
+use Rattle.std.specs.Prelude.{Option, None, Some, ◌≡◌, Bool, ℕ, zero, suc, Float}
 use Rattle.std.proofs.Math.Path.{refl}
 use Rattle.std.proofs.Common.{sym, ap, ◌∙◌}
 use Rattle.std.proofs.Math.Bool.{true, false, cond}
 use mathlib.Core.List.{List, [], ◌∷◌, Memᴰ}
 use Rattle.names.specs.Scene.{Scene}
 use Rattle.vectors.specs.declared.Ray.{Ray}
-use Rattle.triangle.specs.declared.Meet.{Meet}
-use Rattle.triangle.specs.declared.Meet.TheVariants.{Miss, Hit}
+use Rattle.triangle.specs.declared.Hit.{Hit}
 use Rattle.panels.specs.Panels.{own_passed, meet_at}
 use Rattle.hits.specs.Hits.{Struck, struck, before, insert_of, with_meet, hits_of}
 use Rattle.hits.specs.BeforeLaws.{before_trans}
@@ -65,9 +64,9 @@ unfolding hits_of with_meet not_passed
 boxed_hits scene ray zero = refl
 boxed_hits scene ray (suc n) = by (meet_at (plain_of scene) ray n) (own_passed scene.points ray n) refl refl (boxed_hits scene ray n)
   where
-    by : (m : Meet) (b : Bool) → meet_at (plain_of scene) ray n ≡ m → own_passed scene.points ray n ≡ b → hits_boxed scene ray n ≡ not_passed scene.points ray (hits_of (plain_of scene) ray n)
+    by : (m : Option Hit) (b : Bool) → meet_at (plain_of scene) ray n ≡ m → own_passed scene.points ray n ≡ b → hits_boxed scene ray n ≡ not_passed scene.points ray (hits_of (plain_of scene) ray n)
         → with_meet (hits_boxed scene ray n) n (boxed_meet_at scene ray n) ≡ not_passed scene.points ray (with_meet (hits_of (plain_of scene) ray n) n m)
-    by Miss b e o r = rw (boxed_missed scene ray n e) r
-    by (Hit t u v front) true e o r = rw (boxed_over scene ray n o) (r ∙ sym (left_out scene.points ray (struck t n) o (hits_of (plain_of scene) ray n)))
-    by (Hit t u v front) false e o r =
-        rw (boxed_met scene ray n o, e) (ap (insert_of (struck t n)) r ∙ kept_in scene.points ray (struck t n) o (hits_of (plain_of scene) ray n) (hits_sorted (plain_of scene) ray n))
+    by None b e o r = rw (boxed_missed scene ray n e) r
+    by (Some h) true e o r = rw (boxed_over scene ray n o) (r ∙ sym (left_out scene.points ray (struck h.t n) o (hits_of (plain_of scene) ray n)))
+    by (Some h) false e o r =
+        rw (boxed_met scene ray n o, e) (ap (insert_of (struck h.t n)) r ∙ kept_in scene.points ray (struck h.t n) o (hits_of (plain_of scene) ray n) (hits_sorted (plain_of scene) ray n))

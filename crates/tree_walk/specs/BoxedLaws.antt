@@ -1,6 +1,6 @@
 -- What a scan through boxes meets: a hit's distance is a number; nothing of an absent triangle; and where no hit's own padded box is passed over, what the scan
 -- without boxes meets, so that every old answer stands. What its nearest hit is the laws of any scene say. Assumes nothing.
-use Rattle.std.specs.Prelude.{◌≡◌, Bool, length, Float}
+use Rattle.std.specs.Prelude.{Option, None, Some, ◌≡◌, Bool, length}
 use Rattle.std.proofs.Math.Path.{refl, ap}
 use Rattle.std.proofs.Common.{sym, ◌∙◌, arith, lt-ltb}
 use Rattle.std.proofs.Math.Bool.{true, false, not}
@@ -11,8 +11,7 @@ use Rattle.vectors.specs.declared.Ray.{Ray}
 use Rattle.triangle.specs.Meet.{absent_of}
 use Rattle.triangle.specs.Laws.{absent_missed}
 use Rattle.triangle.specs.Places.{triangle_at}
-use Rattle.triangle.specs.declared.Meet.{Meet}
-use Rattle.triangle.specs.declared.Meet.TheVariants.{Miss, Hit}
+use Rattle.triangle.specs.declared.Hit.{Hit}
 use Rattle.panels.specs.Panels.{own_passed, met_by, meet_at}
 use Rattle.panels.specs.PanelLaws.{missed_at, by_missed, by_list}
 use Rattle.hits.specs.Hits.{hits_of}
@@ -26,7 +25,7 @@ use Rattle.tree_walk.specs.SwapLaws.{NumberMeet}
 module _ (scene : Scene) (ray : Ray) where
   -- ---- one triangle
 
-  pub boxed_over : (i : ℕ) → own_passed scene.points ray i ≡ true → boxed_meet_at scene ray i ≡ Miss
+  pub boxed_over : (i : ℕ) → own_passed scene.points ray i ≡ true → boxed_meet_at scene ray i ≡ None
   unfolding met_by
   boxed_over i h = rw h refl
 
@@ -37,15 +36,15 @@ module _ (scene : Scene) (ray : Ray) where
   pub boxed_number : (i : ℕ) → NumberMeet (boxed_meet_at scene ray i)
   boxed_number i = by (boxed_meet_at scene ray i) refl
     where
-      by : (m : Meet) → boxed_meet_at scene ray i ≡ m → NumberMeet m
-      by Miss e = tt
-      by (Hit t u v front) e = hit_number true scene.points scene.uses scene.kinds ray i t u v front e
+      by : (m : Option Hit) → boxed_meet_at scene ray i ≡ m → NumberMeet m
+      by None e = tt
+      by (Some h) e = hit_number true scene.points scene.uses scene.kinds ray i h e
 
-  pub boxed_missed : (i : ℕ) → meet_at (plain_of scene) ray i ≡ Miss → boxed_meet_at scene ray i ≡ Miss
+  pub boxed_missed : (i : ℕ) → meet_at (plain_of scene) ray i ≡ None → boxed_meet_at scene ray i ≡ None
   boxed_missed i e = by_missed true scene.points scene.uses scene.kinds ray i (sym (by_list scene.points scene.uses scene.kinds ray i) ∙ e)
 
   -- an absent triangle is met nowhere
-  pub boxed_absent : (i : ℕ) → i < length scene.points / 9 → present_at scene.points i ≡ false → boxed_meet_at scene ray i ≡ Miss
+  pub boxed_absent : (i : ℕ) → i < length scene.points / 9 → present_at scene.points i ≡ false → boxed_meet_at scene ray i ≡ None
   unfolding present_at
   boxed_absent i h e =
       by_missed true scene.points scene.uses scene.kinds ray i (missed_at scene.points scene.uses scene.kinds ray i
@@ -59,16 +58,16 @@ module _ (scene : Scene) (ray : Ray) where
 
   -- a triangle that the full scan hits and whose own padded box is passed over: the request's differences
   abbrev pub LeftOut : ℕ → Type 0
-  LeftOut i = (t : Float) × (u : Float) × (v : Float) × (front : Bool) × (meet_at (plain_of scene) ray i ≡ Hit t u v front) × (own_passed scene.points ray i ≡ true)
+  LeftOut i = (h : Hit) × (meet_at (plain_of scene) ray i ≡ Some h) × (own_passed scene.points ray i ≡ true)
 
   -- where it is none of those, a triangle is met as before
   pub boxed_same : (i : ℕ) → (LeftOut i → ⊥) → boxed_meet_at scene ray i ≡ meet_at (plain_of scene) ray i
   boxed_same i none = by (own_passed scene.points ray i) (meet_at (plain_of scene) ray i) refl refl
     where
-      by : (b : Bool) (m : Meet) → own_passed scene.points ray i ≡ b → meet_at (plain_of scene) ray i ≡ m → boxed_meet_at scene ray i ≡ meet_at (plain_of scene) ray i
+      by : (b : Bool) (m : Option Hit) → own_passed scene.points ray i ≡ b → meet_at (plain_of scene) ray i ≡ m → boxed_meet_at scene ray i ≡ meet_at (plain_of scene) ray i
       by false m h e = boxed_met i h
-      by true Miss h e = boxed_missed i e ∙ sym e
-      by true (Hit t u v front) h e = absurd (none (t, u, v, front, e, h))
+      by true None h e = boxed_missed i e ∙ sym e
+      by true (Some k) h e = absurd (none (k, e, h))
 
   nearest_same_to : (n : ℕ) → ((i : ℕ) → i < n → LeftOut i → ⊥) → nearest_boxed_to scene ray n ≡ nearest_to (plain_of scene) ray n
   unfolding nearest_to

@@ -1,16 +1,14 @@
 -- A list in which each present triangle of a scene stands once, and no other place: going through it, in whatever order it has, comes to the scan over the triangles whose own padded box is not
 -- passed over. Assumes nothing.
-use Rattle.std.specs.Prelude.{◌≡◌, refl, Bool, true, false, List, [], ℕ, zero, suc, ◌≤◌, length}
+use Rattle.std.specs.Prelude.{Option, None, ◌≡◌, refl, Bool, true, false, List, [], ℕ, zero, suc, ◌≤◌, length}
 use Rattle.std.proofs.Common.{ap, ◌∙◌, arith}
 use Rattle.names.specs.Scene.{Scene, Sound}
 use Rattle.vectors.specs.declared.Ray.{Ray}
-use Rattle.triangle.specs.declared.Meet.{Meet}
-use Rattle.triangle.specs.declared.Meet.TheVariants.{Miss}
+use Rattle.triangle.specs.declared.Hit.{Hit}
 use Rattle.hits.specs.Hits.{Struck, with_meet, hits_of}
 use Rattle.hits.specs.Merge.{Numbers}
 use Rattle.scan.specs.Nearest.{nearer_of, nearest_to, nearest_of}
-use Rattle.scan.specs.declared.Nearest.{Nearest}
-use Rattle.scan.specs.declared.Nearest.TheVariants.{Nothing}
+use Rattle.scan.specs.declared.PlacedHit.{PlacedHit}
 use Rattle.tree.specs.Tree.{present_at, one, sum_to}
 use Rattle.tree.specs.SumLaws.{one_most, sum_less, sum_ones}
 use Rattle.tree.proofs.TestLaws.{present_within}
@@ -22,18 +20,18 @@ use Rattle.tree_walk.specs.UnderLaws.{length_stands}
 
 -- ---- what is missed adds nothing, and the scan is going through all places
 
-pub nearer_missed : (b : Nearest) (i : ℕ) (m : Meet) → m ≡ Miss → nearer_of b i m ≡ b
+pub nearer_missed : (b : Option PlacedHit) (i : ℕ) (m : Option Hit) → m ≡ None → nearer_of b i m ≡ b
 unfolding nearer_of
 nearer_missed b i m e = rw e refl
 
-pub hits_missed : (hs : List Struck) (i : ℕ) (m : Meet) → m ≡ Miss → with_meet hs i m ≡ hs
+pub hits_missed : (hs : List Struck) (i : ℕ) (m : Option Hit) → m ≡ None → with_meet hs i m ≡ hs
 unfolding with_meet
 hits_missed hs i m e = rw e refl
 
-nearest_scan : (scene : Scene) (ray : Ray) (n : ℕ) → scan_from (nearest_step scene.points scene.uses scene.kinds ray) Nothing n ≡ nearest_boxed_to scene ray n
+nearest_scan : (scene : Scene) (ray : Ray) (n : ℕ) → scan_from (nearest_step scene.points scene.uses scene.kinds ray) None n ≡ nearest_boxed_to scene ray n
 unfolding nearest_to
 nearest_scan scene ray zero = refl
-nearest_scan scene ray (suc n) = ap (λ (b : Nearest). nearer_of b n (boxed_meet_at scene ray n)) (nearest_scan scene ray n)
+nearest_scan scene ray (suc n) = ap (λ (b : Option PlacedHit). nearer_of b n (boxed_meet_at scene ray n)) (nearest_scan scene ray n)
 
 hits_scan : (scene : Scene) (ray : Ray) (n : ℕ) → scan_from (hits_step scene.points scene.uses scene.kinds ray) [] n ≡ hits_boxed scene ray n
 unfolding hits_of
@@ -59,13 +57,13 @@ module _ (scene : Scene) (sound : Sound scene) (l : List ℕ) (once : (p : ℕ) 
       omega (arith, sum_ones n)
 
   module _ (ray : Ray) where
-    pub listed_nearest : fold_of (nearest_step scene.points scene.uses scene.kinds ray) Nothing l ≡ nearest_boxed scene ray
+    pub listed_nearest : fold_of (nearest_step scene.points scene.uses scene.kinds ray) None l ≡ nearest_boxed scene ray
     unfolding nearest_of
     listed_nearest =
         fold_scan (nearest_step scene.points scene.uses scene.kinds ray) NumberHeld
         (λ b i h. nearer_number b i (boxed_meet_at scene ray i) h (boxed_number scene ray i))
         (λ b i j h d. nearer_swap b i j (boxed_meet_at scene ray i) (boxed_meet_at scene ray j) h (boxed_number scene ray i) (boxed_number scene ray j) d)
-        (present_at scene.points) Nothing tt (length scene.uses)
+        (present_at scene.points) None tt (length scene.uses)
         (λ b p h e. nearer_missed b p (boxed_meet_at scene ray p) (boxed_absent scene ray p (omega (arith, sound.points)) e))
         l (λ p h. once p) none_past
         ∙ nearest_scan scene ray (length scene.uses)

@@ -1,6 +1,6 @@
 -- What a triangle adds does not depend on which came before: two triangles may be asked in either order, for the nearest hit and for the hits, where the distances
 -- that are held are numbers. Assumes nothing.
-use Rattle.std.specs.Prelude.{◌≡◌, Bool, ◌||◌, ◌&&◌, ℕ, ltb, Float}
+use Rattle.std.specs.Prelude.{Option, None, Some, ◌≡◌, Bool, ◌||◌, ◌&&◌, ℕ, ltb, Float}
 use Rattle.std.proofs.Math.Path.{refl}
 use Rattle.std.proofs.Common.{sym, ◌∙◌, arith, lt-ltb, le-ltb, ltb-true, ltb-false}
 use Rattle.std.proofs.Math.Bool.{true, false, cond, and-eq-true_iff}
@@ -9,25 +9,23 @@ use mathlib.Core.List.{List, [], ◌∷◌}
 use Rattle.std.proofs.Math.Arith.{lt_of_le-ne}
 use Rattle.std.specs.Float.Ieee.{lt, eq, is_nan}
 use Rattle.floats.specs.OrderLaws.{lt_asymmetric, lt_transitive, eq_symmetric, eq_not_lt}
-use Rattle.triangle.specs.declared.Meet.{Meet}
-use Rattle.triangle.specs.declared.Meet.TheVariants.{Miss, Hit}
+use Rattle.triangle.specs.declared.Hit.{Hit}
 use Rattle.hits.specs.Hits.{Struck, struck, before, insert_of, with_meet}
 use Rattle.hits.specs.Merge.{Numbers}
 use Rattle.hits.specs.Order.{lt_eq, eq_lt, eq_transitive, otherwise_below}
 use Rattle.hits.specs.BeforeLaws.{before_trans}
-use Rattle.scan.specs.Nearest.{beats, nearer_of}
-use Rattle.scan.specs.declared.Nearest.{Nearest}
-use Rattle.scan.specs.declared.Nearest.TheVariants.{Nothing, At}
+use Rattle.scan.specs.Nearest.{placed, beats, nearer_of}
+use Rattle.scan.specs.declared.PlacedHit.{PlacedHit}
 
 -- a meeting's distance is a number, if it is a hit
-abbrev pub NumberMeet : Meet → Type 0
-NumberMeet Miss = Unit {0}
-NumberMeet (Hit t u v front) = is_nan t ≡ false
+abbrev pub NumberMeet : Option Hit → Type 0
+NumberMeet None = Unit {0}
+NumberMeet (Some h) = is_nan h.t ≡ false
 
 -- and what is held
-abbrev pub NumberHeld : Nearest → Type 0
-NumberHeld Nothing = Unit {0}
-NumberHeld (At i t u v front) = is_nan t ≡ false
+abbrev pub NumberHeld : Option PlacedHit → Type 0
+NumberHeld None = Unit {0}
+NumberHeld (Some best) = is_nan best.hit.t ≡ false
 
 -- ---- by distance, and at equal distances by an order of places
 
@@ -109,14 +107,14 @@ against true f = sym (f refl)
 against false f = refl
 
 -- the better of two, either way round
-one_better : (r s : Bool) (x y : Nearest) → (r ≡ true → s ≡ false) → (r ≡ false → s ≡ true) → cond r y x ≡ cond s x y
+one_better : (r s : Bool) (x y : Option PlacedHit) → (r ≡ true → s ≡ false) → (r ≡ false → s ≡ true) → cond r y x ≡ cond s x y
 one_better true true x y a b = absurd (false≢true (sym (a refl)))
 one_better true false x y a b = refl
 one_better false true x y a b = refl
 one_better false false x y a b = absurd (false≢true (b refl))
 
 -- the best of three: p and q say whether x and y beat z, r whether y beats x, s whether x beats y
-best_of : (p q r s : Bool) (x y z : Nearest) → (r ≡ true → s ≡ false) → (r ≡ false → s ≡ true) → (p ≡ true → q ≡ false → r ≡ false) → (p ≡ false → q ≡ true → s ≡ false)
+best_of : (p q r s : Bool) (x y z : Option PlacedHit) → (r ≡ true → s ≡ false) → (r ≡ false → s ≡ true) → (p ≡ true → q ≡ false → r ≡ false) → (p ≡ false → q ≡ true → s ≡ false)
     → cond p (cond r y x) (cond q y z) ≡ cond q (cond s x y) (cond p x z)
 best_of true true r s x y z a b c d = one_better r s x y a b
 best_of true false true s x y z a b c d = absurd (false≢true (sym (c refl refl)))
@@ -125,33 +123,37 @@ best_of false true r true x y z a b c d = absurd (false≢true (sym (d refl refl
 best_of false true r false x y z a b c d = refl
 best_of false false r s x y z a b c d = refl
 
-nearer_cond : (c : Bool) (x y : Nearest) (i : ℕ) (m : Meet) → nearer_of (cond c x y) i m ≡ cond c (nearer_of x i m) (nearer_of y i m)
+nearer_cond : (c : Bool) (x y : Option PlacedHit) (i : ℕ) (m : Option Hit) → nearer_of (cond c x y) i m ≡ cond c (nearer_of x i m) (nearer_of y i m)
 nearer_cond true x y i m = refl
 nearer_cond false x y i m = refl
 
-pub nearer_swap : (b : Nearest) (i j : ℕ) (m n : Meet) → NumberHeld b → NumberMeet m → NumberMeet n → (i ≡ j → ⊥)
+pub nearer_swap : (b : Option PlacedHit) (i j : ℕ) (m n : Option Hit) → NumberHeld b → NumberMeet m → NumberMeet n → (i ≡ j → ⊥)
     → nearer_of (nearer_of b i m) j n ≡ nearer_of (nearer_of b j n) i m
 unfolding nearer_of
-nearer_swap b i j Miss n hb hm hn d = refl
-nearer_swap b i j (Hit t u v f) Miss hb hm hn d = refl
-nearer_swap Nothing i j (Hit t u v f) (Hit s p q g) hb hm hn d =
-    one_better (beats s j t i) (beats t i s j) (At i t u v f) (At j s p q g) (beats_asym s t j i) (beats_total s t j i hn hm (λ (e : j ≡ i). d (sym e)))
-nearer_swap (At k r x y w) i j (Hit t u v f) (Hit s p q g) hb hm hn d =
-    nearer_cond (beats t i r k) (At i t u v f) (At k r x y w) j (Hit s p q g)
-    ∙ best_of (beats t i r k) (beats s j r k) (beats s j t i) (beats t i s j) (At i t u v f) (At j s p q g) (At k r x y w)
+nearer_swap b i j None n hb hm hn d = refl
+nearer_swap b i j (Some m) None hb hm hn d = refl
+nearer_swap None i j (Some m) (Some n) hb hm hn d =
+    one_better (beats n.t j m.t i) (beats m.t i n.t j) (Some (placed i m)) (Some (placed j n)) (beats_asym n.t m.t j i) (beats_total n.t m.t j i hn hm (λ (e : j ≡ i). d (sym e)))
+nearer_swap (Some best) i j (Some m) (Some n) hb hm hn d =
+    let t = m.t in
+    let s = n.t in
+    let r = best.hit.t in
+    let k = best.place in
+    nearer_cond (beats t i r k) (Some (placed i m)) (Some best) j (Some n)
+    ∙ best_of (beats t i r k) (beats s j r k) (beats s j t i) (beats t i s j) (Some (placed i m)) (Some (placed j n)) (Some best)
     (beats_asym s t j i)
     (beats_total s t j i hn hm (λ (e : j ≡ i). d (sym e)))
     (λ a c. against (beats s j t i) (λ h. sym c ∙ beats_trans s t r j i k h a))
     (λ a c. against (beats t i s j) (λ h. sym a ∙ beats_trans t s r i j k h c))
-    ∙ sym (nearer_cond (beats s j r k) (At j s p q g) (At k r x y w) i (Hit t u v f))
+    ∙ sym (nearer_cond (beats s j r k) (Some (placed j n)) (Some best) i (Some m))
 
-pub nearer_number : (b : Nearest) (i : ℕ) (m : Meet) → NumberHeld b → NumberMeet m → NumberHeld (nearer_of b i m)
+pub nearer_number : (b : Option PlacedHit) (i : ℕ) (m : Option Hit) → NumberHeld b → NumberMeet m → NumberHeld (nearer_of b i m)
 unfolding nearer_of
-nearer_number b i Miss h k = h
-nearer_number Nothing i (Hit t u v f) h k = k
-nearer_number (At j s p q g) i (Hit t u v f) h k = by (beats t i s j)
+nearer_number b i None h k = h
+nearer_number None i (Some m) h k = k
+nearer_number (Some best) i (Some m) h k = by (beats m.t i best.hit.t best.place)
   where
-    by : (c : Bool) → NumberHeld (cond c (At i t u v f) (At j s p q g))
+    by : (c : Bool) → NumberHeld (cond c (Some (placed i m)) (Some best))
     by true = k
     by false = h
 
@@ -181,12 +183,12 @@ module _ (x y : Struck) (nx : is_nan x.distance ≡ false) (ny : is_nan y.distan
       by false true false q ea eb ep eq r = rw (ep, ea, eb)
       by false false p q ea eb ep eq r = rw (ea, eb, r)
 
-pub hits_swap : (hs : List Struck) (i j : ℕ) (m n : Meet) → Numbers hs → NumberMeet m → NumberMeet n → (i ≡ j → ⊥)
+pub hits_swap : (hs : List Struck) (i j : ℕ) (m n : Option Hit) → Numbers hs → NumberMeet m → NumberMeet n → (i ≡ j → ⊥)
     → with_meet (with_meet hs i m) j n ≡ with_meet (with_meet hs j n) i m
 unfolding with_meet
-hits_swap hs i j Miss n h hm hn d = refl
-hits_swap hs i j (Hit t u v f) Miss h hm hn d = refl
-hits_swap hs i j (Hit t u v f) (Hit s p q g) h hm hn d = insert_swap (struck t i) (struck s j) hm hn d hs h
+hits_swap hs i j None n h hm hn d = refl
+hits_swap hs i j (Some m) None h hm hn d = refl
+hits_swap hs i j (Some m) (Some n) h hm hn d = insert_swap (struck m.t i) (struck n.t j) hm hn d hs h
 
 insert_numbers : (h : Struck) (gs : List Struck) → is_nan h.distance ≡ false → Numbers gs → Numbers (insert_of h gs)
 unfolding insert_of
@@ -197,7 +199,7 @@ insert_numbers h (g ∷ gs) k n = by (before h g) (insert_numbers h gs k n.1)
     by true r = (k, n)
     by false r = (n.0, r)
 
-pub hits_numbers : (hs : List Struck) (i : ℕ) (m : Meet) → Numbers hs → NumberMeet m → Numbers (with_meet hs i m)
+pub hits_numbers : (hs : List Struck) (i : ℕ) (m : Option Hit) → Numbers hs → NumberMeet m → Numbers (with_meet hs i m)
 unfolding with_meet
-hits_numbers hs i Miss h k = h
-hits_numbers hs i (Hit t u v f) h k = insert_numbers (struck t i) hs k h
+hits_numbers hs i None h k = h
+hits_numbers hs i (Some m) h k = insert_numbers (struck m.t i) hs k h

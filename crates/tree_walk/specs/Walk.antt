@@ -1,13 +1,12 @@
 -- The walk through a box tree. "Rules for a box and for its two halves refer to each other down to the leaves": a box that is passed over is left out whole;
 -- of an inner box its two halves are visited, the left one first; of a leaf its triangles, one after another. A visit takes what is held and says what is held after
 -- it, so one walk serves for the nearest hit and for the hits; `step` says what a triangle adds.
-use Rattle.std.specs.Prelude.{◌≡◌, true, false, cond, List, [], ℕ, zero, suc, ◌+◌, ◌*◌, ◌≤◌, ◌<◌, eqb, length, get_or, Float}
+use Rattle.std.specs.Prelude.{Option, None, ◌≡◌, true, false, cond, List, [], ℕ, zero, suc, ◌+◌, ◌*◌, ◌≤◌, ◌<◌, eqb, length, get_or, Float}
 use Rattle.names.specs.Numbers.{depth_limit}
 use Rattle.names.specs.Scene.{Scene}
 use Rattle.vectors.specs.declared.Ray.{Ray}
 use Rattle.hits.specs.Hits.{Struck}
-use Rattle.scan.specs.declared.Nearest.{Nearest}
-use Rattle.scan.specs.declared.Nearest.TheVariants.{Nothing}
+use Rattle.scan.specs.declared.PlacedHit.{PlacedHit}
 use Rattle.boxes.specs.Boxes.{bounds_at, passed_over}
 use Rattle.tree.specs.Tree.{box_count, count_at, inner_at, left_at, right_at, first_at, place_at}
 use Rattle.tree_walk.specs.Boxed.{nearest_step, hits_step, pass_hits}
@@ -38,8 +37,8 @@ module _ {S : Type 0} (step : S → ℕ → S) where
 
 -- ---- of a scene
 
-unfoldable pub nearest_through : Scene → List Float → List ℕ → List ℕ → Ray → Nearest
-nearest_through scene boxes nodes order ray = tree_visit (nearest_step scene.points scene.uses scene.kinds ray) ray boxes nodes order Nothing
+unfoldable pub nearest_through : Scene → List Float → List ℕ → List ℕ → Ray → Option PlacedHit
+nearest_through scene boxes nodes order ray = tree_visit (nearest_step scene.points scene.uses scene.kinds ray) ray boxes nodes order None
 
 unfoldable pub hits_through : Scene → List Float → List ℕ → List ℕ → Ray → List Struck
 hits_through scene boxes nodes order ray = tree_visit (hits_step scene.points scene.uses scene.kinds ray) ray boxes nodes order []

@@ -1,6 +1,6 @@
 // The nearest hit and the transmittance through a box tree: a box that is passed over is left out whole. Each function takes the lists of a scene and of a tree, which fit each other, and the scene's
 // points in the tree's order, by which a leaf's triangles are looked over several at once.
-ghost use Rattle.std.specs.Prelude.{◌≡◌, false, ℕ, ◌+◌, ◌*◌, ◌≤◌, ◌<◌, length, get_or};
+ghost use Rattle.std.specs.Prelude.{◌≡◌, false, ℕ, ◌+◌, ◌-◌, ◌*◌, ◌≤◌, ◌<◌, length, get_or};
 ghost use Rattle.names.specs.Bits.{one32};
 ghost use Rattle.names.specs.Scene.{Sound, tree_scene, HitsFit};
 ghost use Rattle.hits.specs.Hits.{paired, places_of};
@@ -12,18 +12,16 @@ ghost use Rattle.tree_walk.specs.Boxed.{boxed_at, nearest_step};
 ghost use Rattle.scan.specs.Nearest.{nearest_of};
 ghost use Rattle.scan.specs.Transmittance.{transmittance_of};
 ghost use Rattle.tree_walk.specs.Turned.{Turned, TurnedTo};
-ghost use Rattle.tree_walk.specs.Walk.{run_visit, node_visit, pair_visit, TreeFits};
+ghost use Rattle.tree_walk.specs.Walk.{node_visit, TreeFits};
 ghost use Rattle.tree_walk.specs.UnderLaws.{places_under};
 ghost use Rattle.tree_walk.specs.FoldLaws.{fold_of};
-ghost use Rattle.tree_walk.specs.Spans.{span_places, SpanFits};
+ghost use Rattle.tree_walk.specs.Spans.{span_places, SpanFits, SpanFirst};
 ghost use Rattle.tree_walk.specs.Collect.{collect_step};
 ghost use Rattle.tree_walk.specs.Kept.{collected_by, MetWithin, RoomFor};
-ghost use Rattle.tree_walk.specs.declared.Gained.TheVariants.{Hits};
 
-use super::Gained;
 use names::DEPTH_LIMIT;
-use scan::Nearest;
-use triangle::Meet;
+use scan::PlacedHit;
+use triangle::Hit;
 use vectors::Ray;
 
 // ---- the points in the tree's order
@@ -33,10 +31,8 @@ pub fn turn(points: &[f32], order: &[u32], turned: &mut [f32])
     requires { length order.now * 9 ≤ length turned.old }
     ensures { Turned points.now order.now turned.new }
 {
-    let mut k = 0;
-    while k < order.len() {
+    for k in 0..order.len() {
         turn_one(points, order, k, turned);
-        k += 1;
     }
 }
 
@@ -46,15 +42,10 @@ fn turn_one(points: &[f32], order: &[u32], k: usize, turned: &mut [f32])
     ensures { TurnedTo points.now order.now turned.old (k * 9) → TurnedTo points.now order.now turned.new (k * 9 + 9) }
 {
     let p = tree::inner::word_at(order, k);
-    if points.len() / 9 <= p {
-        return;
-    }
-    let from = p * 9;
-    let at = k * 9;
-    let mut i = 0;
-    while i < 9 {
-        turned[at + i] = points[from + i];
-        i += 1;
+    if p < points.len() / 9 {
+        let from = p * 9;
+        let at = k * 9;
+        turned[at..at + 9].copy_from_slice(&points[from..from + 9]);
     }
 }
 
@@ -71,14 +62,14 @@ pub fn nearest(
     order: &[u32],
     turned: &[f32],
     ray: Ray,
-) -> Nearest
+) -> Option<PlacedHit>
     requires sound { Sound (tree_scene points.now uses.now kinds.now numbers.now boxes.now nodes.now order.now) }
     requires accepted_tree { AcceptedTree points.now boxes.now nodes.now order.now }
     requires turned { Turned points.now order.now turned.now }
     ensures { result ≡ nearest_of (tree_scene points.now uses.now kinds.now numbers.now boxes.now nodes.now order.now) ray }
 {
     if nodes.len() / 3 == 0 {
-        return Nearest::Nothing;
+        return None;
     }
     node_visit(
         points,
@@ -91,12 +82,11 @@ pub fn nearest(
         ray,
         0,
         DEPTH_LIMIT + 1,
-        Nearest::Nothing,
+        None,
     )
 }
 
-// Box i, with so many levels left.
-#[cycle(node_visit_pair_visit)]
+// With the hits under box i, of so many levels: those of its halves, the left one first, or of a leaf's run.
 fn node_visit(
     points: &[f32],
     uses: &[u32],
@@ -108,8 +98,8 @@ fn node_visit(
     ray: Ray,
     i: usize,
     levels: u8,
-    best: Nearest,
-) -> Nearest
+    best: Option<PlacedHit>,
+) -> Option<PlacedHit>
     requires tree_fits { TreeFits points.now uses.now kinds.now boxes.now nodes.now order.now turned.now }
     requires i_bound { i < box_count nodes.now }
     ensures { result ≡ node_visit (nearest_step points.now uses.now kinds.now ray) ray boxes.now nodes.now order.now levels i best }
@@ -121,81 +111,41 @@ fn node_visit(
     if boxes::inner::passed_over(ray.origin, ray.direction, b) {
         return best;
     }
-    if tree::inner::word_at(nodes, i * 3) == 0 {
-        let left = tree::inner::word_at(nodes, i * 3 + 1);
-        let right = tree::inner::word_at(nodes, i * 3 + 2);
-        return pair_visit(
-            points,
-            uses,
-            kinds,
-            boxes,
-            nodes,
-            order,
-            turned,
-            ray,
-            left,
-            right,
-            levels - 1,
-            best,
-        );
-    }
-    run_visit(
-        points, uses, kinds, boxes, nodes, order, turned, ray, i, best,
-    )
-}
-
-// Two halves, the left one first.
-#[cycle(node_visit_pair_visit)]
-fn pair_visit(
-    points: &[f32],
-    uses: &[u32],
-    kinds: &[u8],
-    boxes: &[f32],
-    nodes: &[u32],
-    order: &[u32],
-    turned: &[f32],
-    ray: Ray,
-    left: usize,
-    right: usize,
-    levels: u8,
-    best: Nearest,
-) -> Nearest
-    requires tree_fits { TreeFits points.now uses.now kinds.now boxes.now nodes.now order.now turned.now }
-    requires left_bound { (left < box_count nodes.now) × (right < box_count nodes.now) }
-    ensures { result ≡ pair_visit (nearest_step points.now uses.now kinds.now ray) ray boxes.now nodes.now order.now levels left right best }
-{
-    let held = node_visit(
-        points, uses, kinds, boxes, nodes, order, turned, ray, left, levels, best,
-    );
-    node_visit(
-        points, uses, kinds, boxes, nodes, order, turned, ray, right, levels, held,
-    )
-}
-
-// The triangles of leaf i, in its run's order.
-fn run_visit(
-    points: &[f32],
-    uses: &[u32],
-    kinds: &[u8],
-    boxes: &[f32],
-    nodes: &[u32],
-    order: &[u32],
-    turned: &[f32],
-    ray: Ray,
-    i: usize,
-    best: Nearest,
-) -> Nearest
-    requires tree_fits { TreeFits points.now uses.now kinds.now boxes.now nodes.now order.now turned.now }
-    requires i_bound { (i < box_count nodes.now) × (inner_at nodes.now i ≡ false) }
-    ensures { result ≡ run_visit (nearest_step points.now uses.now kinds.now ray) nodes.now order.now i (count_at nodes.now i) best }
-{
     let count = tree::inner::word_at(nodes, i * 3);
     let first = tree::inner::word_at(nodes, i * 3 + 1);
-    span_nearest(points, uses, kinds, order, turned, ray, first, count, best)
+    if count > 0 {
+        return span_nearest(points, uses, kinds, order, turned, ray, first, count, best);
+    }
+    let right = tree::inner::word_at(nodes, i * 3 + 2);
+    let held = node_visit(
+        points,
+        uses,
+        kinds,
+        boxes,
+        nodes,
+        order,
+        turned,
+        ray,
+        first,
+        levels - 1,
+        best,
+    );
+    node_visit(
+        points,
+        uses,
+        kinds,
+        boxes,
+        nodes,
+        order,
+        turned,
+        ray,
+        right,
+        levels - 1,
+        held,
+    )
 }
 
-// The triangles of a span of the order. Those that are surely missed are passed over, by the search of the list's scan over the points in the tree's order; of one that may be met the scene's own
-// lists decide.
+// With the hits of a span of the order.
 pub fn span_nearest(
     points: &[f32],
     uses: &[u32],
@@ -205,28 +155,17 @@ pub fn span_nearest(
     ray: Ray,
     first: usize,
     count: usize,
-    best: Nearest,
-) -> Nearest
+    best: Option<PlacedHit>,
+) -> Option<PlacedHit>
     requires { SpanFits points.now uses.now kinds.now order.now turned.now first count }
     ensures { result ≡ fold_of (nearest_step points.now uses.now kinds.now ray) best (span_places order.now first count) }
 {
     let end = first + count;
     let mut held = best;
     let mut k = first;
-    while k < end {
-        let j = scan::inner::first_open(turned, k, end, ray);
-        if j == end {
-            return held;
-        }
-        let p = tree::inner::word_at(order, j);
-        let m = boxed_meet(points, uses, kinds, ray, p);
+    while let Some((j, met)) = span_hit(points, uses, kinds, order, turned, ray, k, end) {
+        held = scan::inner::nearer(held, met);
         k = j + 1;
-        match m {
-            Meet::Miss => {}
-            Meet::Hit(t, u, v, front) => {
-                held = scan::inner::nearer(held, p, t, u, v, front);
-            }
-        }
     }
     held
 }
@@ -257,7 +196,7 @@ pub fn transmittance(
     if nodes.len() / 3 == 0 {
         return 1.0;
     }
-    let met = node_collect(
+    let Some(m) = node_collect(
         points,
         uses,
         kinds,
@@ -271,11 +210,10 @@ pub fn transmittance(
         0,
         distances,
         places,
-    );
-    match met {
-        Gained::Dark => 0.0,
-        Gained::Hits(m) => passing(uses, numbers, &mut distances[..m], &mut places[..m]),
-    }
+    ) else {
+        return 0.0;
+    };
+    passing(uses, numbers, &mut distances[..m], &mut places[..m])
 }
 
 // What is left of the light after these hits, none of which stops it.
@@ -289,8 +227,7 @@ pub fn passing(uses: &[u32], numbers: &[f32], distances: &mut [f32], places: &mu
     scan::inner::product(uses, numbers, places)
 }
 
-// The hits of box i, with so many levels left, after the m that stand in the lists.
-#[cycle(node_collect_pair_collect)]
+// The hits under box i, of so many levels, after the m that stand in the lists: how many then stand there, or nothing where one stops light, which ends the walk.
 fn node_collect(
     points: &[f32],
     uses: &[u32],
@@ -305,113 +242,62 @@ fn node_collect(
     m: usize,
     distances: &mut [f32],
     places: &mut [usize],
-) -> Gained
+) -> Option<usize>
     requires tree_fits { TreeFits points.now uses.now kinds.now boxes.now nodes.now order.now turned.now }
     requires i_bound { i < box_count nodes.now }
     requires m_in_bounds { (m ≤ length distances.old) × (m ≤ length places.old) }
     requires room_for { RoomFor kinds.now (m + length (places_under nodes.now order.now levels i)) (length distances.old) (length places.old) }
-    ensures { (collected_by result distances.new places.new ≡ node_visit (collect_step points.now uses.now kinds.now ray) ray boxes.now nodes.now order.now levels i (collected_by (Hits m) distances.old places.old))
+    ensures { (collected_by result distances.new places.new ≡ node_visit (collect_step points.now uses.now kinds.now ray) ray boxes.now nodes.now order.now levels i (collected_by (Some m) distances.old places.old))
         × MetWithin result (m + length (places_under nodes.now order.now levels i)) (length distances.old) (length places.old) }
 {
     if levels == 0 {
-        return Gained::Hits(m);
+        return Some(m);
     }
     let b = boxes::inner::bounds_at(boxes, i);
     if boxes::inner::passed_over(ray.origin, ray.direction, b) {
-        return Gained::Hits(m);
+        return Some(m);
     }
-    if tree::inner::word_at(nodes, i * 3) == 0 {
-        let left = tree::inner::word_at(nodes, i * 3 + 1);
-        let right = tree::inner::word_at(nodes, i * 3 + 2);
-        return pair_collect(
-            points,
-            uses,
-            kinds,
-            boxes,
-            nodes,
-            order,
-            turned,
-            ray,
-            left,
-            right,
-            levels - 1,
-            m,
-            distances,
-            places,
-        );
-    }
-    run_collect(
-        points, uses, kinds, boxes, nodes, order, turned, ray, i, m, distances, places,
-    )
-}
-
-// The hits of two halves, the left one first.
-#[cycle(node_collect_pair_collect)]
-fn pair_collect(
-    points: &[f32],
-    uses: &[u32],
-    kinds: &[u8],
-    boxes: &[f32],
-    nodes: &[u32],
-    order: &[u32],
-    turned: &[f32],
-    ray: Ray,
-    left: usize,
-    right: usize,
-    levels: u8,
-    m: usize,
-    distances: &mut [f32],
-    places: &mut [usize],
-) -> Gained
-    requires tree_fits { TreeFits points.now uses.now kinds.now boxes.now nodes.now order.now turned.now }
-    requires left_bound { (left < box_count nodes.now) × (right < box_count nodes.now) }
-    requires m_in_bounds { (m ≤ length distances.old) × (m ≤ length places.old) }
-    requires room_for { RoomFor kinds.now (m + (length (places_under nodes.now order.now levels left) + length (places_under nodes.now order.now levels right))) (length distances.old) (length places.old) }
-    ensures { (collected_by result distances.new places.new ≡ pair_visit (collect_step points.now uses.now kinds.now ray) ray boxes.now nodes.now order.now levels left right (collected_by (Hits m) distances.old places.old))
-        × MetWithin result (m + (length (places_under nodes.now order.now levels left) + length (places_under nodes.now order.now levels right))) (length distances.old) (length places.old) }
-{
-    let met = node_collect(
-        points, uses, kinds, boxes, nodes, order, turned, ray, left, levels, m, distances, places,
-    );
-    match met {
-        Gained::Dark => met,
-        Gained::Hits(k) => node_collect(
-            points, uses, kinds, boxes, nodes, order, turned, ray, right, levels, k, distances,
-            places,
-        ),
-    }
-}
-
-// The hits of leaf i, in its run's order.
-fn run_collect(
-    points: &[f32],
-    uses: &[u32],
-    kinds: &[u8],
-    boxes: &[f32],
-    nodes: &[u32],
-    order: &[u32],
-    turned: &[f32],
-    ray: Ray,
-    i: usize,
-    held: usize,
-    distances: &mut [f32],
-    places: &mut [usize],
-) -> Gained
-    requires tree_fits { TreeFits points.now uses.now kinds.now boxes.now nodes.now order.now turned.now }
-    requires i_bound { (i < box_count nodes.now) × (inner_at nodes.now i ≡ false) }
-    requires held_in_bounds { (held ≤ length distances.old) × (held ≤ length places.old) }
-    requires room_for { RoomFor kinds.now (held + count_at nodes.now i) (length distances.old) (length places.old) }
-    ensures { (collected_by result distances.new places.new ≡ run_visit (collect_step points.now uses.now kinds.now ray) nodes.now order.now i (count_at nodes.now i) (collected_by (Hits held) distances.old places.old))
-        × MetWithin result (held + count_at nodes.now i) (length distances.old) (length places.old) }
-{
     let count = tree::inner::word_at(nodes, i * 3);
     let first = tree::inner::word_at(nodes, i * 3 + 1);
-    span_collect(
-        points, uses, kinds, order, turned, ray, first, count, held, distances, places,
+    if count > 0 {
+        return span_collect(
+            points, uses, kinds, order, turned, ray, first, count, m, distances, places,
+        );
+    }
+    let right = tree::inner::word_at(nodes, i * 3 + 2);
+    let k = node_collect(
+        points,
+        uses,
+        kinds,
+        boxes,
+        nodes,
+        order,
+        turned,
+        ray,
+        first,
+        levels - 1,
+        m,
+        distances,
+        places,
+    )?;
+    node_collect(
+        points,
+        uses,
+        kinds,
+        boxes,
+        nodes,
+        order,
+        turned,
+        ray,
+        right,
+        levels - 1,
+        k,
+        distances,
+        places,
     )
 }
 
-// The hits of a span of the order, by the same search.
+// The hits of a span of the order.
 pub fn span_collect(
     points: &[f32],
     uses: &[u32],
@@ -424,59 +310,78 @@ pub fn span_collect(
     held: usize,
     distances: &mut [f32],
     places: &mut [usize],
-) -> Gained
+) -> Option<usize>
     requires span_fits { SpanFits points.now uses.now kinds.now order.now turned.now first count }
     requires held_in_bounds { (held ≤ length distances.old) × (held ≤ length places.old) }
     requires room_for { RoomFor kinds.now (held + count) (length distances.old) (length places.old) }
-    ensures { (collected_by result distances.new places.new ≡ fold_of (collect_step points.now uses.now kinds.now ray) (collected_by (Hits held) distances.old places.old) (span_places order.now first count))
+    ensures { (collected_by result distances.new places.new ≡ fold_of (collect_step points.now uses.now kinds.now ray) (collected_by (Some held) distances.old places.old) (span_places order.now first count))
         × MetWithin result (held + count) (length distances.old) (length places.old) }
 {
     let end = first + count;
     let mut m = held;
     let mut k = first;
+    while let Some((j, met)) = span_hit(points, uses, kinds, order, turned, ray, k, end) {
+        if panels::inner::stops_light(panels::inner::kind_at(uses, kinds, met.place)) {
+            return None;
+        }
+        distances[m] = met.hit.t;
+        places[m] = met.place;
+        m += 1;
+        k = j + 1;
+    }
+    Some(m)
+}
+
+// ---- the search that both go by
+
+// The first hit in the order from place k up to place end, and where in the order its triangle stands. Triangles that are surely missed are passed over, by the search of the list's scan over
+// the points in the tree's order; of one that may be met the scene's own lists decide.
+fn span_hit(
+    points: &[f32],
+    uses: &[u32],
+    kinds: &[u8],
+    order: &[u32],
+    turned: &[f32],
+    ray: Ray,
+    from: usize,
+    end: usize,
+) -> Option<(usize, PlacedHit)>
+    requires { (from ≤ end) × SpanFits points.now uses.now kinds.now order.now turned.now from (end - from) }
+    ensures { SpanFirst points.now uses.now kinds.now order.now ray from end result }
+{
+    let mut k = from;
     while k < end {
         let j = scan::inner::first_open(turned, k, end, ray);
         if j == end {
-            return Gained::Hits(m);
+            return None;
         }
-        let p = tree::inner::word_at(order, j);
-        let h = boxed_meet(points, uses, kinds, ray, p);
+        let place = tree::inner::word_at(order, j);
+        if let Some(hit) = boxed_meet(points, uses, kinds, ray, place) {
+            return Some((j, PlacedHit { place, hit }));
+        }
         k = j + 1;
-        match h {
-            Meet::Miss => {}
-            Meet::Hit(t, _, _, _) => {
-                if panels::inner::stops_light(panels::inner::kind_at(uses, kinds, p)) {
-                    return Gained::Dark;
-                }
-                distances[m] = t;
-                places[m] = p;
-                m += 1;
-            }
-        }
     }
-    Gained::Hits(m)
+    None
 }
 
 // ---- one triangle
 
 // What is met of the triangle at place i, unless its own padded box is passed over. The box is asked only where the triangle is hit, which is rare.
-fn boxed_meet(points: &[f32], uses: &[u32], kinds: &[u8], ray: Ray, i: usize) -> Meet
+#[tactic(auto, unfolding(panels::specs::Panels::met_by))]
+fn boxed_meet(points: &[f32], uses: &[u32], kinds: &[u8], ray: Ray, i: usize) -> Option<Hit>
     requires { (i * 9 + 8 < length points.now) × (i < length uses.now) × (get_or uses.now i 0 < length kinds.now) }
     ensures { result ≡ boxed_at points.now uses.now kinds.now ray i }
 {
-    let m = panels::inner::meet_at(points, uses, kinds, i, ray);
-    match m {
-        Meet::Miss => m,
-        Meet::Hit(_, _, _, _) => {
-            if own_passed(points, ray, i) {
-                return Meet::Miss;
-            }
-            m
-        }
+    let hit = panels::inner::meet_at(points, uses, kinds, i, ray)?;
+    if own_passed(points, ray, i) {
+        None
+    } else {
+        Some(hit)
     }
 }
 
 // Whether the own padded box of the triangle at place i is passed over.
+#[tactic(auto, unfolding(panels::specs::Panels::own_passed))]
 fn own_passed(points: &[f32], ray: Ray, i: usize) -> bool
     requires { i * 9 + 8 < length points.now }
     ensures { result ≡ own_passed points.now ray i }

@@ -7,10 +7,3 @@ pub mod inner; // inner.rt: the nearest hit and the transmittance through a tree
 
 // How many numbers the points have in the tree's order, of as many triangles as a scene may have.
 pub const TURNED_NUMBERS: usize = TRIANGLE_LIMIT * 9;
-
-// What a walk that collects hits has met: a hit that stops light, which ends it; or so many hits, which stand at the head of the two lists.
-#[derive(Clone, Copy)]
-pub enum Gained {
-    Dark,
-    Hits(usize),
-}

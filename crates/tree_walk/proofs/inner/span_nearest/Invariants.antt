@@ -5,9 +5,9 @@ use Rattle.tree_walk.specs.FoldLaws.{fold_of}
 use Rattle.tree_walk.specs.Spans.{span_places}
 use Rattle.tree_walk.proofs.inner.span_nearest.Given as goal
 
-abbrev pub invariant-loop-k : goal.invariant-loop-k
-invariant-loop-k l =
+abbrev pub invariant-loop-j : goal.invariant-loop-j
+invariant-loop-j l =
     (l.first ≤ l.k) × (l.k ≤ l.end) × (l.held ≡ fold_of (nearest_step l.points l.uses l.kinds l.ray) l.initial.held (span_places l.order l.first (l.k - l.first)))
 
-abbrev pub decreases-loop-k : goal.decreases-loop-k
-decreases-loop-k l = l.end - l.k
+abbrev pub decreases-loop-j : goal.decreases-loop-j
+decreases-loop-j l = l.end - l.k

@@ -1,140 +1,34 @@
 -- `tree_walk::inner::transmittance` meets its contract: it walks from the root, puts what came in order and takes the product; in an accepted tree that is the transmittance over the boxed triangles
 -- (`listed_collected`).
-use mathlib.Core.Path.{◌≡◌, sym, ◌∙◌}
-use Prim.Native.Nat.{◌≤◌}
-use native.Mathlib.Omega.{arith}
-use lib.ListN.{length, take}
-use lib.Seq.{length-take-le, length_front}
-use Rattle.names.specs.Scene.{Scene, tree_scene}
-use Rattle.hits.specs.Hits.{paired}
-use Rattle.tree.specs.SumLaws.{positive}
+use mathlib.Core.Path.{sym, ◌∙◌}
+use lib.Seq.{length-take-le}
+use Rattle.names.specs.Scene.{tree_scene}
 use Rattle.tree_walk.proofs.WalkLaws.{accepted_fits}
-use Rattle.tree_walk.specs.Collect.{dark, came}
-use Rattle.tree_walk.specs.UnderLaws.{tree_places, tree_once}
-use Rattle.tree_walk.specs.CollectLaws.{collected_over}
-use Rattle.tree_walk.proofs.CollectLaws.{dark_passes, came_passes, came_numbers, came_below}
-use Rattle.tree_walk.proofs.Came.{root_fits, from_root, empty_passes}
+use Rattle.tree_walk.proofs.Came.{root_fits, empty_passes, root_dark, root_numbers, root_below, root_passes}
 use Rattle.tree_walk.proofs.inner.transmittance.Goals as goal
-use Rattle.tree_walk.proofs.inner.transmittance.Goals.{In-Hits-2, Start}
 
 pub returns-then-nodes-eq0 : goal.returns-then-nodes-eq0
-returns-then-nodes-eq0 c =
-    let scene_at : Scene =
-    let a = c.args in tree_scene a.points.now a.uses.now a.kinds.now a.numbers.now a.boxes.now a.nodes.now a.order.now in
-    let s = c.before.before.before.before.before.before.before.before.before.before.before in
-    empty_passes (scene_at) s.requires.sound _ _ _ s.requires.accepted_tree _ c.if-nodes-eq0.true
+returns-then-nodes-eq0 c = empty_passes (tree_scene _ _ _ _ _ _ _) c.requires.sound _ _ _ c.requires.accepted_tree _ c.if-nodes-eq0.true
 
-pub node_collect-met-requires : goal.node_collect-met-requires
-node_collect-met-requires c =
-    let scene_at : Scene =
-    let a = c.args in tree_scene a.points.now a.uses.now a.kinds.now a.numbers.now a.boxes.now a.nodes.now a.order.now in
-    let s = c.before.before.before.before.before.before.before.before.before.before.before.before.before in
-    let h = positive _ c.if-nodes-eq0.false in record {
-      tree_fits = accepted_fits (scene_at) s.requires.sound _ _ _ s.requires.accepted_tree _ s.requires.turned;
-      i_bound = h;
-      m_in_bounds = (omega arith, omega arith);
-      room_for = root_fits (scene_at) s.requires.sound _ _ _ s.requires.accepted_tree c.if-nodes-eq0.false _ _ s.requires.hits_fit;
-    }
+pub node_collect-requires-clause-tree_fits : goal.node_collect-requires-clause-tree_fits
+node_collect-requires-clause-tree_fits c = accepted_fits (tree_scene _ _ _ _ _ _ _) c.requires.sound _ _ _ c.requires.accepted_tree _ c.requires.turned
 
-pub returns-in-Dark : goal.returns-in-Dark
-returns-in-Dark c =
-    let scene_at : Scene =
-    let a = c.args in tree_scene a.points.now a.uses.now a.kinds.now a.numbers.now a.boxes.now a.nodes.now a.order.now in
-    let n = c.before.before.before.before.before in
-    let s = n.before.before.before.before.before.before.before.before.before.before.before.before.before.before in
-    dark_passes (scene_at) s.requires.sound (tree_places s.args.nodes.now s.args.order.now) (tree_once _ _ _ _ s.requires.accepted_tree) s.args.ray
-    (from_root (scene_at) s.requires.sound _ _ _ s.requires.accepted_tree _ n.if-nodes-eq0.false dark s.args.distances.now s.args.places.now (rw c.in-Dark.is at n.node_collect-met.ensures.0))
+pub node_collect-requires-clause-room_for : goal.node_collect-requires-clause-room_for
+node_collect-requires-clause-room_for c = root_fits (tree_scene _ _ _ _ _ _ _) c.requires.sound _ _ _ c.requires.accepted_tree c.if-nodes-eq0.false _ _ c.requires.hits_fit
 
-pub slice_bounds-passing-end : goal.slice_bounds-passing-end
-slice_bounds-passing-end c =
-    let within : let l = c.node_collect-met.new in
-    (c.in-Hits.m ≤ length l.distances) × (c.in-Hits.m ≤ length l.places) =
-    let n = c.node_collect-met in
-    let k = rw c.in-Hits.is at n.ensures.1 in
-    (omega (arith, k.1, n.auto.distances), omega (arith, k.2, n.auto.places)) in
-    (within).0
+pub returns-in_default : goal.returns-in_default
+returns-in_default c = root_dark (tree_scene _ _ _ _ _ _ _) c.requires.sound _ _ _ c.requires.accepted_tree _ c.if-nodes-eq0.false c.args.distances.now c.args.places.now c.in_default.ensures.0
 
-pub slice_bounds-passing-end-in-Hits : goal.slice_bounds-passing-end-in-Hits
-slice_bounds-passing-end-in-Hits c =
-    let within : let l = c.node_collect-met.new in
-    (c.in-Hits.m ≤ length l.distances) × (c.in-Hits.m ≤ length l.places) =
-    let n = c.node_collect-met in
-    let k = rw c.in-Hits.is at n.ensures.1 in
-    (omega (arith, k.1, n.auto.distances), omega (arith, k.2, n.auto.places)) in
-    sym (length-take-le _ _ (within).0)
+pub passing-requires-clause-distances_len : goal.passing-requires-clause-distances_len
+passing-requires-clause-distances_len c =
+    let n = c.node_collect in
+    let m = c.in-Some.ensures in (
+      length-take-le _ _ (rw n.auto.distances m.1.1) ∙ sym (length-take-le _ _ (rw n.auto.places m.1.2)),
+      root_numbers (tree_scene _ _ _ _ _ _ _) c.requires.sound _ _ _ c.requires.accepted_tree _ c.if-nodes-eq0.false c.args.distances.now c.args.places.now _ m.0,
+    )
 
-pub slice_bounds-passing-end-in-Hits-2 : goal.slice_bounds-passing-end-in-Hits-2
-slice_bounds-passing-end-in-Hits-2 c =
-    let within : let l = c.node_collect-met.new in
-    (c.in-Hits.m ≤ length l.distances) × (c.in-Hits.m ≤ length l.places) =
-    let n = c.node_collect-met in
-    let k = rw c.in-Hits.is at n.ensures.1 in
-    (omega (arith, k.1, n.auto.distances), omega (arith, k.2, n.auto.places)) in
-    (within).1
+pub passing-requires-clause-by_index_2 : goal.passing-requires-clause-by_index_2
+passing-requires-clause-by_index_2 c = root_below (tree_scene _ _ _ _ _ _ _) c.requires.sound _ _ _ c.requires.accepted_tree _ c.if-nodes-eq0.false c.args.distances.now c.args.places.now _ c.in-Some.ensures.0
 
-pub slice_bounds-passing-end-in-Hits-3 : goal.slice_bounds-passing-end-in-Hits-3
-slice_bounds-passing-end-in-Hits-3 c =
-    let within : let l = c.node_collect-met.new in
-    (c.in-Hits.m ≤ length l.distances) × (c.in-Hits.m ≤ length l.places) =
-    let n = c.node_collect-met in
-    let k = rw c.in-Hits.is at n.ensures.1 in
-    (omega (arith, k.1, n.auto.distances), omega (arith, k.2, n.auto.places)) in
-    sym (length-take-le _ _ (within).1)
-
-pub passing-requires : goal.passing-requires
-passing-requires c =
-    let scene_at : Scene =
-    let a = c.args in tree_scene a.points.now a.uses.now a.kinds.now a.numbers.now a.boxes.now a.nodes.now a.order.now in
-    let within : let l = c.node_collect-met.new in
-    (c.in-Hits.m ≤ length l.distances) × (c.in-Hits.m ≤ length l.places) =
-    let n = c.node_collect-met in
-    let k = rw c.in-Hits.is at n.ensures.1 in
-    (omega (arith, k.1, n.auto.distances), omega (arith, k.2, n.auto.places)) in
-    let came_there : let n = c.before.before.before.before.before in
-    let l = n.node_collect-met.new in
-    let s = n.before.before.before.before.before.before.before.before.before.before.before.before.before.before in
-    let m = c.in-Hits.m in
-    came (paired (take m l.distances) (take m l.places)) ≡ collected_over (scene_at) s.args.ray (tree_places s.args.nodes.now s.args.order.now) =
-    let n = c.before.before.before.before.before in
-    let s = n.before.before.before.before.before.before.before.before.before.before.before.before.before.before in
-    from_root (scene_at) s.requires.sound _ _ _ s.requires.accepted_tree _ n.if-nodes-eq0.false _ s.args.distances.now s.args.places.now
-    (rw c.in-Hits.is at n.node_collect-met.ensures.0) in
-    let m = c.before.before.before in
-    let s = m.before.before.before.before.before.before.before.before.before.before.before.before.before.before.before.before.before.before.before in
-    let w = within in record {
-      distances_len = (length-take-le _ _ w.0 ∙ sym (length-take-le _ _ w.1), came_numbers (scene_at) s.requires.sound (tree_places s.args.nodes.now s.args.order.now) (tree_once _ _ _ _ s.requires.accepted_tree) s.args.ray _ (came_there));
-      by_index = (λ i h. omega (arith, s.requires.sound.within i h, s.requires.sound.numbers));
-      by_index_2 = came_below (scene_at) s.requires.sound (tree_places s.args.nodes.now s.args.order.now) (tree_once _ _ _ _ s.requires.accepted_tree) s.args.ray _ (came_there);
-    }
-
-pub shape_of-distances-in-Hits : goal.shape_of-distances-in-Hits
-shape_of-distances-in-Hits c =
-    let p = c.before.before.before.before in
-    let m = p in
-    let n = m.node_collect-met in
-    length_front n.new.distances p.passing.new.distances m.in-Hits.m p.passing.auto.distances ∙ n.auto.distances
-
-pub shape_of-places-in-Hits : goal.shape_of-places-in-Hits
-shape_of-places-in-Hits c =
-    let p = c.before.before.before.before in
-    let m = p in
-    let n = m.node_collect-met in
-    length_front n.new.places p.passing.new.places m.in-Hits.m p.passing.auto.places ∙ n.auto.places
-
-pub returns-in-Hits : goal.returns-in-Hits
-returns-in-Hits c =
-    let scene_at : Scene =
-    let a = c.args in tree_scene a.points.now a.uses.now a.kinds.now a.numbers.now a.boxes.now a.nodes.now a.order.now in
-    let came_there : let n = c.before.before.before.before.before in
-    let l = n.node_collect-met.new in
-    let s = n.before.before.before.before.before.before.before.before.before.before.before.before.before.before in
-    let m = c.in-Hits.m in
-    came (paired (take m l.distances) (take m l.places)) ≡ collected_over (scene_at) s.args.ray (tree_places s.args.nodes.now s.args.order.now) =
-    let n = c.before.before.before.before.before in
-    let s = n.before.before.before.before.before.before.before.before.before.before.before.before.before.before in
-    from_root (scene_at) s.requires.sound _ _ _ s.requires.accepted_tree _ n.if-nodes-eq0.false _ s.args.distances.now s.args.places.now
-    (rw c.in-Hits.is at n.node_collect-met.ensures.0) in
-    let p = c.before.before.before.before in
-    let m = p.before.before.before.before in
-    let s = m.before.before.before.before.before.before.before.before.before.before.before.before.before.before.before.before.before.before.before in
-    p.passing.ensures ∙ came_passes (scene_at) s.requires.sound (tree_places s.args.nodes.now s.args.order.now) (tree_once _ _ _ _ s.requires.accepted_tree) s.args.ray _ (came_there)
+pub returns : goal.returns
+returns c = c.passing.ensures ∙ root_passes (tree_scene _ _ _ _ _ _ _) c.requires.sound _ _ _ c.requires.accepted_tree _ c.if-nodes-eq0.false c.args.distances.now c.args.places.now _ c.in-Some.ensures.0
