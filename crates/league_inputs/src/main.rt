@@ -2,9 +2,8 @@
 #![tactic(auto)]
 
 ghost use Rattle.std.specs.Prelude.{◌≡◌, OnErr};
-ghost use Rattle.league_report.specs.Report.{LeagueWithin};
 
-use league_report::League;
+use league_line::Report;
 use names::FILES_LIMIT;
 use std::io;
 
@@ -32,16 +31,16 @@ fn one_input(rt: &(impl Input + Print), space: &mut [u8]) -> io::Result<bool> {
     if console::read_full(rt, input)? < long {
         return Ok(false);
     }
-    report(rt, input)?;
+    print_report(rt, input)?;
     Ok(true)
 }
 
-fn report(rt: &impl Print, input: &[u8]) -> io::Result<()> {
-    let mut league = league_report::inner::no_files();
+fn print_report(rt: &impl Print, input: &[u8]) -> io::Result<()> {
+    let mut report = Report::new();
     let mut rest = input;
     // A turn for each file that may come, and one in which the input ends or is refused.
     for _ in 0..=FILES_LIMIT {
-        let Some(next) = turn(rt, &mut league, rest)? else {
+        let Some(next) = turn(rt, &mut report, rest)? else {
             break;
         };
         rest = next;
@@ -50,19 +49,17 @@ fn report(rt: &impl Print, input: &[u8]) -> io::Result<()> {
 }
 
 // Takes the length at the start of `input`, and the file after it; what is left then, or nothing where the report has ended.
-fn turn<'a>(rt: &impl Print, league: &mut League, input: &'a [u8]) -> io::Result<Option<&'a [u8]>>
-    requires { LeagueWithin league.old }
-    ensures within { LeagueWithin league.new }
-    ensures err { OnErr result (league.new ≡ league.old) }
+fn turn<'a>(rt: &impl Print, report: &mut Report, input: &'a [u8]) -> io::Result<Option<&'a [u8]>>
+    ensures { OnErr result (report.new ≡ report.old) }
 {
     let (head, rest) = input.split_at(input.len().min(4));
-    let Some(long) = league_line::steps::begin_file(rt, league, head)? else {
+    let Some(long) = report.begin_file(rt, head)? else {
         return Ok(None);
     };
     let Some((file, next)) = rest.split_at_checked(long) else {
-        league_line::steps::cut_off(rt, league)?;
+        report.cut_off(rt)?;
         return Ok(None);
     };
-    let counted = league_line::steps::count_file(rt, league, file)?;
+    let counted = report.count_file(rt, file)?;
     Ok(counted.then_some(next))
 }

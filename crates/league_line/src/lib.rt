@@ -2,4 +2,6 @@
 #![tactic(auto)]
 
 pub mod inner;
-pub mod steps;
+pub mod report;
+
+pub use report::Report;
