@@ -10,9 +10,13 @@ use lib.Dec.{eqb}
 use lib.ListN.{length}
 use lib.Ieee.{Float}
 use borrow.Author.Tests.{eq-eqb, ne_eqb}
+use Rattle.std.specs.Prelude.{Result, Ok, Err}
+use Rattle.std.specs.Result.{IsErr, IsErrAnd}
+use Rattle.names.specs.declared.refusal.Refusal.{Refusal}
+use Rattle.names.specs.Answers.{number_of}
+use Rattle.names.specs.AnswersLaws.{number_nonzero}
 use Rattle.names.specs.Numbers.{voxel_limit}
 use Rattle.grid.specs.GridLaws.{voxels_most}
-use Rattle.words.specs.Words.{Tidy}
 use Rattle.words.specs.WordsLaws.{entries_length}
 use Rattle.marks.specs.Marks.{marked_below}
 use Rattle.marks.specs.MarksLaws.{count_within}
@@ -21,44 +25,17 @@ use Rattle.spread.specs.Spread.{progress_of, Stage, stage, Called, Walked, fille
 use Rattle.spread.proofs.Walks.{ended_progress, call_adds}
 use Rattle.spread.specs.Refusing.{accepted_refusing}
 use Rattle.ends.specs.Ends.{filled_of, Finished}
-use Rattle.intake.specs.Intake.{BakeInput, input_of, voxel_numbers, voxel_count, active_entries, bake_cost, bake_refusal}
+use Rattle.intake.specs.Intake.{BakeInput, input_of, voxel_count, active_entries, bake_cost, bake_refusal}
 use Rattle.intake.specs.IntakeLaws.{Fits, fits, none_refused}
 use Rattle.walk.specs.declared.Reached.{Reached}
 use Rattle.demand.specs.Bake.{bake_of, bake_call}
 use Rattle.demand.specs.Calls.{refused_call, accepted_call, accepted_none}
 use Rattle.demand.proofs.Lasting.{call_leaves}
-use Rattle.walk.specs.Reports.{Walkable, Reports, Accepts}
-use Rattle.bake.specs.declared.BakeAnswer.{BakeAnswer}
-use Rattle.bake.specs.Baked.{Baked, SolidBaked, Ends}
+use Rattle.walk.specs.Reports.{Reports, Accepts}
+use Rattle.bake.specs.declared.Advance.{Advance}
+use Rattle.bake.specs.Baked.{Baked, reached_answer, answer_of, Ends}
 
 module _ {b : BakeInput} {p : Progress} {a : ℕ} {v x : List Float} (f : Fits b (stage p v x) a) where
-  -- ---- what the parts ask
-
-  pub startable : (length v ≡ length b.lights * 16) × (length b.lights ≤ voxel_limit)
-  startable = (rw f.lights f.volume, omega (arith, f.lights, voxels_most b.axes f.axes))
-
-  pub walkable : {n : ℕ} → n ≡ length v → Walkable b n p.next
-  walkable e =
-      record {
-        axes = f.axes;
-        scene = f.scene;
-        sky = f.sky;
-        lamps = f.lamps;
-        active = f.active;
-        lights = f.lights;
-        hits = f.hits;
-        inside = e ∙ f.volume;
-        within = f.progress.within;
-      }
-
-  pub endable : {m n : ℕ} → m ≡ length v → n ≡ m
-      → ((0 < b.axes.width) × (0 < b.axes.height) × (voxel_count b * 16 ≡ n) × (length x ≡ n)) × (Tidy b.active (voxel_count b) × (length b.lights ≡ voxel_count b))
-  endable {n = n} e g =
-      let h : n ≡ voxel_count b * voxel_numbers = g ∙ e ∙ f.volume in
-      ((f.axes.width, f.axes.height, sym h, f.scratch ∙ sym h), (f.active, f.lights))
-
-  -- ---- what they come to
-
   starts : {v₁ : List Float} → v₁ ≡ cond (eqb p.next 0) (filled_of b.ambient b.lights) v → v₁ ≡ started (bake_of b) p.next v
   unfolding filled filled_of
   starts e = e ∙ rw f.lights refl
@@ -78,18 +55,6 @@ module _ {b : BakeInput} {p : Progress} {a : ℕ} {v x : List Float} (f : Fits b
       go : Dec (q.next ≡ length (active_entries b)) → (v₃ ≡ (ended (bake_of b) q v₂ x).volume) × (x₃ ≡ (ended (bake_of b) q v₂ x).scratch)
       go (yes h) = over (any_active (bake_of b).active (bake_of b).count) refl (h ∙ all) (k.over h)
       go (no n) = rw (ne_eqb q.next (voxel_count b) (λ z. n (z ∙ sym all))) (k.short n)
-
-  pub idles : {d : List Float} {q : List ℕ} → p.next ≡ length b.lights
-      → Accepts (accepted (bake_of b) a (stage p v x)) (record { next = p.next; rays = 0 }) v x d d q q
-  idles e =
-      rw (eq-eqb p.next (voxel_count b) (e ∙ f.lights))
-      (record {
-        next = refl;
-        rays = refl;
-        volume = refl;
-        scratch = refl;
-        hits = record { distances = λ z. refl; places = λ z. refl };
-      })
 
   pub goes : {v₁ v₂ v₃ x₃ d d' : List Float} {q q' : List ℕ} {r : Reached} → (p.next ≡ length b.lights → ⊥)
       → v₁ ≡ cond (eqb p.next 0) (filled_of b.ambient b.lights) v
@@ -116,35 +81,36 @@ module _ {b : BakeInput} {p : Progress} {a : ℕ} {v x : List Float} (f : Fits b
 
 module _ (b : BakeInput) (s : Stage Float) (a : ℕ) where
   -- the rays that the answer is to know: what was handed in, and what the call fired
-  total : {n : ℕ} {r : Reached} {v x d d' : List Float} {q q' : List ℕ} → n ≡ bake_refusal b s a → n ≡ 0 → Accepts (accepted (bake_of b) a s) r v x d d' q q'
+  total : {r : Reached} {v x d d' : List Float} {q q' : List ℕ} → 0 ≡ bake_refusal b s a → Accepts (accepted (bake_of b) a s) r v x d d' q q'
       → s.progress.rays + r.rays ≡ (bake_call b s a).stage.progress.rays
-  total e z w =
-      ap (λ (n : ℕ). s.progress.rays + n) (w.rays ∙ sym (ap (λ (y : Called Float). y.rays) (accepted_call b s a (sym e ∙ z))))
+  total e w =
+      ap (λ (n : ℕ). s.progress.rays + n) (w.rays ∙ sym (ap (λ (y : Called Float). y.rays) (accepted_call b s a (sym e))))
       ∙ sym (call_adds (bake_of b) a s)
 
   -- they are no more than what the active voxels below next may cost
-  pub total_fits : {n : ℕ} {r : Reached} {v x d d' : List Float} {q q' : List ℕ} → n ≡ bake_refusal b s a → n ≡ 0 → Accepts (accepted (bake_of b) a s) r v x d d' q q'
+  pub total_fits : {r : Reached} {v x d d' : List Float} {q q' : List ℕ} → 0 ≡ bake_refusal b s a → Accepts (accepted (bake_of b) a s) r v x d d' q q'
       → s.progress.rays + r.rays < 18446744073709551616
-  total_fits e z w =
-      let r = sym e ∙ z in
-      let f = fits b s a ((none_refused b s a).0 r) in
-      let k = call_leaves b s a r in
+  total_fits e w =
+      let f = fits b s a ((none_refused b s a).0 (sym e)) in
+      let k = call_leaves b s a (sym e) in
       let p = (bake_call b s a).stage.progress in
       let few : marked_below (active_entries b) p.next ≤ voxel_limit
       = omega (arith, count_within (active_entries b) p.next 0, k.within, voxels_most b.axes f.axes) in
       let cost : bake_cost b ≤ 896 = omega (arith, f.lamps) in
       let bound : marked_below (active_entries b) p.next * bake_cost b ≤ voxel_limit * 896 = mul-le-mul few cost in
-      omega (arith, total e z w, k.most)
+      omega (arith, total e w, k.most)
 
 -- ---- and with the refusals
 
 module _ {b : BakeInput} {s : Stage Float} {a : ℕ} where
-  pub refused : {n : ℕ} {d : List Float} {q : List ℕ} → n ≡ bake_refusal b s a → (n ≡ 0 → ⊥)
-      → Baked b s a (record { refusal = n; progress = s.progress; rays = 0 }) s.volume s.scratch d d q q
-  refused e h =
-      let c = sym (refused_call b s a (λ z. h (e ∙ z))) in
+  pub refused : (answer : Result Advance Refusal) (r : Refusal) {d : List Float} {q : List ℕ} → IsErr answer × IsErrAnd answer (λ y. y ≡ r) → number_of r ≡ bake_refusal b s a
+      → Baked b s a (answer_of answer s.progress) s.volume s.scratch d d q q
+  refused (Ok _) r h e = absurd h.1
+  refused (Err y) r h e =
+      let n : number_of y ≡ bake_refusal b s a = ap number_of h.1 ∙ e in
+      let c = sym (refused_call b s a (λ z. number_nonzero y (n ∙ z))) in
       record {
-        refusal = e ∙ ap (λ (y : Called Float). y.refusal) c;
+        refusal = n ∙ ap (λ (y : Called Float). y.refusal) c;
         progress = ap (λ (y : Called Float). y.stage.progress) c;
         rays = ap (λ (y : Called Float). y.rays) c;
         volume = ap (λ (y : Called Float). y.stage.volume) c;
@@ -154,20 +120,19 @@ module _ {b : BakeInput} {s : Stage Float} {a : ℕ} where
         places_long_lem = refl;
       }
 
-  pub accepts : {n : ℕ} → n ≡ bake_refusal b s a → n ≡ 0 → Fits b s a
-  accepts e z = fits b s a ((none_refused b s a).0 (sym e ∙ z))
+  pub accepts : 0 ≡ bake_refusal b s a → Fits b s a
+  accepts e = fits b s a ((none_refused b s a).0 (sym e))
 
-  pub answers : {n t : ℕ} {r : Reached} {v x d d' : List Float} {q q' : List ℕ} → n ≡ bake_refusal b s a → n ≡ 0
+  pub answers : {r : Reached} {v x d d' : List Float} {q q' : List ℕ} → 0 ≡ bake_refusal b s a
       → Accepts (accepted (bake_of b) a s) r v x d d' q q'
-      → t ≡ s.progress.rays + r.rays
       → length d' ≡ length d
       → length q' ≡ length q
-      → Baked b s a (record { refusal = 0; progress = progress_of r.next t; rays = r.rays }) v x d d' q q'
-  answers e z w k m n =
-      let c = sym (accepted_call b s a (sym e ∙ z)) in
+      → Baked b s a (reached_answer s.progress r) v x d d' q q'
+  answers e w m n =
+      let c = sym (accepted_call b s a (sym e)) in
       record {
         refusal = sym (accepted_none b s a) ∙ ap (λ (y : Called Float). y.refusal) c;
-        progress = ap₂ progress_of (w.next ∙ ap (λ (y : Called Float). y.stage.progress.next) c) (k ∙ total b s a e z w);
+        progress = ap₂ progress_of (w.next ∙ ap (λ (y : Called Float). y.stage.progress.next) c) (total b s a e w);
         rays = w.rays ∙ ap (λ (y : Called Float). y.rays) c;
         volume = w.volume ∙ ap (λ (y : Called Float). y.stage.volume) c;
         scratch = w.scratch ∙ ap (λ (y : Called Float). y.stage.scratch) c;
@@ -176,7 +141,7 @@ module _ {b : BakeInput} {s : Stage Float} {a : ℕ} where
         places_long_lem = n;
       }
 
--- ---- the call for solid walls goes on as the other does
+-- ---- a call for solid walls goes on as one with hit scratch does
 
 abbrev with_hits : BakeInput → BakeInput
 with_hits b = input_of b.axes b.corners b.scene b.light b.ambient b.sky b.lamps b.active b.lights b.distances b.places
@@ -203,17 +168,3 @@ module _ (b : BakeInput) (s : Stage Float) (a : ℕ) where
       → Accepts (accepted (bake_of b) a s) r v x d d' q q'
   accepts_without {r} {v} {x} {d} {d'} {q} {q'} w =
       subst (λ (c : Called Float). Accepts c r v x d d' q q') (sym (accepted_refusing (bake_of (with_hits b)) (bake_refusal b) a s)) w
-
-  -- lists of hits that nobody lent are no part of the answer
-  pub lends_none : {r : BakeAnswer} {v x d d' : List Float} {q q' : List ℕ} → Baked b s a r v x d d' q q' → SolidBaked b s a r v x
-  lends_none w =
-      record {
-        refusal = w.refusal;
-        progress = w.progress;
-        rays = w.rays;
-        volume = w.volume;
-        scratch = w.scratch;
-        hits = record { distances = λ z. refl; places = λ z. refl };
-        distances_long_is = refl;
-        places_long_lem = refl;
-      }

@@ -10,19 +10,27 @@ ghost use Rattle.grid.specs.Grid.{voxels};
 ghost use Rattle.words.specs.Words.{entries_of, Tidy};
 ghost use Rattle.spread.specs.Spread.{stage, accepted};
 ghost use Rattle.ends.specs.Ends.{filled_of};
-ghost use Rattle.intake.specs.Intake.{input_of, solid_input};
+ghost use Rattle.intake.specs.Intake.{input_for, input_of, solid_input};
 ghost use Rattle.intake.specs.IntakeLaws.{Fits};
 ghost use Rattle.demand.specs.Bake.{bake_of};
 ghost use Rattle.walk.specs.Reports.{Accepts};
-ghost use Rattle.bake.specs.Baked.{Baked, SolidBaked, refused_answer, reached_answer, Ends};
+ghost use Rattle.bake.specs.Baked.{Baked, SolidBaked, answer_of, advance_of, Ends};
 
 use grid::{Axes, Corners};
 use limits::{Ambient, Light};
+use names::Refusal;
 use spread::Progress;
 use tree_rows::ROW_NUMBERS;
 use walk::Reached;
 
-// The number of a refusal, 0 where there is none; the progress to go on with; the rays that the call fired.
+// How far a call brought the bake: the progress to go on with, and the rays that the call fired.
+#[derive(Clone, Copy)]
+pub struct Advance {
+    pub progress: Progress,
+    pub rays: u64,
+}
+
+// The same as C is told it: the number of a refusal, 0 where there is none; on a refusal progress as handed in, and no rays.
 #[repr(C)]
 #[derive(Clone, Copy)]
 pub struct BakeAnswer {
@@ -31,7 +39,27 @@ pub struct BakeAnswer {
     pub rays: u64,
 }
 
-// Bakes from progress on while the allowance lasts. Refuses 1 to 7, 19, 9, 10 and 13, in that order, and then returns progress as handed in and writes nothing.
+impl BakeAnswer {
+    // What stands for the answer of a call that was handed this progress.
+    pub fn of(answer: Result<Advance, Refusal>, progress: Progress) -> BakeAnswer
+        ensures { result ≡ answer_of answer progress }
+    {
+        match answer {
+            Ok(advance) => BakeAnswer {
+                refusal: 0,
+                progress: advance.progress,
+                rays: advance.rays,
+            },
+            Err(refusal) => BakeAnswer {
+                refusal: u32::from(refusal),
+                progress,
+                rays: 0,
+            },
+        }
+    }
+}
+
+// Bakes from progress on while the allowance lasts. Refused by 1 to 7, 19, 9, 10 and 13, in that order, and then writes nothing.
 pub fn bake(
     axes: Axes,
     corners: Corners,
@@ -51,53 +79,21 @@ pub fn bake(
     places: &mut [usize],
     progress: Progress,
     allowance: u64,
-) -> BakeAnswer
+) -> Result<Advance, Refusal>
     ensures { Baked
         (input_of axes corners (scene_of points.now uses.now kinds.now numbers.now)
         light ambient sky.now lamps.now active.now lights.now
         (length distances.old) (length places.old))
         (stage progress volume.old scratch.old) allowance
-        result volume.new scratch.new distances.old distances.new places.old places.new }
+        (answer_of result progress) volume.new scratch.new distances.old distances.new places.old places.new }
 {
-    let none = [0.0f32; 0];
-    let no_node = [0u32; 0];
-    let refusal = intake::inner::judge(
-        false,
-        axes,
-        corners,
-        points,
-        uses,
-        kinds,
-        numbers,
-        false,
-        &none,
-        &no_node,
-        &no_node,
-        light,
-        ambient,
-        sky,
-        lamps,
-        active,
-        lights,
-        volume,
-        scratch,
-        distances.len(),
-        places.len(),
-        progress,
-        allowance,
-    );
-    if refusal != 0 {
-        return refused(refusal, progress);
-    }
-    let r = go_on(
-        axes, corners, points, uses, kinds, numbers, false, &none, &no_node, &no_node, &none,
-        light, ambient, sky, lamps, active, lights, volume, scratch, distances, places, progress,
-        allowance,
-    );
-    answered(progress, r)
+    treeless_bake(
+        false, axes, corners, points, uses, kinds, numbers, light, ambient, sky, lamps, active,
+        lights, volume, scratch, distances, places, progress, allowance,
+    )
 }
 
-// The same where every material is opaque: a ray to the sun, the sky or a lamp ends at its first hit, and no hit scratch is lent. Refuses the same numbers; 6
+// The same where every material is opaque: a ray to the sun, the sky or a lamp ends at its first hit, and no hit scratch is lent. Refused by the same numbers; by 6
 // also for a kind other than opaque, used or not. A bake may be begun by the one call and gone on with by the other.
 pub fn solid_bake(
     axes: Axes,
@@ -116,36 +112,23 @@ pub fn solid_bake(
     scratch: &mut [f32],
     progress: Progress,
     allowance: u64,
-) -> BakeAnswer
+) -> Result<Advance, Refusal>
     ensures { SolidBaked
         (solid_input axes corners (scene_of points.now uses.now kinds.now numbers.now)
         light ambient sky.now lamps.now active.now lights.now)
         (stage progress volume.old scratch.old) allowance
-        result volume.new scratch.new }
+        (answer_of result progress) volume.new scratch.new }
 {
-    let none = [0.0f32; 0];
-    let no_node = [0u32; 0];
-    let refusal = intake::inner::judge(
-        true, axes, corners, points, uses, kinds, numbers, false, &none, &no_node, &no_node, light,
-        ambient, sky, lamps, active, lights, volume, scratch, 0, 0, progress, allowance,
-    );
-    if refusal != 0 {
-        return refused(refusal, progress);
-    }
     let mut distances = [0.0f32; 0];
     let mut places = [0usize; 0];
-    let r = go_on(
+    treeless_bake(
+        true,
         axes,
         corners,
         points,
         uses,
         kinds,
         numbers,
-        false,
-        &none,
-        &no_node,
-        &no_node,
-        &none,
         light,
         ambient,
         sky,
@@ -158,12 +141,11 @@ pub fn solid_bake(
         &mut places,
         progress,
         allowance,
-    );
-    answered(progress, r)
+    )
 }
 
-// The same through a box tree of the scene, with hit scratch: only triangles whose own padded box is not passed over are candidates of a ray. Refuses 1 to 7, 19,
-// 16 where the tree is not accepted, 9, 10 and 13, in that order.
+// The same through a box tree of the scene, with hit scratch: only triangles whose own padded box is not passed over are candidates of a ray. Refused by 1 to 7,
+// 19, 16 where the tree is not accepted, 9, 10 and 13, in that order.
 pub fn tree_bake(
     axes: Axes,
     corners: Corners,
@@ -186,15 +168,15 @@ pub fn tree_bake(
     places: &mut [usize],
     progress: Progress,
     allowance: u64,
-) -> BakeAnswer
+) -> Result<Advance, Refusal>
     ensures { Baked
         (input_of axes corners (tree_scene points.now uses.now kinds.now numbers.now boxes.now nodes.now order.now)
         light ambient sky.now lamps.now active.now lights.now
         (length distances.old) (length places.old))
         (stage progress volume.old scratch.old) allowance
-        result volume.new scratch.new distances.old distances.new places.old places.new }
+        (answer_of result progress) volume.new scratch.new distances.old distances.new places.old places.new }
 {
-    let refusal = intake::inner::judge(
+    intake::inner::judge(
         false,
         axes,
         corners,
@@ -218,44 +200,92 @@ pub fn tree_bake(
         places.len(),
         progress,
         allowance,
-    );
-    if refusal != 0 {
-        return refused(refusal, progress);
-    }
+    )?;
     let mut rows = [0.0f32; ROW_NUMBERS];
     tree_rows::inner::lay(points, boxes, nodes, order, &mut rows);
-    let r = go_on(
+    let reached = go_on(
         axes, corners, points, uses, kinds, numbers, true, boxes, nodes, order, &rows, light,
         ambient, sky, lamps, active, lights, volume, scratch, distances, places, progress,
         allowance,
     );
-    answered(progress, r)
+    Ok(advanced(progress, reached))
 }
 
-// A refusal returns progress as handed in.
-fn refused(refusal: u32, progress: Progress) -> BakeAnswer
-    ensures { result ≡ refused_answer refusal progress }
+// A call without a tree, for solid walls or not; those lend hit scratch that holds nothing.
+fn treeless_bake(
+    solid: bool,
+    axes: Axes,
+    corners: Corners,
+    points: &[f32],
+    uses: &[u32],
+    kinds: &[u8],
+    numbers: &[f32],
+    light: Light,
+    ambient: Ambient,
+    sky: &[f32],
+    lamps: &[f32],
+    active: &[u64],
+    lights: &[f32],
+    volume: &mut [f32],
+    scratch: &mut [f32],
+    distances: &mut [f32],
+    places: &mut [usize],
+    progress: Progress,
+    allowance: u64,
+) -> Result<Advance, Refusal>
+    ensures { Baked
+        (input_for solid axes corners (scene_of points.now uses.now kinds.now numbers.now)
+        light ambient sky.now lamps.now active.now lights.now
+        (length distances.old) (length places.old))
+        (stage progress volume.old scratch.old) allowance
+        (answer_of result progress) volume.new scratch.new distances.old distances.new places.old places.new }
 {
-    BakeAnswer {
-        refusal,
+    let none = [0.0f32; 0];
+    let no_node = [0u32; 0];
+    intake::inner::judge(
+        solid,
+        axes,
+        corners,
+        points,
+        uses,
+        kinds,
+        numbers,
+        false,
+        &none,
+        &no_node,
+        &no_node,
+        light,
+        ambient,
+        sky,
+        lamps,
+        active,
+        lights,
+        volume,
+        scratch,
+        distances.len(),
+        places.len(),
         progress,
-        rays: 0,
-    }
+        allowance,
+    )?;
+    let reached = go_on(
+        axes, corners, points, uses, kinds, numbers, false, &none, &no_node, &no_node, &none,
+        light, ambient, sky, lamps, active, lights, volume, scratch, distances, places, progress,
+        allowance,
+    );
+    Ok(advanced(progress, reached))
 }
 
 // What was reached from progress on, with its rays added to those so far.
-fn answered(progress: Progress, r: Reached) -> BakeAnswer
-    requires { progress.rays + r.rays < 18446744073709551616 }
-    ensures { result ≡ reached_answer progress r }
+fn advanced(progress: Progress, reached: Reached) -> Advance
+    requires { progress.rays + reached.rays < 18446744073709551616 }
+    ensures { result ≡ advance_of progress reached }
 {
-    let total = progress.rays + r.rays;
-    BakeAnswer {
-        refusal: 0,
+    Advance {
         progress: Progress {
-            next: r.next,
-            rays: total,
+            next: reached.next,
+            rays: progress.rays + reached.rays,
         },
-        rays: r.rays,
+        rays: reached.rays,
     }
 }
 
@@ -321,7 +351,6 @@ fn start(ambient: Ambient, lights: &[f32], volume: &mut [f32], next: usize)
 {
     if next == 0 {
         ends::inner::fill(ambient, lights, volume);
-        return;
     }
 }
 
@@ -341,6 +370,5 @@ fn end(
 {
     if reached == n {
         ends::inner::finish(axes, active, volume, scratch);
-        return;
     }
 }

@@ -242,6 +242,7 @@ pub extern "C" fn geaidnosa_sun(
         axes, corners, points, uses, kinds, numbers, direction, active, light, scratch, distances,
         places,
     )
+    .into()
 }
 
 #[unsafe(no_mangle)]
@@ -262,6 +263,7 @@ pub extern "C" fn geaidnosa_solid_sun(
     sun::solid_sun(
         axes, corners, points, uses, kinds, numbers, direction, active, light, scratch,
     )
+    .into()
 }
 
 #[unsafe(no_mangle)]
@@ -288,6 +290,7 @@ pub extern "C" fn geaidnosa_tree_sun(
         axes, corners, points, uses, kinds, numbers, boxes, nodes, order, direction, active, light,
         scratch, distances, places,
     )
+    .into()
 }
 
 // ---- the bake
@@ -320,10 +323,11 @@ pub extern "C" fn geaidnosa_bake(
         (stage progress volume.old scratch.old) allowance
         result volume.new scratch.new distances.old distances.new places.old places.new }
 {
-    bake::bake(
+    let answer = bake::bake(
         axes, corners, points, uses, kinds, numbers, light, ambient, sky, lamps, active, lights,
         volume, scratch, distances, places, progress, allowance,
-    )
+    );
+    BakeAnswer::of(answer, progress)
 }
 
 #[unsafe(no_mangle)]
@@ -351,10 +355,11 @@ pub extern "C" fn geaidnosa_solid_bake(
         (stage progress volume.old scratch.old) allowance
         result volume.new scratch.new }
 {
-    bake::solid_bake(
+    let answer = bake::solid_bake(
         axes, corners, points, uses, kinds, numbers, light, ambient, sky, lamps, active, lights,
         volume, scratch, progress, allowance,
-    )
+    );
+    BakeAnswer::of(answer, progress)
 }
 
 #[unsafe(no_mangle)]
@@ -388,10 +393,11 @@ pub extern "C" fn geaidnosa_tree_bake(
         (stage progress volume.old scratch.old) allowance
         result volume.new scratch.new distances.old distances.new places.old places.new }
 {
-    bake::tree_bake(
+    let answer = bake::tree_bake(
         axes, corners, points, uses, kinds, numbers, boxes, nodes, order, light, ambient, sky,
         lamps, active, lights, volume, scratch, distances, places, progress, allowance,
-    )
+    );
+    BakeAnswer::of(answer, progress)
 }
 
 #[unsafe(no_mangle)]

@@ -4,14 +4,13 @@ use Rattle.words.specs.WordsLaws.{entries_length}
 use Rattle.bake.proofs.end.Goals as goal
 
 pub returns-then-reached-n : goal.returns-then-reached-n
-returns-then-reached-n c =
-    let s = c in
-    record {
-      over = λ e. c.finish.ensures;
-      short = λ n. absurd (n (s.if-reached-n.true ∙ s.requires.tidy.1 ∙ sym (entries_length s.args.active.now _)));
-    }
+returns-then-reached-n c = record {
+  over = λ e. c.finish.ensures;
+  short = λ n. absurd (n (c.if-reached-n.true ∙ c.requires.tidy.1 ∙ sym (entries_length c.args.active.now _)));
+}
 
-pub returns : goal.returns
-returns c =
-    let s = c in
-    record { over = λ e. absurd (c.if-reached-n.false (e ∙ entries_length s.args.active.now _ ∙ sym s.requires.tidy.1)); short = λ n. (refl, refl) }
+pub returns-else-reached-n : goal.returns-else-reached-n
+returns-else-reached-n c = record {
+  over = λ e. absurd (c.if-reached-n.false (e ∙ entries_length c.args.active.now _ ∙ sym c.requires.tidy.1));
+  short = λ n. (refl, refl);
+}
