@@ -1,6 +1,5 @@
 // The text of a file's figures, of those of all files, and of a refusal. A line is made whole and written at once.
-ghost use Rattle.std.specs.Prelude.{◌≡◌, ◌+◌, ◌*◌, ◌≤◌, length, take};
-ghost use Rattle.std.proofs.lemmas.List.Edits.{sets};
+ghost use Rattle.std.specs.Prelude.{◌≡◌, ◌++◌, ◌+◌, ◌*◌, ◌≤◌, length, take};
 ghost use Rattle.names.specs.Numbers.{files_limit};
 ghost use Rattle.league_report.specs.Report.{Line};
 ghost use Rattle.league_line.specs.Text.{decimal_of, spaced, text_of};
@@ -30,42 +29,24 @@ fn put_figures(line: &mut [u8], first: u64, figures: LightFigures) -> usize
     requires { 441 ≤ length line.old }
     ensures { (take result line.new ≡ text_of (Line.figures first figures)) × (result ≤ 441) }
 {
-    let bands = figures.bands;
-    let numbers = [
-        figures.voxels,
-        figures.sum,
-        figures.lowest,
-        figures.highest,
-        bands[0],
-        bands[1],
-        bands[2],
-        bands[3],
-        bands[4],
-        bands[5],
-        bands[6],
-        bands[7],
-        bands[8],
-        bands[9],
-        bands[10],
-        bands[11],
-        bands[12],
-        bands[13],
-        bands[14],
-        bands[15],
-    ];
     let at = put_decimal(line, 0, first);
-    let end = put_numbers(line, at, &numbers);
+    let at = put_numbers(
+        line,
+        at,
+        &[figures.voxels, figures.sum, figures.lowest, figures.highest],
+    );
+    let end = put_numbers(line, at, &figures.bands);
     line[end] = b'\n';
     end + 1
 }
 
+#[tactic(auto, using(std::proofs::lemmas::Slice::overwrites), unfolding(crate::specs::Text::text_of))]
 fn put_refusal(line: &mut [u8], refusal: u64, place: u64) -> usize
     requires { 50 ≤ length line.old }
     ensures { (take result line.new ≡ text_of (Line.refused refusal place)) × (result ≤ 50) }
 {
-    put_bytes(line, 0, b"refused");
-    let numbers = [refusal, place];
-    let end = put_numbers(line, 7, &numbers);
+    line[..7].copy_from_slice(b"refused");
+    let end = put_numbers(line, 7, &[refusal, place]);
     line[end] = b'\n';
     end + 1
 }
@@ -73,38 +54,27 @@ fn put_refusal(line: &mut [u8], refusal: u64, place: u64) -> usize
 // ---- numbers
 
 // Each number after a space, from byte `at` on; where they end.
+#[tactic(auto, unfolding(crate::specs::Text::spaced))]
 fn put_numbers(line: &mut [u8], at: usize, numbers: &[u64]) -> usize
     requires { at + length numbers.now * 21 ≤ length line.old }
-    ensures { (line.new ≡ sets line.old at (spaced numbers.now)) × (result ≡ at + length (spaced numbers.now)) × (result ≤ at + length numbers.now * 21) }
+    ensures { (take result line.new ≡ take at line.old ++ spaced numbers.now) × (result ≤ at + length numbers.now * 21) }
 {
     let mut end = at;
-    let mut i: usize = 0;
-    while i < numbers.len() {
+    for n in numbers {
         line[end] = b' ';
-        end = put_decimal(line, end + 1, numbers[i]);
-        i += 1;
+        end = put_decimal(line, end + 1, *n);
     }
     end
 }
 
 // The decimal digits from byte `at` on; where they end.
+#[tactic(auto, using(std::proofs::lemmas::Slice::overwrites, crate::specs::TextLaws::fewest_most, crate::specs::TextLaws::decimal_is))]
 fn put_decimal(line: &mut [u8], at: usize, n: u64) -> usize
     requires { at + 20 ≤ length line.old }
-    ensures { (line.new ≡ sets line.old at (decimal_of n)) × (result ≡ at + length (decimal_of n)) × (result ≤ at + 20) }
+    ensures { (take result line.new ≡ take at line.old ++ decimal_of n) × (result ≤ at + 20) }
 {
     let mut text = [0u8; 20];
     let k = console::decimal(n, &mut text);
-    put_bytes(line, at, &text[..k]);
+    line[at..at + k].copy_from_slice(&text[..k]);
     at + k
-}
-
-fn put_bytes(line: &mut [u8], at: usize, text: &[u8])
-    requires { at + length text.now ≤ length line.old }
-    ensures { line.new ≡ sets line.old at text.now }
-{
-    let mut i: usize = 0;
-    while i < text.len() {
-        line[at + i] = text[i];
-        i += 1;
-    }
 }

@@ -11,6 +11,7 @@ use grid::{Axes, Corners};
 use vectors::Vec3;
 
 // Writes the whole file over `bytes`.
+#[tactic(auto, using(grid::specs::GridLaws::voxels_most))]
 pub fn put_file(
     bytes: &mut [u8],
     axes: Axes,
@@ -34,6 +35,7 @@ pub fn put_file(
 }
 
 // Writes the five entries of a file of n voxels.
+#[tactic(auto, using(bytes_le::specs::BytesLaws::sets_after), unfolding(crate::specs::FileBytes::contents_of))]
 fn put_contents(bytes: &mut [u8], n: usize)
     requires { (72 ≤ length bytes.old) × (n ≤ voxel_limit) }
     ensures { bytes.new ≡ sets bytes.old 12 (contents_of n) }
@@ -46,15 +48,16 @@ fn put_contents(bytes: &mut [u8], n: usize)
 }
 
 // Writes the n entries of a mask, a byte each, from `at` on.
+#[tactic(auto, using(crate::proofs::Whole::part_set))]
 fn put_mask(bytes: &mut [u8], at: usize, words: &[u64], n: usize)
     requires { (length words.now ≡ word_count n) × (at + n ≤ length bytes.old) }
     ensures { bytes.new ≡ sets bytes.old at (entries_of words.now n) }
 {
-    let end = at + n;
-    words::inner::unpack(words, &mut bytes[at..end]);
+    words::inner::unpack(words, &mut bytes[at..at + n]);
 }
 
 // Writes the six corner floats from `at` on.
+#[tactic(auto, using(bytes_le::specs::BytesLaws::sets_after), unfolding(bytes_le::specs::Bytes::encode))]
 fn put_corners(bytes: &mut [u8], at: usize, corners: Corners)
     requires { at + 24 ≤ length bytes.old }
     ensures { bytes.new ≡ sets bytes.old at (encode (corners_list corners)) }
@@ -63,6 +66,7 @@ fn put_corners(bytes: &mut [u8], at: usize, corners: Corners)
     put_vector(bytes, at + 12, corners.max);
 }
 
+#[tactic(auto, using(bytes_le::specs::BytesLaws::sets_after), unfolding(bytes_le::specs::Bytes::encode))]
 fn put_vector(bytes: &mut [u8], at: usize, v: Vec3)
     requires { at + 12 ≤ length bytes.old }
     ensures { bytes.new ≡ sets bytes.old at (encode (v.x ∷ v.y ∷ v.z ∷ [])) }
