@@ -3,572 +3,312 @@
 // number, which is also the one that the bake reports.
 #![tactic(auto)]
 
+ghost use Rattle.std.specs.Prelude.{◌*◌, ◌^◌, ◌<◌};
+
 use bake::BakeAnswer;
-use replay::Tally;
+use grid::{Axes, Corners};
+use limits::{Ambient, Light};
+use replay::{Tally, Words, room};
+use replay_values::{Scene, SceneRoom};
 use spread::Progress;
 use std::io;
 
-// Where the lists begin: points, uses, kinds, numbers, sky, lamps, active, light, volume, scratch, distances, places, and of a tree boxes,
-// nodes, order.
-const FROM: usize = 31;
-
-// Where a call's lists begin: volume, scratch.
-const LISTS: usize = 14;
-
-// The four kinds of record: calls with hit scratch, calls for solid walls, calls through a tree, and rays.
-const CALLS: u32 = 7;
-
-const SOLID: u32 = 13;
-
-const TREE: u32 = 16;
-
-const RAYS: u32 = 11;
-
-// Whether the record is one through a tree.
-fn through_tree(s: &[u8]) -> bool {
-    replay::word(s, 0) == TREE
+// What a record is of: calls with hit scratch, for solid walls or through a tree, or the rays that a bake fires.
+#[derive(Clone, Copy, PartialEq, Eq)]
+enum Kind {
+    Calls,
+    Solid,
+    Tree,
+    Rays,
 }
 
-// Where the calls or the rays stand, behind the last list.
-fn after(s: &[u8]) -> usize {
-    if through_tree(s) {
-        return replay::nth(s, FROM, 15);
+impl TryFrom<u32> for Kind {
+    type Error = ();
+
+    fn try_from(number: u32) -> Result<Kind, ()> {
+        match number {
+            7 => Ok(Kind::Calls),
+            11 => Ok(Kind::Rays),
+            13 => Ok(Kind::Solid),
+            16 => Ok(Kind::Tree),
+            _ => Err(()),
+        }
     }
-    replay::nth(s, FROM, 12)
+}
+
+// Room for the sky, and for lamps: thirteen, which is more than any call accepts.
+const SKY: usize = 1740;
+
+const LAMPS: usize = 80;
+
+// A record, its lists, and behind the last of these its calls or its rays.
+#[derive(Clone, Copy)]
+struct Case<'a> {
+    kind: Kind,
+    values: Words<'a>,
+    lists: Words<'a>,
+    asked: Words<'a>,
+}
+
+// What a call reads.
+#[derive(Clone, Copy)]
+struct Given<'a> {
+    axes: Axes,
+    corners: Corners,
+    scene: Scene<'a>,
+    sunlight: Light,
+    ambient: Ambient,
+    sky: &'a [f32],
+    lamps: &'a [f32],
+    active: &'a [u64],
+    lights: &'a [f32],
+}
+
+// What a call writes: the volume and its scratch, and hit scratch.
+#[derive(Drop)]
+struct Written<'a> {
+    volume: &'a mut [f32],
+    scratch: &'a mut [f32],
+    distances: &'a mut [f32],
+    places: &'a mut [usize],
 }
 
 // The next voxel and the rays so far.
-fn progress(s: &[u8], at: usize) -> Progress {
+fn progress(w: Words) -> Progress {
     Progress {
-        next: replay::whole(s, at),
-        rays: replay::long(s, replay::further(at, 2)),
+        next: w.whole(0),
+        rays: w.long(2),
     }
 }
 
-// Holds a call's numbers to the record. A call is its progress, its allowance, whether hit scratch is held, then refusal, progress and rays.
-fn numbers_held(s: &[u8], t: Tally, at: usize, r: BakeAnswer) -> Tally {
-    let left = progress(s, replay::further(at, 8));
-    let a = replay::held(t, r.refusal == replay::word(s, replay::further(at, 7)));
-    let b = replay::held(a, r.progress.next == left.next);
-    let c = replay::held(b, r.progress.rays == left.rays);
-    replay::held(c, r.rays == replay::long(s, replay::further(at, 12)))
-}
-
-// Holds the lists that a call may write to the record.
-fn lists_held(
-    s: &[u8],
-    t: Tally,
-    solid: bool,
-    at: usize,
-    volume: &[f32],
-    scratch: &[f32],
-    distances: &[f32],
-    places: &[usize],
-) -> Tally {
-    let first = replay::further(at, LISTS);
-    let asked = !solid & (replay::word(s, replay::further(at, 6)) != 0);
-    let a = replay::held(t, replay::same_floats(s, first, volume));
-    let b = replay::held(a, replay::same_floats(s, replay::past(s, first), scratch));
-    replay::held_if(
-        b,
-        asked,
-        replay::same_hits(s, replay::nth(s, FROM, 10), distances, places),
-    )
-}
-
-// Where each list that no call writes ends in the one that holds it: points, numbers, sky, lamps, lights, boxes; uses, nodes, order.
-#[derive(Clone, Copy)]
-struct Cuts {
-    points: usize,
-    numbers: usize,
-    sky: usize,
-    lamps: usize,
-    lights: usize,
-    boxes: usize,
-    uses: usize,
-    nodes: usize,
-    order: usize,
-}
-
-fn cut(s: &[u8]) -> Cuts {
-    let points = replay::small(s, FROM);
-    let numbers = replay::end(s, points, replay::nth(s, FROM, 3));
-    let sky = replay::end(s, numbers, replay::nth(s, FROM, 4));
-    let lamps = replay::end(s, sky, replay::nth(s, FROM, 5));
-    let lights = replay::end(s, lamps, replay::nth(s, FROM, 7));
-    let uses = replay::small(s, replay::nth(s, FROM, 1));
-    let nodes = tree_end(s, uses, 13);
-    Cuts {
-        points,
-        numbers,
-        sky,
-        lamps,
-        lights,
-        boxes: tree_end(s, lights, 12),
-        uses,
-        nodes,
-        order: tree_end(s, nodes, 14),
+// A call, through the scene's tree if it has one.
+fn lent(given: Given, begun: Progress, allowance: u64, written: &mut Written) -> BakeAnswer {
+    let scene = given.scene;
+    match scene.tree {
+        Some(tree) => bake::tree_bake(
+            given.axes,
+            given.corners,
+            scene.points,
+            scene.uses,
+            scene.kinds,
+            scene.numbers,
+            tree.boxes,
+            tree.nodes,
+            tree.order,
+            given.sunlight,
+            given.ambient,
+            given.sky,
+            given.lamps,
+            given.active,
+            given.lights,
+            written.volume,
+            written.scratch,
+            written.distances,
+            written.places,
+            begun,
+            allowance,
+        ),
+        None => bake::bake(
+            given.axes,
+            given.corners,
+            scene.points,
+            scene.uses,
+            scene.kinds,
+            scene.numbers,
+            given.sunlight,
+            given.ambient,
+            given.sky,
+            given.lamps,
+            given.active,
+            given.lights,
+            written.volume,
+            written.scratch,
+            written.distances,
+            written.places,
+            begun,
+            allowance,
+        ),
     }
 }
 
-// Where list `k`, one of a tree, ends that begins at `from`; without a tree it is empty.
-fn tree_end(s: &[u8], from: usize, k: usize) -> usize {
-    if through_tree(s) {
-        return replay::end(s, from, replay::nth(s, FROM, k));
-    }
-    from
-}
-
-// A call with the record's lists, by the one engine or the other, through its tree if it has one.
+// A call by the one engine or the other.
 fn answered(
-    s: &[u8],
     solid: bool,
+    given: Given,
     begun: Progress,
     allowance: u64,
-    floats: &[f32],
-    words: &[u32],
-    kinds: &[u8],
-    active: &[u64],
-    volume: &mut [f32],
-    scratch: &mut [f32],
-    distances: &mut [f32],
-    places: &mut [usize],
+    written: &mut Written,
 ) -> BakeAnswer {
-    let axes = replay_values::axes(s, 1);
-    let corners = replay_values::corners(s, 7);
-    let sunlight = replay_values::light(s, 13);
-    let sh = replay_values::ambient(s, 19);
-    let at = cut(s);
-    let points = replay::float_part(floats, 0, at.points);
-    let numbers = replay::float_part(floats, at.points, at.numbers);
-    let sky = replay::float_part(floats, at.numbers, at.sky);
-    let lamps = replay::float_part(floats, at.sky, at.lamps);
-    let lights = replay::float_part(floats, at.lamps, at.lights);
-    let uses = replay::word_part(words, 0, at.uses);
-    if solid {
-        return bake::solid_bake(
-            axes, corners, points, uses, kinds, numbers, sunlight, sh, sky, lamps, active, lights,
-            volume, scratch, begun, allowance,
-        );
+    if !solid {
+        return lent(given, begun, allowance, written);
     }
-    if through_tree(s) {
-        let boxes = replay::float_part(floats, at.lights, at.boxes);
-        let nodes = replay::word_part(words, at.uses, at.nodes);
-        let order = replay::word_part(words, at.nodes, at.order);
-        return bake::tree_bake(
-            axes, corners, points, uses, kinds, numbers, boxes, nodes, order, sunlight, sh, sky,
-            lamps, active, lights, volume, scratch, distances, places, begun, allowance,
-        );
-    }
-    bake::bake(
-        axes, corners, points, uses, kinds, numbers, sunlight, sh, sky, lamps, active, lights,
-        volume, scratch, distances, places, begun, allowance,
-    )
-}
-
-fn one(
-    s: &[u8],
-    t: Tally,
-    solid: bool,
-    at: usize,
-    floats: &[f32],
-    words: &[u32],
-    kinds: &[u8],
-    active: &[u64],
-    volume: &mut [f32],
-    scratch: &mut [f32],
-    distances: &mut [f32],
-    places: &mut [usize],
-) -> Tally {
-    let allowance = replay::long(s, replay::further(at, 4));
-    let r = answered(
-        s,
-        solid,
-        progress(s, at),
+    let scene = given.scene;
+    bake::solid_bake(
+        given.axes,
+        given.corners,
+        scene.points,
+        scene.uses,
+        scene.kinds,
+        scene.numbers,
+        given.sunlight,
+        given.ambient,
+        given.sky,
+        given.lamps,
+        given.active,
+        given.lights,
+        written.volume,
+        written.scratch,
+        begun,
         allowance,
-        floats,
-        words,
-        kinds,
-        active,
-        volume,
-        scratch,
-        distances,
-        places,
-    );
-    let u = numbers_held(s, t, at, r);
-    lists_held(s, u, solid, at, volume, scratch, distances, places)
+    )
 }
 
-// Hit scratch is lent afresh at each call.
-fn fresh(
-    s: &[u8],
-    t: Tally,
+// A call, with hit scratch as the record lends it, whose lists begin at `hits`. A call is its progress, its allowance, whether hit scratch is held, then refusal, progress, rays, and the two
+// lists of the volume.
+fn called(
     solid: bool,
-    at: usize,
-    floats: &[f32],
-    words: &[u32],
-    kinds: &[u8],
-    active: &[u64],
-    volume: &mut [f32],
-    scratch: &mut [f32],
-    distances: &mut [f32],
-    places: &mut [usize],
+    hits: Words,
+    call: Words,
+    t: Tally,
+    given: Given,
+    written: &mut Written,
 ) -> Tally {
-    let lent = replay::nth(s, FROM, 10);
-    replay::hits(s, lent, distances, places);
-    one(
-        s, t, solid, at, floats, words, kinds, active, volume, scratch, distances, places,
-    )
+    hits.fill(written.distances);
+    hits.list(1).fill(written.places);
+    let r = answered(solid, given, progress(call), call.long(4), written);
+    let left = progress(call.skip(8));
+    let lists = call.skip(14);
+    let unhit = hits.is_list(written.distances) & hits.list(1).is_list(written.places);
+    t.held(r.refusal == call.word(7))
+        .held(r.progress.next == left.next)
+        .held(r.progress.rays == left.rays)
+        .held(r.rays == call.long(12))
+        .held(lists.is_list(written.volume))
+        .held(lists.list(1).is_list(written.scratch))
+        .held_if(!solid & (call.word(6) != 0), unhit)
 }
 
 // The calls, one after another, over the same volume and scratch.
-fn calls(
-    s: &[u8],
-    t: Tally,
-    solid: bool,
-    floats: &[f32],
-    words: &[u32],
-    kinds: &[u8],
-    active: &[u64],
-    volume: &mut [f32],
-    scratch: &mut [f32],
-    distances: &mut [f32],
-    places: &mut [usize],
-) -> Tally {
-    let from = after(s);
-    let n = replay::small(s, from);
+fn calls(solid: bool, case: Case, t: Tally, given: Given, written: &mut Written) -> Tally {
+    let hits = case.lists.list(10);
     let mut tally = t;
-    let mut at = replay::further(from, 1);
-    let mut i: usize = 0;
-    while i < n {
-        tally = fresh(
-            s, tally, solid, at, floats, words, kinds, active, volume, scratch, distances, places,
-        );
-        at = replay::nth(s, replay::further(at, LISTS), 2);
-        i += 1;
+    let mut call = case.asked.skip(1);
+    for _ in 0..case.asked.count(0) {
+        tally = called(solid, hits, call, tally, given, written);
+        call = call.skip(14).list(2);
     }
     tally
 }
 
-// The rays that the port's own functions make, one by one, and their number; once, since both engines make the same.
-fn listed(
-    s: &[u8],
-    t: Tally,
-    solid: bool,
-    floats: &[f32],
-    words: &[u32],
-    kinds: &[u8],
-    active: &[u64],
-) -> Tally {
-    if solid {
-        return t;
+// The rays that a bake fires, one by one as the port's own functions make them, once, since both engines make the same; and their number, which the bake reports too, by the one engine or
+// the other.
+fn rays(solid: bool, case: Case, t: Tally, given: Given, written: &mut Written) -> Tally {
+    let listed = if solid {
+        t
+    } else {
+        replay_fired::listed(
+            case.values,
+            case.asked,
+            t,
+            given.scene,
+            given.lamps,
+            given.active,
+        )
+    };
+    let none = Progress { next: 0, rays: 0 };
+    let r = answered(solid, given, none, u64::MAX, written);
+    let n = u64::from(case.asked.word(0));
+    listed.held((r.refusal == 0) & (r.rays == n) & (r.progress.rays == n))
+}
+
+// What a record asks by the one engine or the other, over volume and scratch as the record lends them.
+fn baked(solid: bool, case: Case, t: Tally, given: Given, written: &mut Written) -> Tally {
+    case.lists.list(8).fill(written.volume);
+    case.lists.list(9).fill(written.scratch);
+    if case.kind == Kind::Rays {
+        return rays(solid, case, t, given, written);
     }
-    let at = cut(s);
-    let points = replay::float_part(floats, 0, at.points);
-    let numbers = replay::float_part(floats, at.points, at.numbers);
-    let lamps = replay::float_part(floats, at.sky, at.lamps);
-    let uses = replay::word_part(words, 0, at.uses);
-    replay_fired::listed(s, t, points, uses, kinds, numbers, lamps, active)
-}
-
-// The rays that a bake fires, and their number, which the bake reports too, by the one engine or the other.
-fn rays(
-    s: &[u8],
-    t: Tally,
-    solid: bool,
-    floats: &[f32],
-    words: &[u32],
-    kinds: &[u8],
-    active: &[u64],
-    volume: &mut [f32],
-    scratch: &mut [f32],
-    distances: &mut [f32],
-    places: &mut [usize],
-) -> Tally {
-    let u = listed(s, t, solid, floats, words, kinds, active);
-    let r = answered(
-        s,
-        solid,
-        Progress { next: 0, rays: 0 },
-        u64::MAX,
-        floats,
-        words,
-        kinds,
-        active,
-        volume,
-        scratch,
-        distances,
-        places,
-    );
-    let n = replay::half(s, after(s));
-    replay::held(u, (r.refusal == 0) & (r.rays == n) & (r.progress.rays == n))
-}
-
-fn stock(s: &[u8], volume: &mut [f32], scratch: &mut [f32]) {
-    replay::floats(s, replay::nth(s, FROM, 8), volume);
-    replay::floats(s, replay::nth(s, FROM, 9), scratch);
-}
-
-// The calls of a record by the one engine or the other, over volume and scratch as the record lends them.
-fn stocked(
-    s: &[u8],
-    t: Tally,
-    solid: bool,
-    floats: &[f32],
-    words: &[u32],
-    kinds: &[u8],
-    active: &[u64],
-    volume: &mut [f32],
-    scratch: &mut [f32],
-    distances: &mut [f32],
-    places: &mut [usize],
-) -> Tally {
-    stock(s, volume, scratch);
-    if replay::word(s, 0) == RAYS {
-        return rays(
-            s, t, solid, floats, words, kinds, active, volume, scratch, distances, places,
-        );
-    }
-    calls(
-        s, t, solid, floats, words, kinds, active, volume, scratch, distances, places,
-    )
+    calls(solid, case, t, given, written)
 }
 
 // By one engine, or by both where they have one answer.
-fn asked(
-    s: &[u8],
-    t: Tally,
-    floats: &[f32],
-    words: &[u32],
-    kinds: &[u8],
-    active: &[u64],
-    volume: &mut [f32],
-    scratch: &mut [f32],
-    distances: &mut [f32],
-    places: &mut [usize],
-) -> Tally {
-    let kind = replay::word(s, 0);
-    let u = stocked(
-        s,
-        t,
-        kind == SOLID,
-        floats,
-        words,
-        kinds,
-        active,
-        volume,
-        scratch,
-        distances,
-        places,
+fn both(case: Case, t: Tally, given: Given, written: &mut Written) -> Tally {
+    let solid = case.kind == Kind::Solid;
+    let u = baked(solid, case, t, given, written);
+    let scene = given.scene;
+    let opaque = replay::through_both(
+        scene.kinds,
+        scene.uses.len(),
+        written.distances.len(),
+        written.places.len(),
     );
-    if both(s, kinds, distances.len(), places.len()) {
-        return stocked(
-            s, u, true, floats, words, kinds, active, volume, scratch, distances, places,
-        );
+    if !solid && scene.tree.is_none() && opaque {
+        return baked(true, case, u, given, written);
     }
     u
 }
 
-fn both(s: &[u8], kinds: &[u8], distances: usize, places: usize) -> bool {
-    let kind = replay::word(s, 0);
-    let t = replay::small(s, replay::nth(s, FROM, 1));
-    (kind != SOLID) & (kind != TREE) & replay::through_both(kinds, t, distances, places)
-}
-
-// Reads the lists that no call writes, but kinds and mask.
-fn gather(s: &[u8], floats: &mut [f32], words: &mut [u32]) {
-    gather_scene(s, floats);
-    gather_lighting(s, floats);
-    gather_words(s, words);
-}
-
-fn gather_scene(s: &[u8], floats: &mut [f32]) {
-    let at = cut(s);
-    replay::floats_into(s, FROM, floats, 0, at.points);
-    replay::floats_into(s, replay::nth(s, FROM, 3), floats, at.points, at.numbers);
-    replay::floats_into(s, replay::nth(s, FROM, 12), floats, at.lights, at.boxes);
-}
-
-fn gather_lighting(s: &[u8], floats: &mut [f32]) {
-    let at = cut(s);
-    replay::floats_into(s, replay::nth(s, FROM, 4), floats, at.numbers, at.sky);
-    replay::floats_into(s, replay::nth(s, FROM, 5), floats, at.sky, at.lamps);
-    replay::floats_into(s, replay::nth(s, FROM, 7), floats, at.lamps, at.lights);
-}
-
-fn gather_words(s: &[u8], words: &mut [u32]) {
-    let at = cut(s);
-    replay::words_into(s, replay::nth(s, FROM, 1), words, 0, at.uses);
-    replay::words_into(s, replay::nth(s, FROM, 13), words, at.uses, at.nodes);
-    replay::words_into(s, replay::nth(s, FROM, 14), words, at.nodes, at.order);
-}
-
-fn filled(
-    s: &[u8],
-    t: Tally,
-    floats: &mut [f32],
-    words: &mut [u32],
-    kinds: &mut [u8],
-    active: &mut [u64],
-) -> Tally {
-    gather(s, floats, words);
-    replay::bytes(s, replay::nth(s, FROM, 2), kinds);
-    replay::mask(s, replay::nth(s, FROM, 6), active);
-    sized(s, t, floats, words, kinds, active)
-}
-
-fn fits(s: &[u8]) -> bool {
-    known(replay::word(s, 0))
-        & replay::fits(s, FROM, 36900)
-        & replay::fits(s, replay::nth(s, FROM, 1), 4100)
-        & replay::fits(s, replay::nth(s, FROM, 2), 520)
-        & replay::fits(s, replay::nth(s, FROM, 3), 3640)
-        & replay::fits(s, replay::nth(s, FROM, 4), 1740)
-        & replay::fits(s, replay::nth(s, FROM, 5), 80)
-        & replay::fits(s, replay::nth(s, FROM, 6), 82240)
-        & replay::fits(s, replay::nth(s, FROM, 7), 82000)
-        & volumes_fit(s, 526400)
-        & replay::fits(s, replay::nth(s, FROM, 10), 4100)
-        & replay::fits(s, replay::nth(s, FROM, 11), 8200)
-        & tree_fits(s)
-}
-
-fn known(kind: u32) -> bool {
-    (kind == CALLS) | (kind == SOLID) | (kind == TREE) | (kind == RAYS)
-}
-
-fn tree_fits(s: &[u8]) -> bool {
-    if through_tree(s) {
-        return replay::tree_fits(s, replay::nth(s, FROM, 12));
-    }
-    true
-}
-
-fn volumes_fit(s: &[u8], most: usize) -> bool {
-    replay::fits(s, replay::nth(s, FROM, 8), most) & replay::fits(s, replay::nth(s, FROM, 9), most)
+// The lists: points, uses, kinds, numbers, sky, lamps, active, light, volume, scratch, distances, places, and of a tree boxes, nodes, order.
+fn sized<const ROOM: usize>(case: Case, t: Tally) -> Option<Tally>
+    requires { ROOM * 4 < 2 ^ 63 }
+{
+    let values = case.values;
+    let lists = case.lists;
+    let tree = if case.kind == Kind::Tree {
+        Some(lists.list(12))
+    } else {
+        None
+    };
+    let mut scene = SceneRoom::new();
+    let mut sky = [0.0; SKY];
+    let mut lamps = [0.0; LAMPS];
+    let mut active = [0; room::MASK];
+    let mut lights = [0.0; room::LIGHT];
+    let mut volume = [0.0; ROOM];
+    let mut scratch = [0.0; ROOM];
+    let mut distances = [0.0; room::HITS];
+    let mut places = [0; room::HITS];
+    let given = Given {
+        axes: replay_values::axes(values.skip(1)),
+        corners: replay_values::corners(values.skip(7)),
+        scene: scene.lend(lists, tree)?,
+        sunlight: replay_values::light(values.skip(13)),
+        ambient: replay_values::ambient(values.skip(19)),
+        sky: lists.list(4).lend(&mut sky)?,
+        lamps: lists.list(5).lend(&mut lamps)?,
+        active: lists.list(6).lend(&mut active)?,
+        lights: lists.list(7).lend(&mut lights)?,
+    };
+    let mut written = Written {
+        volume: lists.list(8).fit(&mut volume)?,
+        scratch: lists.list(9).fit(&mut scratch)?,
+        distances: lists.list(10).fit(&mut distances)?,
+        places: lists.list(11).fit(&mut places)?,
+    };
+    Some(both(case, t.held(true), given, &mut written))
 }
 
 // Most volumes are small, and are given small arrays.
-fn sized(s: &[u8], t: Tally, floats: &[f32], words: &[u32], kinds: &[u8], active: &[u64]) -> Tally {
-    if volumes_fit(s, 8320) {
-        return narrow(s, t, floats, words, kinds, active);
+fn record(w: Words, t: Tally) -> Option<Tally> {
+    let kind = Kind::try_from(w.word(0)).ok()?;
+    let lists = w.skip(31);
+    let asked = if kind == Kind::Tree {
+        lists.list(15)
+    } else {
+        lists.list(12)
+    };
+    let case = Case {
+        kind,
+        values: w,
+        lists,
+        asked,
+    };
+    if lists.list(8).count(0) <= room::VOLUME && lists.list(9).count(0) <= room::VOLUME {
+        return sized::<{ room::VOLUME }>(case, t);
     }
-    wide(s, t, floats, words, kinds, active)
-}
-
-fn wide(s: &[u8], t: Tally, floats: &[f32], words: &[u32], kinds: &[u8], active: &[u64]) -> Tally {
-    let mut volume = replay::room_for_wide_volume();
-    let mut scratch = replay::room_for_wide_volume();
-    let h = replay::fit(s, replay::nth(s, FROM, 8), 526400);
-    let i = replay::fit(s, replay::nth(s, FROM, 9), 526400);
-    hit(
-        s,
-        t,
-        floats,
-        words,
-        kinds,
-        active,
-        &mut volume[..h],
-        &mut scratch[..i],
-    )
-}
-
-fn narrow(
-    s: &[u8],
-    t: Tally,
-    floats: &[f32],
-    words: &[u32],
-    kinds: &[u8],
-    active: &[u64],
-) -> Tally {
-    let mut volume = replay::room_for_volume();
-    let mut scratch = replay::room_for_volume();
-    let h = replay::fit(s, replay::nth(s, FROM, 8), 8320);
-    let i = replay::fit(s, replay::nth(s, FROM, 9), 8320);
-    hit(
-        s,
-        t,
-        floats,
-        words,
-        kinds,
-        active,
-        &mut volume[..h],
-        &mut scratch[..i],
-    )
-}
-
-fn hit(
-    s: &[u8],
-    t: Tally,
-    floats: &[f32],
-    words: &[u32],
-    kinds: &[u8],
-    active: &[u64],
-    volume: &mut [f32],
-    scratch: &mut [f32],
-) -> Tally {
-    let mut distances = replay::room_for_distances();
-    let mut places = replay::room_for_places();
-    let j = replay::fit(s, replay::nth(s, FROM, 10), 4100);
-    let k = replay::pairs(s, replay::nth(s, FROM, 11), 4100);
-    asked(
-        s,
-        t,
-        floats,
-        words,
-        kinds,
-        active,
-        volume,
-        scratch,
-        &mut distances[..j],
-        &mut places[..k],
-    )
-}
-
-// Room for 36,900 numbers of points, 3,640 of materials, 1,740 of the sky, 80 of lamps, which is thirteen and more than any call accepts, 82,000 lights and
-// 24,600 of boxes.
-fn room_for_floats() -> [f32; 148960] {
-    [0.0f32; 148960]
-}
-
-fn record(s: &[u8], t: Tally) -> Tally {
-    let mut floats = room_for_floats();
-    let mut words = replay::room_for_words();
-    let mut kinds = replay::room_for_kinds();
-    let mut active = replay::room_for_mask();
-    let u = replay::held(t, fits(s));
-    let c = replay::fit(s, replay::nth(s, FROM, 2), 520);
-    let f = replay::mask_words(s, replay::nth(s, FROM, 6), 1285);
-    filled(
-        s,
-        u,
-        &mut floats,
-        &mut words,
-        &mut kinds[..c],
-        &mut active[..f],
-    )
-}
-
-// Reads one record and judges it.
-fn turn(rt: &impl Input, buffer: &mut [u8], t: Tally) -> io::Result<Tally> {
-    let n = replay::next(rt, buffer)?;
-    if n == 0 {
-        return Ok(replay::ended(t));
-    }
-    Ok(record(&buffer[..n], replay::begun(t)))
-}
-
-fn run(rt: &(impl Input + Print), buffer: &mut [u8]) -> io::Result<()> {
-    let mut t = replay::start();
-    let mut turns = u64::MAX;
-    while turns > 0 && !t.over {
-        t = turn(rt, buffer, t)?;
-        turns -= 1;
-    }
-    replay::report(rt, t)
+    sized::<{ room::WIDE_VOLUME }>(case, t)
 }
 
 fn main(rt: HostRuntime) -> io::Result<()> {
-    let mut buffer = replay::buffer();
-    run(&rt, &mut buffer)
+    replay::run(&rt, record)
 }
