@@ -11,8 +11,9 @@ use lib.Ieee.{Float}
 use Rattle.names.specs.Scene.{Scene, Sound, HitsFit}
 use Rattle.vectors.specs.declared.Ray.{Ray}
 use Rattle.triangle.specs.Missed.{Missed}
-use Rattle.triangle.specs.declared.Meet.TheVariants.{Miss}
+use Rattle.std.specs.Prelude.{None}
 use Rattle.boxes.specs.Boxes.{passed_over}
+use Rattle.boxes.specs.declared.Bounds.{Bounds}
 use Rattle.tree_walk.specs.Boxed.{boxed_at}
 use Rattle.tree_walk.specs.BoxedLaws.{boxed_over}
 use Rattle.tree_walk.specs.FoldLaws.{fold_of, fold_append}
@@ -58,20 +59,21 @@ module _ (order : List ℕ) {S : Type 0} (step : S → ℕ → S) where
 -- ---- a turn, for a step to which what is missed adds nothing
 
 module _ (scene : Scene) (sound : Sound scene) (order : List ℕ) (n : ℕ) (rows : List Float) (r : Rowed scene.points order n rows) (ray : Ray) {S : Type 0} (step : S → ℕ → S) (start : S)
-    (missed : (p : ℕ) → boxed_at scene.points scene.uses scene.kinds ray p ≡ Miss → (s : S) → step s p ≡ s) (held : S) (k : ℕ) (h : k < n)
+    (missed : (p : ℕ) → boxed_at scene.points scene.uses scene.kinds ray p ≡ None → (s : S) → step s p ≡ s) (held : S) (k : ℕ) (h : k < n)
     (e : held ≡ fold_of step start (places_to order rows k)) where
   -- the box is passed over
-  pub turn_over : (after : ℕ) → after ≡ row_after rows k → passed_over ray.origin ray.direction (row_bounds rows k) ≡ true → held ≡ fold_of step start (places_to order rows after)
-  turn_over after f o =
-      e ∙ passed_on scene.points order n rows r ray step (λ s p q. missed p (boxed_over scene ray p q) s) start k after h o (omega (arith, (r.forward k h).0)) (omega arith)
+  pub turn_over : (box : Bounds) → box ≡ row_bounds rows k → true ≡ passed_over ray.origin ray.direction box → (after : ℕ) → after ≡ row_after rows k
+      → held ≡ fold_of step start (places_to order rows after)
+  turn_over box b o after f =
+      e ∙ passed_on scene.points order n rows r ray step (λ s p q. missed p (boxed_over scene ray p q) s) start k after h (rw b at (sym o)) (omega (arith, (r.forward k h).0)) (omega arith)
 
-  module _ (first end j : ℕ) (f : first ≡ row_first rows k) (g : end ≡ first + row_count rows k) (a : first ≤ j) (b : j ≤ end) (m : Missed rows ray first j) where
+  module _ (first count j : ℕ) (f : first ≡ row_first rows k) (g : count ≡ row_count rows k) (a : first ≤ j) (b : j ≤ first + count) (m : Missed rows ray first j) where
     -- the rest of its run is gone through
-    pub turn_run : (after : S) → after ≡ fold_of step held (span_places order j (end - j)) → after ≡ fold_of step start (places_to order rows (k + 1))
+    pub turn_run : (after : S) → after ≡ fold_of step held (span_places order j (first + count - j)) → after ≡ fold_of step start (places_to order rows (k + 1))
     turn_run after w =
         let z : suc k ≡ k + 1 = omega arith in
         w
-        ∙ from_there order step (row_first rows k) (row_count rows k) j (end - j) (omega arith) (omega arith)
+        ∙ from_there order step (row_first rows k) (row_count rows k) j (first + count - j) (omega arith) (omega arith)
         (λ l c d s. missed (get_or order l 0) (span_missed scene.points scene.uses scene.kinds order rows (row_first rows k) (row_count rows k)
         (row_fits scene sound order n rows r k (row_first rows k) (row_count rows k) h (omega arith) refl) ray first j (omega arith) (omega arith) m l (omega arith) d) s)
         held
@@ -80,8 +82,8 @@ module _ (scene : Scene) (sound : Sound scene) (order : List ℕ) (n : ℕ) (row
         ∙ ap (λ (x : ℕ). fold_of step start (places_to order rows x)) z
 
     -- or nothing of it is left
-    pub turn_clear : end ≤ j → held ≡ fold_of step start (places_to order rows (k + 1))
-    turn_clear x = turn_run held (let z : end - j ≡ 0 = omega arith in rw z refl)
+    pub turn_clear : first + count ≤ j → held ≡ fold_of step start (places_to order rows (k + 1))
+    turn_clear x = turn_run held (let z : first + count - j ≡ 0 = omega arith in rw z refl)
 
 -- ---- the hits that are collected
 

@@ -9,8 +9,7 @@ ghost use Rattle.tree_walk.specs.Collect.{came, collect_step};
 ghost use Rattle.tree_walk.specs.Kept.{collected_by, MetWithin};
 ghost use Rattle.tree_rows.specs.Rows.{places_to, Rowed};
 
-use scan::Nearest;
-use tree_walk::Gained;
+use scan::PlacedHit;
 use vectors::Ray;
 
 // ---- the nearest hit
@@ -26,13 +25,13 @@ pub fn nearest(
     order: &[u32],
     rows: &[f32],
     ray: Ray,
-) -> Nearest
+) -> Option<PlacedHit>
     requires sound { Sound (tree_scene points.now uses.now kinds.now numbers.now boxes.now nodes.now order.now) }
     requires rowed { Rowed points.now order.now (box_count nodes.now) rows.now }
     ensures { result ≡ nearest_of (tree_scene points.now uses.now kinds.now numbers.now boxes.now nodes.now order.now) ray }
 {
     let n = nodes.len() / 3;
-    let mut held = Nearest::Nothing;
+    let mut held = None;
     let mut k = 0;
     while k < n {
         let b = tree_rows::inner::bounds(rows, k);
@@ -83,21 +82,15 @@ pub fn transmittance(
     requires hits_fit { HitsFit (tree_scene points.now uses.now kinds.now numbers.now boxes.now nodes.now order.now) (length distances.old) (length places.old) }
     ensures { result ≡ transmittance_of (tree_scene points.now uses.now kinds.now numbers.now boxes.now nodes.now order.now) ray }
 {
-    let met = collect(
+    let Some(m) = collect(
         points, uses, kinds, numbers, boxes, nodes, order, rows, ray, distances, places,
-    );
-    match met {
-        Gained::Dark => 0.0,
-        Gained::Hits(m) => tree_walk::inner::passing(
-            uses,
-            numbers,
-            &mut distances[..m],
-            &mut places[..m],
-        ),
-    }
+    ) else {
+        return 0.0;
+    };
+    tree_walk::inner::passing(uses, numbers, &mut distances[..m], &mut places[..m])
 }
 
-// The hits of all rows, in their order.
+// The hits of all rows, in their order: how many stand in the lists, or nothing where one stops light.
 fn collect(
     points: &[f32],
     uses: &[u32],
@@ -110,7 +103,7 @@ fn collect(
     ray: Ray,
     distances: &mut [f32],
     places: &mut [usize],
-) -> Gained
+) -> Option<usize>
     requires sound { Sound (tree_scene points.now uses.now kinds.now numbers.now boxes.now nodes.now order.now) }
     requires rowed { Rowed points.now order.now (box_count nodes.now) rows.now }
     requires hits_fit { HitsFit (tree_scene points.now uses.now kinds.now numbers.now boxes.now nodes.now order.now) (length distances.old) (length places.old) }
@@ -130,7 +123,7 @@ fn collect(
             let j = scan::inner::first_open(rows, first, end, ray);
             k += 1;
             if j < end {
-                let met = tree_walk::inner::span_collect(
+                m = tree_walk::inner::span_collect(
                     points,
                     uses,
                     kinds,
@@ -142,17 +135,9 @@ fn collect(
                     m,
                     distances,
                     places,
-                );
-                match met {
-                    Gained::Dark => {
-                        return met;
-                    }
-                    Gained::Hits(h) => {
-                        m = h;
-                    }
-                }
+                )?;
             }
         }
     }
-    Gained::Hits(m)
+    Some(m)
 }
