@@ -5,9 +5,10 @@
 
 ghost use Rattle.std.specs.Prelude.{◌*◌, ◌^◌, ◌<◌};
 
-use bake::BakeAnswer;
+use bake::{Advance, BakeAnswer};
 use grid::{Axes, Corners};
 use limits::{Ambient, Light};
+use names::Refusal;
 use replay::{Tally, Words, room};
 use replay_values::{Scene, SceneRoom};
 use spread::Progress;
@@ -82,7 +83,12 @@ fn progress(w: Words) -> Progress {
 }
 
 // A call, through the scene's tree if it has one.
-fn lent(given: Given, begun: Progress, allowance: u64, written: &mut Written) -> BakeAnswer {
+fn lent(
+    given: Given,
+    begun: Progress,
+    allowance: u64,
+    written: &mut Written,
+) -> Result<Advance, Refusal> {
     let scene = given.scene;
     match scene.tree {
         Some(tree) => bake::tree_bake(
@@ -140,10 +146,10 @@ fn answered(
     written: &mut Written,
 ) -> BakeAnswer {
     if !solid {
-        return lent(given, begun, allowance, written);
+        return BakeAnswer::of(lent(given, begun, allowance, written), begun);
     }
     let scene = given.scene;
-    bake::solid_bake(
+    let answer = bake::solid_bake(
         given.axes,
         given.corners,
         scene.points,
@@ -160,7 +166,8 @@ fn answered(
         written.scratch,
         begun,
         allowance,
-    )
+    );
+    BakeAnswer::of(answer, begun)
 }
 
 // A call, with hit scratch as the record lends it, whose lists begin at `hits`. A call is its progress, its allowance, whether hit scratch is held, then refusal, progress, rays, and the two

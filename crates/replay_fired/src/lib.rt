@@ -10,7 +10,6 @@ use grid::Axes;
 use limits::Lamp;
 use replay::{Tally, Words};
 use replay_values::Scene;
-use scan::Nearest;
 use surface::{Setting, Surface};
 use vectors::{Ray, Vec3};
 
@@ -154,16 +153,16 @@ fn along<'a>(
     let first = listing.fire(NEAREST, ray);
     let found = scan::inner::nearest(bake.points, bake.uses, bake.kinds, bake.numbers, ray);
     match found {
-        Nearest::Nothing => first,
-        Nearest::At(place, distance, _, _, _) => {
+        None => first,
+        Some(met) => {
             let surface = surface::inner::surface_at(
                 bake.points,
                 bake.uses,
                 bake.kinds,
                 bake.numbers,
                 ray,
-                place,
-                distance,
+                met.place,
+                met.hit.t,
                 setting.biases.hit,
             );
             surface_rays(first, bake.lamps, setting, surface)
