@@ -20,8 +20,9 @@ use Rattle.limits.specs.LimitsLaws.{axes_row, either, any_of_three}
 use Rattle.marks.specs.Marks.{marked_count}
 use Rattle.words.specs.Words.{entries_of, words_of, unused_set}
 use Rattle.contents.specs.Contents.{axes_at, offset_at}
+use Rattle.contents.specs.Laid.{Laid}
 use Rattle.volume_file.specs.VolumeFile.{voxels_at, light_at, volume_at, active_at, occupied_at, faulty}
-use Rattle.volume_file.specs.VolumeFileLaws.{Accepted, accepted_row, accepted_laid}
+use Rattle.volume_file.specs.VolumeFileLaws.{Accepted, accepted_row, accepted_axes, accepted_laid}
 use Rattle.volume_write.specs.FileBytes.{bytes_for, file_bytes, Lent}
 use Rattle.volume.specs.declared.FileGrid.{FileGrid}
 use Rattle.volume.specs.declared.Head.{Head}
@@ -46,22 +47,7 @@ module _ (s : List ℕ) where
   pub axes_given : (h : Head) → 0 ≡ file_refusal s → h ≡ head_answer s → FileAxes s h
   axes_given h z e = record { answer = e ∙ given _ _ _ (sym z) }
 
-  -- what an answered grid says of the file
-  pub record Known (g : FileGrid) : Type 0 where
-    pub accepted : Accepted s
-    pub faultless : faulty s ≡ false
-    pub axes : g.axes ≡ axes_at s
-    pub head : head_told (Ok g) ≡ head_answer s
-
-  pub known : (g : FileGrid) → FileAxes s (head_told (Ok g)) → Known g
-  unfolding file_refusal first_of unless_refused no_head head_answer
-  known g d = by (faulty s) refl d.answer
-    where
-      by : (b : Bool) → faulty s ≡ b → head_told (Ok g) ≡ unless_refused (first_of (row 12 b ∷ [])) (head_answer s) (no_head (first_of (row 12 b ∷ []))) → Known g
-      by true e h = let z : ◌≡◌ {A = ℕ} 0 12 = ap (λ (x : Head). x.refusal) h in absurd (omega arith)
-      by false e h = record { accepted = (accepted_row s).0 e; faultless = e; axes = ap (λ (x : Head). x.axes) h; head = h }
-
-  -- and what a refusal says
+  -- what a refusal says of the file
   pub refused : (r : Refusal) → FileAxes s (head_told (Err r)) → (faulty s ≡ true) × (number_of r ≡ 12)
   unfolding file_refusal first_of unless_refused no_head head_answer
   refused r d = by (faulty s) refl d.answer
@@ -70,6 +56,59 @@ module _ (s : List ℕ) where
           → (faulty s ≡ true) × (number_of r ≡ 12)
       by true e h = (e, ap (λ (x : Head). x.refusal) h)
       by false e h = absurd (number_nonzero r (ap (λ (x : Head). x.refusal) h))
+
+-- what an answered grid says of the file
+module _ (s : List ℕ) (g : FileGrid) (d : FileAxes s (head_told (Ok g))) where
+  known : (faulty s ≡ false) × (head_told (Ok g) ≡ head_answer s)
+  unfolding file_refusal first_of unless_refused no_head head_answer
+  known = by (faulty s) refl d.answer
+    where
+      by : (b : Bool) → faulty s ≡ b → head_told (Ok g) ≡ unless_refused (first_of (row 12 b ∷ [])) (head_answer s) (no_head (first_of (row 12 b ∷ [])))
+          → (faulty s ≡ false) × (head_told (Ok g) ≡ head_answer s)
+      by true e h = let z : ◌≡◌ {A = ℕ} 0 12 = ap (λ (x : Head). x.refusal) h in absurd (omega arith)
+      by false e h = (e, h)
+
+  pub faultless : faulty s ≡ false
+  faultless = known.0
+
+  pub head_is : head_told (Ok g) ≡ head_answer s
+  head_is = known.1
+
+  pub axes_are : g.axes ≡ axes_at s
+  unfolding head_answer
+  axes_are = ap (λ (x : Head). x.axes) head_is
+
+  pub accepted : Accepted s
+  accepted = (accepted_row s).0 faultless
+
+  pub axes_fit : AxesWithin g.axes
+  axes_fit = rw axes_are (accepted_axes s accepted)
+
+  pub entry_room : 60 ≤ length s
+  entry_room = let h = accepted.headed in omega (arith, h.contents, h.least)
+
+  -- where the bodies stand
+  module _ (n : ℕ) (y : n ≡ voxels g.axes) where
+    pub count_is : n ≡ voxels_at s
+    count_is = rw axes_are at y
+
+    laid : Laid s (voxels_at s)
+    laid = accepted_laid s accepted
+
+    pub room_light : (off : ℕ) → off ≡ offset_at s 0 → off + n * 4 ≤ length s
+    room_light off e = omega (arith, e, count_is, laid.light, laid.within)
+
+    pub room_active : (off : ℕ) → off ≡ offset_at s 2 → off + n ≤ length s
+    room_active off e = omega (arith, e, count_is, laid.active, laid.within)
+
+    pub room_occupied : (off : ℕ) → off ≡ offset_at s 3 → off + n ≤ length s
+    room_occupied off e = omega (arith, e, count_is, laid.occupied, laid.within)
+
+    pub figures_whole : (o₀ o₂ o₃ z m o : ℕ) → o₀ ≡ offset_at s 0 → o₂ ≡ offset_at s 2 → o₃ ≡ offset_at s 3
+        → z ≡ zero_count (floats_at s o₀ n) → m ≡ marked_count (bytes_at s o₂ n) → o ≡ marked_count (bytes_at s o₃ n)
+        → record { refusal = 0; width = g.axes.width; height = g.axes.height; depth = g.axes.depth; occupied = o; active = m; zeros = z } ≡ figures_answer s
+    unfolding figures_answer
+    figures_whole o₀ o₂ o₃ z m o e f h p q r = rw (p, q, r, e, f, h, count_is, axes_are) refl
 
 -- what `?` hands on
 pub handed : {A : Type 0} (answer : Result A Refusal) (r : Refusal) → IsErr answer × IsErrAnd answer (λ q. q ≡ r) → answer ≡ Err r
@@ -148,23 +187,3 @@ figures_refused s k e n = record { answer = kept k (figures_answer s) (no_figure
 
 pub figures_given : (s : List ℕ) (f : Figures) → 0 ≡ figures_refusal s → f ≡ figures_answer s → FileFigures s f
 figures_given s f z e = record { answer = e ∙ given _ _ _ (sym z) }
-
--- where the bodies of an accepted file stand
-module _ (s : List ℕ) (k : Accepted s) (a : Axes) (n : ℕ) (x : a ≡ axes_at s) (y : n ≡ voxels a) where
-  count : n ≡ voxels_at s
-  count = rw x at y
-
-  pub room_light : (off : ℕ) → off ≡ offset_at s 0 → off + n * 4 ≤ length s
-  room_light off e = let d = accepted_laid s k in omega (arith, e, count, d.light, d.within)
-
-  pub room_active : (off : ℕ) → off ≡ offset_at s 2 → off + n ≤ length s
-  room_active off e = let d = accepted_laid s k in omega (arith, e, count, d.active, d.within)
-
-  pub room_occupied : (off : ℕ) → off ≡ offset_at s 3 → off + n ≤ length s
-  room_occupied off e = let d = accepted_laid s k in omega (arith, e, count, d.occupied, d.within)
-
-  pub figures_whole : (o₀ o₂ o₃ z m o : ℕ) → o₀ ≡ offset_at s 0 → o₂ ≡ offset_at s 2 → o₃ ≡ offset_at s 3
-      → z ≡ zero_count (floats_at s o₀ n) → m ≡ marked_count (bytes_at s o₂ n) → o ≡ marked_count (bytes_at s o₃ n)
-      → record { refusal = 0; width = a.width; height = a.height; depth = a.depth; occupied = o; active = m; zeros = z } ≡ figures_answer s
-  unfolding figures_answer
-  figures_whole o₀ o₂ o₃ z m o e f g p q r = rw (p, q, r, e, f, g, count, x) refl
