@@ -5,7 +5,7 @@ ghost use Rattle.scan.specs.Nearest.{nearest_of};
 ghost use Rattle.scan.specs.Transmittance.{transmittance_of};
 ghost use Rattle.tracing.specs.Through.{Through};
 
-use scan::Nearest;
+use scan::PlacedHit;
 use vectors::Ray;
 
 // The nearest hit of the ray.
@@ -20,7 +20,7 @@ pub fn nearest(
     order: &[u32],
     rows: &[f32],
     ray: Ray,
-) -> Nearest
+) -> Option<PlacedHit>
     requires sound { Sound (scene_for boxed points.now uses.now kinds.now numbers.now boxes.now nodes.now order.now) }
     requires through { Through (scene_for boxed points.now uses.now kinds.now numbers.now boxes.now nodes.now order.now) rows.now }
     ensures { result ≡ nearest_of (scene_for boxed points.now uses.now kinds.now numbers.now boxes.now nodes.now order.now) ray }
