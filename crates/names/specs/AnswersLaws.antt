@@ -80,9 +80,9 @@ pub record HandedOn {A : Type 0} (answer : Result A Refusal) (k : ℕ) : Type 0 
   pub number : answer_number answer ≡ k
   pub refused : answer_number answer ≡ 0 → ⊥
 
-pub handed_on : {A : Type 0} (answer : Result A Refusal) (r : Refusal) (k : ℕ) → IsErr answer × IsErrAnd answer (λ q. q ≡ r) → number_of r ≡ k
+pub told_on : {A : Type 0} (answer : Result A Refusal) (r : Refusal) (k : ℕ) → IsErr answer × IsErrAnd answer (λ q. q ≡ r) → number_of r ≡ k
     → HandedOn answer k
-handed_on (Ok _) r k h e = absurd h.1
-handed_on (Err q) r k h e =
+told_on (Ok _) r k h e = absurd h.1
+told_on (Err q) r k h e =
     let n : number_of q ≡ k = ap number_of h.1 ∙ e in
     record { number = n; refused = number_nonzero q }

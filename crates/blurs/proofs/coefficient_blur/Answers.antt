@@ -1,13 +1,13 @@
 -- `blurs::coefficient_blur` meets its contract: what is not refused fits the grid, scratch gets the list, and the list is written from scratch alone.
 -- Assumes nothing.
 use mathlib.Core.Path.{refl, sym, ◌∙◌}
-use Rattle.names.specs.AnswersLaws.{handed_on}
+use Rattle.names.specs.AnswersLaws.{told_on}
 use Rattle.blurs.specs.BlursLaws.{coefficient_blur_fitting, coefficients_refused, coefficients_blurred}
 use Rattle.blurs.proofs.coefficient_blur.Goals as goal
 
 pub returns-in_err-judge_coefficients : goal.returns-in_err-judge_coefficients
 returns-in_err-judge_coefficients c =
-    let h = handed_on _ _ _ c.from_residual.ensures c.in_err-judge_coefficients.ensures in
+    let h = told_on _ _ _ c.from_residual.ensures c.in_err-judge_coefficients.ensures in
     coefficients_refused _ _ _ _ h.number h.refused
 
 pub copy-requires : goal.copy-requires

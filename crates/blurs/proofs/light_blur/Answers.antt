@@ -2,13 +2,13 @@
 -- Assumes nothing.
 use mathlib.Core.Path.{refl, sym, ◌∙◌}
 use native.Mathlib.Nat.{mul-one}
-use Rattle.names.specs.AnswersLaws.{handed_on}
+use Rattle.names.specs.AnswersLaws.{told_on}
 use Rattle.blurs.specs.BlursLaws.{light_blur_fitting, light_refused, light_blurred}
 use Rattle.blurs.proofs.light_blur.Goals as goal
 
 pub returns-in_err-judge_light : goal.returns-in_err-judge_light
 returns-in_err-judge_light c =
-    let h = handed_on _ _ _ c.from_residual.ensures c.in_err-judge_light.ensures in
+    let h = told_on _ _ _ c.from_residual.ensures c.in_err-judge_light.ensures in
     light_refused _ _ _ _ h.number h.refused
 
 pub copy-requires : goal.copy-requires

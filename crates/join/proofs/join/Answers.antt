@@ -1,13 +1,13 @@
 -- `join::join` meets its contract: what is not refused fits the grid, and then the voxels of the share are copied. Assumes nothing.
 use mathlib.Core.Path.{sym}
-use Rattle.names.specs.AnswersLaws.{handed_on}
+use Rattle.names.specs.AnswersLaws.{told_on}
 use Rattle.grid.specs.GridLaws.{voxels_most}
 use Rattle.join.specs.JoinLaws.{join_fitting, join_refused, join_done}
 use Rattle.join.proofs.join.Goals as goal
 
 pub returns-in_err-judge : goal.returns-in_err-judge
 returns-in_err-judge c =
-    let h = handed_on _ _ _ c.from_residual.ensures c.in_err-judge.ensures in
+    let h = told_on _ _ _ c.from_residual.ensures c.in_err-judge.ensures in
     join_refused _ _ _ _ _ h.number h.refused
 
 pub voxel_count-n-requires : goal.voxel_count-n-requires

@@ -1,12 +1,12 @@
 -- What is not refused fits, and the whole file is written.
 use mathlib.Core.Path.{refl}
-use Rattle.names.specs.AnswersLaws.{handed_on}
+use Rattle.names.specs.AnswersLaws.{told_on}
 use Rattle.volume.proofs.Calls.{write_refused, write_given, writable}
 use Rattle.volume.proofs.write_volume.Goals as goal
 
 pub returns-in_err-judge_volume : goal.returns-in_err-judge_volume
 returns-in_err-judge_volume c =
-    let h = handed_on _ _ _ c.from_residual.ensures c.in_err-judge_volume.ensures in
+    let h = told_on _ _ _ c.from_residual.ensures c.in_err-judge_volume.ensures in
     write_refused _ _ _ _ _ _ _ _ h.number h.refused
 
 pub voxel_count-n-requires : goal.voxel_count-n-requires
