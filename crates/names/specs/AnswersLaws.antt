@@ -76,12 +76,12 @@ numbers_differ r q e =
 
 -- ---- an Err that `?` hands on
 
-pub record HandedOn {A : Type 0} (answer : Result A Refusal) (k : ℕ) : Type 0 where
+pub record ToldOn {A : Type 0} (answer : Result A Refusal) (k : ℕ) : Type 0 where
   pub number : answer_number answer ≡ k
   pub refused : answer_number answer ≡ 0 → ⊥
 
 pub told_on : {A : Type 0} (answer : Result A Refusal) (r : Refusal) (k : ℕ) → IsErr answer × IsErrAnd answer (λ q. q ≡ r) → number_of r ≡ k
-    → HandedOn answer k
+    → ToldOn answer k
 told_on (Ok _) r k h e = absurd h.1
 told_on (Err q) r k h e =
     let n : number_of q ≡ k = ap number_of h.1 ∙ e in
