@@ -13,7 +13,7 @@ loop-i-init c =
 
 pub overflow_add-rays : goal.overflow_add-rays
 overflow_add-rays c =
-    omega (arith, fits_rays c.requires.walkable c.loop-i.invariant.so_far c.take-rays.ensures (rw c.voxel_cost-cost.ensures at c.if-cost-allowance.true), c.ranges.allowance)
+    omega (arith, fits_rays c.requires.walkable c.loop-i.invariant.so_far c.take-rays.ensures (omega (arith, c.voxel_cost-cost.ensures)), c.ranges.allowance)
 
 pub loop-i-smaller : goal.loop-i-smaller
 loop-i-smaller c = further c.requires.walkable c.loop-i-test.true c.next_marked-i-in-loop-i.ensures
@@ -23,13 +23,13 @@ loop-i-preserved c =
     let w = c.requires.walkable in
     let l = c.loop-i.invariant in
     record {
-      so_far = passes w (takes w l.so_far c.loop-i-test.true l.active (rw c.voxel_cost-cost.ensures at c.if-cost-allowance.true) c.take-rays.ensures c.take-rays.auto.distances c.take-rays.auto.places) (omega arith) c.next_marked-i-in-loop-i.ensures;
+      so_far = passes w (takes w l.so_far c.loop-i-test.true l.active (omega (arith, c.voxel_cost-cost.ensures)) c.take-rays.ensures c.take-rays.auto.distances c.take-rays.auto.places) (omega arith) c.next_marked-i-in-loop-i.ensures;
       active = found_active w (omega arith) c.next_marked-i-in-loop-i.ensures;
     }
 
 pub returns-else-cost-allowance : goal.returns-else-cost-allowance
 returns-else-cost-allowance c =
-    stops c.requires.walkable c.loop-i.invariant.so_far c.loop-i-test.true c.loop-i.invariant.active (rw c.voxel_cost-cost.ensures at c.if-cost-allowance.false)
+    stops c.requires.walkable c.loop-i.invariant.so_far c.loop-i-test.true c.loop-i.invariant.active (omega (arith, c.voxel_cost-cost.ensures))
 
 pub returns-after-loop-i : goal.returns-after-loop-i
 returns-after-loop-i c = ends c.requires.walkable c.loop-i.invariant.so_far c.loop-i-test.false
