@@ -1,3 +1,4 @@
 -- What more than one function's proof uses.
-mod Sixteen
+mod Abreast
 mod Lanes
+mod Places

@@ -13,11 +13,8 @@ pub fn mean(src: &[f32], dst: &mut [f32], w: usize, h: usize, d: usize)
     requires { (0 < w) × (0 < h) × (d * h * w * 16 ≡ length src.now) × (length dst.old ≡ length src.now) }
     ensures { dst.new ≡ coefficient_blur_of src.now w h d }
 {
-    let count = dst.len() / 16;
-    let mut v = 0;
-    while v < count {
+    for v in 0..dst.len() / 16 {
         voxel(src, dst, w, h, d, v);
-        v += 1;
     }
 }
 
@@ -38,11 +35,7 @@ pub fn copy(src: &[f32], dst: &mut [f32])
     requires { length dst.old ≡ length src.now }
     ensures { dst.new ≡ src.now }
 {
-    let mut i = 0;
-    while i < dst.len() {
-        dst[i] = src[i];
-        i += 1;
-    }
+    dst.copy_from_slice(src);
 }
 
 // The squares of the means from voxel i on, in dst, and how many: what is written before i, and what the definition gives from i on, are written up to that
@@ -64,8 +57,7 @@ fn squares(src: &[f32], dst: &mut [f32], w: usize, h: usize, d: usize, i: usize)
         return 1;
     }
     let m = means_in(src, 1, w, h, d, x, y, z);
-    let q = squared(m);
-    put(dst, i, q);
+    put(dst, i, squared(m));
     n
 }
 
@@ -107,23 +99,7 @@ fn mean_at(src: &[f32], w: usize, h: usize, d: usize, i: usize) -> f32
     ensures { result ≡ mean_at src.now 1 w h d i }
 {
     let r = i / w;
-    mean_in(src, w, h, d, i % w, r % h, r / h)
-}
-
-// The mean of the numbers of the voxels round (x, y, z).
-fn mean_in(src: &[f32], w: usize, h: usize, d: usize, x: usize, y: usize, z: usize) -> f32
-    requires { (x < w) × (y < h) × (z < d) × (d * h * w ≤ length src.now) }
-    ensures { result ≡ mean_in src.now 1 0 w h d x y z }
-{
-    let columns = near(x, w);
-    let rows = near(y, h);
-    let planes = near(z, d);
-    let sum = box_sum(src, w, h, columns, rows, planes, 0.0);
-    sum / cells(
-        columns.past - columns.first,
-        rows.past - rows.first,
-        planes.past - planes.first,
-    )
+    means_in::<1>(src, 1, w, h, d, i % w, r % h, r / h)[0]
 }
 
 // The coordinates within 1 of x on an axis of n.
@@ -141,10 +117,7 @@ fn near(x: usize, n: usize) -> Span
 fn first_near(x: usize) -> usize
     ensures { result ≡ first_near x }
 {
-    if x == 0 {
-        return 0;
-    }
-    x - 1
+    x.saturating_sub(1)
 }
 
 // The coordinate past the last within 1 of x, on an axis of n.
@@ -152,10 +125,7 @@ fn past_near(x: usize, n: usize) -> usize
     requires { x < n }
     ensures { result ≡ past_near x n }
 {
-    if n - x <= 2 {
-        return n;
-    }
-    x + 2
+    x.saturating_add(2).min(n)
 }
 
 // How many cells a box has, as a float.
@@ -166,52 +136,7 @@ fn cells(a: usize, b: usize, c: usize) -> f32
     (c * (b * a)) as u16 as f32
 }
 
-// The planes of a box added to s, of each its rows, of each the numbers of its columns.
-fn box_sum(src: &[f32], w: usize, h: usize, columns: Span, rows: Span, planes: Span, s: f32) -> f32
-    requires { (columns.first < columns.past) × (columns.past ≤ columns.first + 3) × (columns.past ≤ w) × (rows.first ≤ rows.past) × (rows.past ≤ h) × (planes.first ≤ planes.past) × (0 < w) × (0 < h) × (planes.past * h * w ≤ length src.now) }
-    ensures { result ≡ box_sum src.now 1 0 w h columns rows planes s }
-{
-    let mut sum = s;
-    let mut z = planes.first;
-    while z < planes.past {
-        sum = plane_sum(src, w, columns, z * h, rows, sum);
-        z += 1;
-    }
-    sum
-}
-
-fn plane_sum(src: &[f32], w: usize, columns: Span, plane: usize, rows: Span, s: f32) -> f32
-    requires { (columns.first < columns.past) × (columns.past ≤ columns.first + 3) × (columns.past ≤ w) × (rows.first ≤ rows.past) × (0 < w) × ((plane + rows.past) * w ≤ length src.now) }
-    ensures { result ≡ plane_sum src.now 1 0 w columns plane rows s }
-{
-    let mut sum = s;
-    let mut y = rows.first;
-    while y < rows.past {
-        sum = row_sum(src, (plane + y) * w, columns, sum);
-        y += 1;
-    }
-    sum
-}
-
-// No loop: the columns are one to three.
-fn row_sum(src: &[f32], row: usize, columns: Span, s: f32) -> f32
-    requires { (columns.first < columns.past) × (columns.past ≤ columns.first + 3) × (row + columns.past ≤ length src.now) }
-    ensures { result ≡ row_sum src.now 1 0 row columns s }
-{
-    let x = columns.first;
-    let count = columns.past - x;
-    let one = s + src[row + x];
-    if count == 1 {
-        return one;
-    }
-    let two = one + src[row + (x + 1)];
-    if count == 2 {
-        return two;
-    }
-    two + src[row + (x + 2)]
-}
-
-// ---- sixteen numbers at once, so that they are added four by four: those of a voxel, or, where a voxel has one, those of sixteen voxels of a row
+// ---- N numbers at once, so that sixteen are added four by four: those of a voxel, or, where a voxel has one, those of sixteen voxels of a row
 
 // The sixteen means of voxel v, in dst: what is written before v, and what the definition gives from v on, are written up to the next voxel.
 fn voxel(src: &[f32], dst: &mut [f32], w: usize, h: usize, d: usize, v: usize)
@@ -229,15 +154,11 @@ fn put(dst: &mut [f32], at: usize, m: [f32; 16])
     requires { (at + 16 ≤ length dst.old) × (length m ≡ 16) }
     ensures { take (at + 16) dst.new ≡ take at dst.old ++ m }
 {
-    let mut k = 0;
-    while k < 16 {
-        dst[at + k] = m[k];
-        k += 1;
-    }
+    dst[at..at + 16].copy_from_slice(&m);
 }
 
-// The means of sixteen numbers from the first of each of the voxels round (x, y, z) on.
-fn means_in(
+// The means of N numbers from the first of each of the voxels round (x, y, z) on.
+fn means_in<const N: usize>(
     src: &[f32],
     stride: usize,
     w: usize,
@@ -246,14 +167,14 @@ fn means_in(
     x: usize,
     y: usize,
     z: usize,
-) -> [f32; 16]
-    requires { (x < w) × (y < h) × (z < d) × (0 < stride) × (last_in w h (span_of x w) (span_of y h) (span_of z d) * stride + 16 ≤ length src.now) }
-    ensures { result ≡ each (λ k. mean_in src.now stride k w h d x y z) }
+) -> [f32; N]
+    requires { (x < w) × (y < h) × (z < d) × (0 < stride) × (last_in w h (span_of x w) (span_of y h) (span_of z d) * stride + N ≤ length src.now) }
+    ensures { result ≡ tab (λ k. mean_in src.now stride k w h d x y z) N 0 }
 {
     let columns = near(x, w);
     let rows = near(y, h);
     let planes = near(z, d);
-    let sums = box_sums(src, stride, w, h, columns, rows, planes, [0.0; 16]);
+    let sums = box_sums(src, stride, w, h, columns, rows, planes, [0.0; N]);
     shares(
         sums,
         cells(
@@ -265,14 +186,12 @@ fn means_in(
 }
 
 // Each sum over the count.
-fn shares(s: [f32; 16], n: f32) -> [f32; 16]
-    ensures { result ≡ each (λ k. div binary32 (get_or s k nan) n) }
+fn shares<const N: usize>(s: [f32; N], n: f32) -> [f32; N]
+    ensures { result ≡ tab (λ k. div binary32 (get_or s.entry k nan) n) N 0 }
 {
-    let mut m = [0.0; 16];
-    let mut k = 0;
-    while k < 16 {
+    let mut m = [0.0; N];
+    for k in 0..N {
         m[k] = s[k] / n;
-        k += 1;
     }
     m
 }
@@ -282,15 +201,14 @@ fn squared(m: [f32; 16]) -> [f32; 16]
     ensures { result ≡ each (λ k. mul binary32 (get_or m k nan) (get_or m k nan)) }
 {
     let mut q = [0.0; 16];
-    let mut k = 0;
-    while k < 16 {
+    for k in 0..16 {
         q[k] = m[k] * m[k];
-        k += 1;
     }
     q
 }
 
-fn box_sums(
+// The planes of a box added to s, of each its rows, of each the numbers of its columns.
+fn box_sums<const N: usize>(
     src: &[f32],
     stride: usize,
     w: usize,
@@ -298,46 +216,47 @@ fn box_sums(
     columns: Span,
     rows: Span,
     planes: Span,
-    s: [f32; 16],
-) -> [f32; 16]
-    requires { (columns.first < columns.past) × (columns.past ≤ columns.first + 3) × (rows.first ≤ rows.past) × (planes.first ≤ planes.past) × (0 < w) × (0 < h) × (0 < stride) × (last_in w h columns rows planes * stride + 16 ≤ length src.now) × (length s ≡ 16) }
-    ensures { result ≡ each (λ k. box_sum src.now stride k w h columns rows planes (get_or s k nan)) }
+    s: [f32; N],
+) -> [f32; N]
+    requires { (columns.first < columns.past) × (columns.past ≤ columns.first + 3) × (rows.first ≤ rows.past) × (planes.first ≤ planes.past) × (0 < w) × (0 < h) × (0 < stride) × (last_in w h columns rows planes * stride + N ≤ length src.now) }
+    ensures { result ≡ tab (λ k. box_sum src.now stride k w h columns rows planes (get_or s.entry k nan)) N 0 }
 {
     let mut sum = s;
-    let mut z = planes.first;
-    while z < planes.past {
-        let next = plane_sums(src, stride, w, columns, z * h, rows, sum);
-        sum = next;
-        z += 1;
+    for z in planes.first..planes.past {
+        sum = plane_sums(src, stride, w, columns, z * h, rows, sum);
     }
     sum
 }
 
-fn plane_sums(
+fn plane_sums<const N: usize>(
     src: &[f32],
     stride: usize,
     w: usize,
     columns: Span,
     plane: usize,
     rows: Span,
-    s: [f32; 16],
-) -> [f32; 16]
-    requires { (columns.first < columns.past) × (columns.past ≤ columns.first + 3) × (rows.first ≤ rows.past) × (0 < w) × (0 < stride) × (((plane + (rows.past - 1)) * w + (columns.past - 1)) * stride + 16 ≤ length src.now) × (length s ≡ 16) }
-    ensures { result ≡ each (λ k. plane_sum src.now stride k w columns plane rows (get_or s k nan)) }
+    s: [f32; N],
+) -> [f32; N]
+    requires { (columns.first < columns.past) × (columns.past ≤ columns.first + 3) × (rows.first ≤ rows.past) × (0 < w) × (0 < stride) × (((plane + (rows.past - 1)) * w + (columns.past - 1)) * stride + N ≤ length src.now) }
+    ensures { result ≡ tab (λ k. plane_sum src.now stride k w columns plane rows (get_or s.entry k nan)) N 0 }
 {
     let mut sum = s;
-    let mut y = rows.first;
-    while y < rows.past {
-        let next = row_sums(src, stride, (plane + y) * w, columns, sum);
-        sum = next;
-        y += 1;
+    for y in rows.first..rows.past {
+        sum = row_sums(src, stride, (plane + y) * w, columns, sum);
     }
     sum
 }
 
-fn row_sums(src: &[f32], stride: usize, row: usize, columns: Span, s: [f32; 16]) -> [f32; 16]
-    requires { (columns.first < columns.past) × (columns.past ≤ columns.first + 3) × (0 < stride) × ((row + (columns.past - 1)) * stride + 16 ≤ length src.now) }
-    ensures { result ≡ each (λ k. row_sum src.now stride k row columns (get_or s k nan)) }
+// No loop: the columns are one to three.
+fn row_sums<const N: usize>(
+    src: &[f32],
+    stride: usize,
+    row: usize,
+    columns: Span,
+    s: [f32; N],
+) -> [f32; N]
+    requires { (columns.first < columns.past) × (columns.past ≤ columns.first + 3) × (0 < stride) × ((row + (columns.past - 1)) * stride + N ≤ length src.now) }
+    ensures { result ≡ tab (λ k. row_sum src.now stride k row columns (get_or s.entry k nan)) N 0 }
 {
     let x = columns.first;
     let count = columns.past - x;
@@ -352,17 +271,15 @@ fn row_sums(src: &[f32], stride: usize, row: usize, columns: Span, s: [f32; 16])
     with_voxel(src, stride, row + (x + 2), two)
 }
 
-// The sixteen numbers from voxel v's first on added to the sums.
-fn with_voxel(src: &[f32], stride: usize, v: usize, s: [f32; 16]) -> [f32; 16]
-    requires { v * stride + 16 ≤ length src.now }
-    ensures { result ≡ each (λ k. plus src.now stride k v (get_or s k nan)) }
+// The N numbers from voxel v's first on added to the sums.
+fn with_voxel<const N: usize>(src: &[f32], stride: usize, v: usize, s: [f32; N]) -> [f32; N]
+    requires { v * stride + N ≤ length src.now }
+    ensures { result ≡ tab (λ k. plus src.now stride k v (get_or s.entry k nan)) N 0 }
 {
     let at = v * stride;
-    let mut sum = [0.0; 16];
-    let mut k = 0;
-    while k < 16 {
+    let mut sum = [0.0; N];
+    for k in 0..N {
         sum[k] = s[k] + src[at + k];
-        k += 1;
     }
     sum
 }

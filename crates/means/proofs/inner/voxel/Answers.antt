@@ -1,13 +1,12 @@
 -- `means::inner::voxel` writes the voxel's sixteen means, which are the definition's of the list's numbers from there on. Assumes nothing.
 use native.Mathlib.Omega.{arith}
-use native.Mathlib.Nat.{mod-lt, div-lt_iff_lt-mul}
 use mathlib.Core.Path.{◌≡◌, refl}
 use mathlib.Core.List.{List}
-use Prim.Native.Nat.{ℕ, ◌+◌, ◌-◌, ◌*◌, ◌/◌, ◌%◌, ◌<◌}
+use Prim.Native.Nat.{ℕ, ◌+◌, ◌*◌, ◌/◌, ◌%◌, ◌<◌}
 use lib.Ieee.{Float}
-use Rattle.lists.specs.Fold.{length_tab, place}
-use Rattle.means.specs.Box.{past_near, mean_in, mean_at}
-use Rattle.means.proofs.Sixteen.{placed}
+use Rattle.means.specs.Box.{mean_in, mean_at}
+use Rattle.means.proofs.Abreast.{placed}
+use Rattle.means.proofs.Places.{coordinates, last_below}
 use Rattle.means.proofs.inner.voxel.Goals as goal
 
 -- number k of voxel v is the list's number v * 16 + k
@@ -22,20 +21,10 @@ pub means_in-m-requires : goal.means_in-m-requires
 means_in-m-requires c =
     let a = c.args in
     let p = c.requires in
-    let x = mod-lt a.v p.0 in
-    let y = mod-lt (a.v / a.w) p.1 in
-    let z : a.v / a.w / a.h < a.d = (div-lt_iff_lt-mul p.1).1 ((div-lt_iff_lt-mul p.0).1 (omega arith)) in
-    let cx : past_near (a.v % a.w) a.w - 1 < a.w = omega arith in
-    let cy : past_near (a.v / a.w % a.h) a.h - 1 < a.h = omega arith in
-    let cz : past_near (a.v / a.w / a.h) a.d - 1 < a.d = omega arith in
-    (x, y, z, omega arith, omega (arith, place (place cz cy) cx))
-
-pub put-requires : goal.put-requires
-put-requires c = (omega arith, rw c.means_in-m.ensures (length_tab _ 16 0))
+    let at = coordinates a.w a.h a.d a.v p.0 p.1 (omega arith) in
+    (omega arith, (at.0, at.1, at.2, omega arith, omega (arith, last_below a.w a.h a.d _ _ _ at.0 at.1 at.2)))
 
 pub returns : goal.returns
 returns c =
-    let b = c.before.before in
-    let m = b.means_in-m in
-    let a = b.args in
-    placed (mean_at a.src.now 16 a.w a.h a.d) _ a.dst.now _ _ (a.v * 16) 16 (omega arith) (omega arith) (omega arith) b.put.ensures m.ensures (λ j h. number a.src.now a.w a.h a.d a.v j h)
+    let a = c.args in
+    placed (mean_at a.src.now 16 a.w a.h a.d) _ a.dst.now _ _ (a.v * 16) 16 (omega arith) (omega arith) (omega arith) c.put.ensures c.means_in-m.ensures (λ j h. number a.src.now a.w a.h a.d a.v j h)
