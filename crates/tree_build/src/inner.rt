@@ -1,6 +1,5 @@
 // The boxes of a run of triangles, by halves: "a builder that halves a run of triangles until four or fewer remain". The order of the triangles is given.
 ghost use Rattle.std.specs.Prelude.{◌≡◌, ◌+◌, ◌-◌, ◌*◌, ◌/◌, ◌≤◌, ◌<◌, length, get_or};
-ghost use Rattle.names.specs.Numbers.{triangle_limit};
 ghost use Rattle.tree_build.specs.Built.{join_of, own_box, run_bounds, PlacesIn, RunFits, PutVec, PutBounds, PutNode, Grown, TreeRoom, TreePut};
 
 use boxes::Bounds;
@@ -8,6 +7,7 @@ use names::LEAF_LIMIT;
 use vectors::Vec3;
 
 // Writes the boxes of the tree of the first m triangles of an order, from the front of two lists on. Answers how many there are.
+#[tactic(auto, using(crate::specs::GrownLaws::run_put))]
 pub fn put_tree(
     points: &[f32],
     boxes: &mut [f32],
@@ -25,6 +25,7 @@ pub fn put_tree(
 }
 
 // Writes the boxes of a run of triangles from box `at` on. Answers the box after them.
+#[tactic(auto, using(crate::specs::BuiltLaws::built_fewer, crate::specs::GrownLaws::leaf_grown))]
 fn grow(
     points: &[f32],
     boxes: &mut [f32],
@@ -39,7 +40,7 @@ fn grow(
 {
     if count <= LEAF_LIMIT {
         put_run(points, boxes, order, at, first, count);
-        put_node(nodes, at, small(count), small(first), 0);
+        put_node(nodes, at, count as u32, first as u32, 0);
         return at + 1;
     }
     let half = count / 2;
@@ -54,7 +55,7 @@ fn grow(
         count - half,
     );
     put_run(points, boxes, order, at, first, count);
-    put_node(nodes, at, 0, small(at + 1), small(middle));
+    put_node(nodes, at, 0, (at + 1) as u32, middle as u32);
     end
 }
 
@@ -70,16 +71,15 @@ fn put_run(points: &[f32], boxes: &mut [f32], order: &[u32], at: usize, first: u
 }
 
 // The box around a run of triangles.
+#[tactic(auto, using(crate::specs::JoinLaws::run_next), unfolding(crate::specs::Built::run_bounds))]
 fn run_bounds(points: &[f32], order: &[u32], first: usize, count: usize) -> Bounds
     requires le_count { (1 ≤ count) × (first + count ≤ length order.now) }
     requires places { PlacesIn points.now order.now first count }
     ensures { result ≡ run_bounds points.now order.now first (count - 1) }
 {
     let mut b = own_box(points, order, first);
-    let mut k = 1;
-    while k < count {
+    for k in 1..count {
         b = join(b, own_box(points, order, first + k));
-        k += 1;
     }
     b
 }
@@ -89,20 +89,23 @@ fn own_box(points: &[f32], order: &[u32], k: usize) -> Bounds
     requires { (k < length order.now) × (get_or order.now k 0 < length points.now / 9) }
     ensures { result ≡ own_box points.now order.now k }
 {
-    boxes::inner::padded(triangle::inner::at(points, tree::inner::word_at(order, k)))
+    boxes::inner::padded(triangle::inner::at(points, order[k] as usize))
 }
 
 // The box around two.
+#[tactic(auto, unfolding(crate::specs::Built::join_of))]
 fn join(a: Bounds, b: Bounds) -> Bounds
     ensures { result ≡ join_of a b }
 {
-    let low = vectors::smaller(a.low, b.low);
-    let high = vectors::larger(a.high, b.high);
-    Bounds { low, high }
+    Bounds {
+        low: vectors::smaller(a.low, b.low),
+        high: vectors::larger(a.high, b.high),
+    }
 }
 
 // ---- what is written
 
+#[tactic(auto, using(crate::specs::WriteLaws::vec_put))]
 fn put_vec(boxes: &mut [f32], k: usize, v: Vec3)
     requires { k + 3 ≤ length boxes.old }
     ensures { PutVec boxes.old boxes.new k v }
@@ -120,11 +123,4 @@ fn put_node(nodes: &mut [u32], at: usize, count: u32, left: u32, right: u32)
     nodes[k] = count;
     nodes[k + 1] = left;
     nodes[k + 2] = right;
-}
-
-fn small(x: usize) -> u32
-    requires { x ≤ triangle_limit }
-    ensures { result ≡ x }
-{
-    x as u32
 }

@@ -1,18 +1,22 @@
 -- How the loops go by one, and what a list holds of which two parts were lent one after the other.
-use mathlib.Core.Path.{◌≡◌, refl, ◌∙◌}
+use mathlib.Core.Path.{◌≡◌, refl, ap, ◌∙◌}
 use mathlib.Core.List.{List, ◌++◌, map, append-nil}
 use Prim.Native.Nat.{ℕ, ◌+◌, ◌-◌, ◌≤◌, ◌<◌}
 use native.Mathlib.Numerals.{add-one}
 use native.Mathlib.Omega.{arith}
 use lib.ListN.{length, get_or, set, take, drop, length-drop, drop_of_length-le}
-use lib.Seq.{length_front, drop-cons, take-suc-set, append_snoc, take_all, take_at, drop_at, length-take-le}
+use lib.Seq.{get_or-take, length_front, drop-cons, take-suc-set, append_snoc, take_all, take_at, drop_at, length-take-le}
 use lib.Ieee.{Float}
+use Rattle.std.proofs.lemmas.Grind.{get_or_after_one}
 use Rattle.vectors.specs.Vectors.{larger_v, smaller_v}
 use Rattle.vectors.specs.declared.Vec3.{Vec3}
 use Rattle.hits.specs.Hits.{paired}
 use Rattle.hits.specs.PairedLaws.{stored}
 use Rattle.tree_order.specs.Order.{key_at, lowest_keys, highest_keys}
 use Rattle.tree_order.specs.Ranks.{run_rank, place_of, ranked}
+use Rattle.tree_order.specs.RankLaws.{order_place_within}
+use Rattle.tree_order.specs.HalveLaws.{halved_few, halved_cut}
+use Rattle.tree_order.specs.OrderLaws.{right_places}
 
 -- ---- the lowest_keys and the highest_keys, one triangle on
 
@@ -32,6 +36,12 @@ module _ (points : List Float) (run : List ℕ) (v : Vec3) (k : ℕ) where
   pub highest_end : length run ≤ k → highest_keys points v (drop k run) ≡ v
   unfolding highest_keys
   highest_end h = rw (drop_of_length-le run h) refl
+
+-- a triangle of the run behind its first
+pub behind_first : (run : List ℕ) (k : ℕ) → k < length run - 1 → get_or (take (length run - 1) (drop 1 run)) k 0 ≡ get_or run (k + 1) 0
+behind_first run k h =
+    let e : 1 + k ≡ k + 1 = omega arith in
+    get_or-take (length run - 1) (drop 1 run) k 0 h ∙ get_or_after_one run k 0 ∙ ap (λ (i : ℕ). get_or run i 0) e
 
 -- ---- keys and ranks, one triangle on
 
@@ -85,3 +95,9 @@ module _ (l x : List ℕ) (half : ℕ) (w : half ≤ length l) (e : length x ≡
         drop_of_length-le (drop half l) {i = length (first_back l half x) - half} (omega (arith, rest)),
         append-nil y,
       ) refl
+
+-- ---- for the attributes of the code
+
+pub ruleset key_steps = (behind_first, order_place_within, lowest_next, highest_next, lowest_end, highest_end)
+
+pub ruleset halving = (second_lent_lem, both_back, halved_few, halved_cut, right_places)
