@@ -8,13 +8,16 @@
 
 ghost use Rattle.std.specs.Prelude.{◌≤◌, length, IfOk, IfSome};
 
+use std::io;
+
 mod entry;
+mod list;
 pub mod room; // room.rt: how long the lists are that a call is lent
 mod tally;
 mod words;
 
 pub use entry::Entry;
-use std::io;
+pub use list::List;
 pub use tally::Tally;
 pub use words::Words;
 

@@ -1,6 +1,6 @@
-ghost use Rattle.std.specs.Prelude.{◌<◌, ◌≤◌, length, IfSome};
+ghost use Rattle.std.specs.Prelude.{◌<◌};
 
-use crate::entry::Entry;
+use crate::list::List;
 use std::num;
 
 // The words of a record from a place on. Past the record's end a word is 0.
@@ -57,72 +57,37 @@ impl<'a> Words<'a> {
         num::f32_to_bits_with_nan(x) == self.word(at)
     }
 
-    // The words after the list that begins here.
-    fn past(self) -> Words<'a> {
-        let exceptions = self.exceptions();
-        exceptions.skip(1).skip(exceptions.count(0) * 2)
+    // The list that begins here, and the words after it.
+    fn split_list(self) -> (List<'a>, Words<'a>) {
+        let pattern = self.skip(2);
+        let period = self.word(1);
+        let after = pattern.skip(period as usize);
+        let exceptions = after.skip(1);
+        let count = after.word(0);
+        let list = List {
+            length: self.count(0),
+            period: period as usize,
+            pattern,
+            count,
+            exceptions,
+        };
+        (list, exceptions.skip(count as usize * 2))
     }
 
-    // The words from list k on, of those that begin here.
-    pub fn list(self, k: usize) -> Words<'a> {
-        let mut list = self;
+    // The words after the first k of the lists that begin here.
+    pub fn after(self, k: usize) -> Words<'a> {
+        let mut words = self;
         for _ in 0..k {
-            list = list.past();
+            let (_, after) = words.split_list();
+            words = after;
         }
+        words
+    }
+
+    // List k, counted from 0, of those that begin here.
+    pub fn list(self, k: usize) -> List<'a> {
+        let (list, _) = self.after(k).split_list();
         list
-    }
-
-    // The exceptions of the list that begins here: their count, and then each.
-    fn exceptions(self) -> Words<'a> {
-        self.skip(2).skip(self.count(1))
-    }
-
-    // Entry i of the list that begins here.
-    pub fn entry(self, i: usize) -> u32 {
-        let exceptions = self.exceptions();
-        for j in 0..exceptions.count(0) {
-            let exception = exceptions.skip(1 + j * 2);
-            if exception.count(0) == i {
-                return exception.word(1);
-            }
-        }
-        let k = self.count(1);
-        if k == 0 {
-            return 0;
-        }
-        self.word(2 + i % k)
-    }
-
-    // Fills a list with the one that begins here.
-    pub fn fill<E: Entry>(self, list: &mut [E]) {
-        for (i, entry) in list.iter_mut().enumerate() {
-            *entry = E::read(self, i);
-        }
-    }
-
-    // The front of `room`, as long as the list that begins here; none where the list is longer.
-    pub fn fit<'r, E: Entry>(self, room: &'r mut [E]) -> Option<&'r mut [E]>
-        ensures { IfSome result (λ front. length front.now ≤ length room.old) }
-    {
-        room.get_mut(..E::entries(self.count(0)))
-    }
-
-    // The same, filled with the list.
-    pub fn lend<'r, E: Entry>(self, room: &'r mut [E]) -> Option<&'r mut [E]>
-        ensures { IfSome result (λ list. length list.now ≤ length room.old) }
-    {
-        let list = self.fit(room)?;
-        self.fill(list);
-        Some(list)
-    }
-
-    // Whether a list is the one that begins here, length and bits.
-    pub fn is_list<E: Entry>(self, list: &[E]) -> bool {
-        list.len() == E::entries(self.count(0))
-            && list
-                .iter()
-                .enumerate()
-                .all(|(i, entry)| entry.is_recorded(self, i))
     }
 }
 

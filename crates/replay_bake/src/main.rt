@@ -180,29 +180,29 @@ fn called(
     given: Given,
     written: &mut Written,
 ) -> Tally {
-    hits.fill(written.distances);
+    hits.list(0).fill(written.distances);
     hits.list(1).fill(written.places);
     let r = answered(solid, given, progress(call), call.long(4), written);
     let left = progress(call.skip(8));
     let lists = call.skip(14);
-    let unhit = hits.is_list(written.distances) & hits.list(1).is_list(written.places);
+    let unhit = hits.list(0).is(written.distances) & hits.list(1).is(written.places);
     t.held(r.refusal == call.word(7))
         .held(r.progress.next == left.next)
         .held(r.progress.rays == left.rays)
         .held(r.rays == call.long(12))
-        .held(lists.is_list(written.volume))
-        .held(lists.list(1).is_list(written.scratch))
+        .held(lists.list(0).is(written.volume))
+        .held(lists.list(1).is(written.scratch))
         .held_if(!solid & (call.word(6) != 0), unhit)
 }
 
 // The calls, one after another, over the same volume and scratch.
 fn calls(solid: bool, case: Case, t: Tally, given: Given, written: &mut Written) -> Tally {
-    let hits = case.lists.list(10);
+    let hits = case.lists.after(10);
     let mut tally = t;
     let mut call = case.asked.skip(1);
     for _ in 0..case.asked.count(0) {
         tally = called(solid, hits, call, tally, given, written);
-        call = call.skip(14).list(2);
+        call = call.skip(14).after(2);
     }
     tally
 }
@@ -262,7 +262,7 @@ fn sized<const ROOM: usize>(case: Case, t: Tally) -> Option<Tally>
     let values = case.values;
     let lists = case.lists;
     let tree = if case.kind == Kind::Tree {
-        Some(lists.list(12))
+        Some(lists.after(12))
     } else {
         None
     };
@@ -300,9 +300,9 @@ fn record(w: Words, t: Tally) -> Option<Tally> {
     let kind = Kind::try_from(w.word(0)).ok()?;
     let lists = w.skip(31);
     let asked = if kind == Kind::Tree {
-        lists.list(15)
+        lists.after(15)
     } else {
-        lists.list(12)
+        lists.after(12)
     };
     let case = Case {
         kind,
@@ -310,7 +310,7 @@ fn record(w: Words, t: Tally) -> Option<Tally> {
         lists,
         asked,
     };
-    if lists.list(8).count(0) <= room::VOLUME && lists.list(9).count(0) <= room::VOLUME {
+    if lists.list(8).length <= room::VOLUME && lists.list(9).length <= room::VOLUME {
         return sized::<{ room::VOLUME }>(case, t);
     }
     sized::<{ room::WIDE_VOLUME }>(case, t)

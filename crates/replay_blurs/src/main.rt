@@ -18,7 +18,7 @@ fn blurred<const ROOM: usize>(w: Words, t: Tally) -> Option<Tally>
     let lists = w.skip(7);
     let mut list = [0.0; ROOM];
     let mut scratch = [0.0; ROOM];
-    let list = lists.lend(&mut list)?;
+    let list = lists.list(0).lend(&mut list)?;
     let scratch = lists.list(1).lend(&mut scratch)?;
     let axes = replay_values::axes(w.skip(1));
     let answer = match w.word(0) {
@@ -26,18 +26,19 @@ fn blurred<const ROOM: usize>(w: Words, t: Tally) -> Option<Tally>
         COEFFICIENTS => blurs::coefficient_blur(axes, list, scratch),
         _ => return None,
     };
-    let expected = lists.list(2);
+    let expected = lists.after(2);
+    let after = expected.skip(1);
     Some(
         t.held(true)
             .held(names::told(answer) == expected.word(0))
-            .held(expected.skip(1).is_list(list))
-            .held(expected.skip(1).list(1).is_list(scratch)),
+            .held(after.list(0).is(list))
+            .held(after.list(1).is(scratch)),
     )
 }
 
 fn record(w: Words, t: Tally) -> Option<Tally> {
     let lists = w.skip(7);
-    if lists.count(0) <= room::VOLUME && lists.list(1).count(0) <= room::VOLUME {
+    if lists.list(0).length <= room::VOLUME && lists.list(1).length <= room::VOLUME {
         return blurred::<{ room::VOLUME }>(w, t);
     }
     blurred::<{ room::WIDE_VOLUME }>(w, t)

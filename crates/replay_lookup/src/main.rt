@@ -31,8 +31,8 @@ fn light_at(w: Words, t: Tally, position: Words, light: &[f32]) -> Tally {
 fn lights(w: Words, t: Tally) -> Option<Tally> {
     let lists = w.skip(13);
     let mut light = [0.0; room::LIGHT];
-    let light = lists.lend(&mut light)?;
-    let positions = lists.list(1);
+    let light = lists.list(0).lend(&mut light)?;
+    let positions = lists.after(1);
     let mut tally = t.held(true);
     for i in 0..positions.count(0) {
         tally = light_at(w, tally, positions.skip(1 + i * 5), light);
@@ -64,8 +64,8 @@ fn coefficients<const ROOM: usize>(w: Words, t: Tally) -> Option<Tally>
 {
     let lists = w.skip(13);
     let mut volume = [0.0; ROOM];
-    let volume = lists.lend(&mut volume)?;
-    let positions = lists.list(1);
+    let volume = lists.list(0).lend(&mut volume)?;
+    let positions = lists.after(1);
     let mut tally = t.held(true);
     for i in 0..positions.count(0) {
         tally = coefficients_at(w, tally, positions.skip(1 + i * 20), volume);
@@ -80,9 +80,9 @@ fn part<const ROOM: usize>(w: Words, t: Tally) -> Option<Tally>
     let lists = w.skip(7);
     let mut volume = [0.0; ROOM];
     let mut scratch = [0.0; ROOM];
-    let volume = lists.lend(&mut volume)?;
+    let volume = lists.list(0).lend(&mut volume)?;
     let scratch = lists.list(1).lend(&mut scratch)?;
-    Some(held_part(w, t.held(true), lists.list(2), volume, scratch))
+    Some(held_part(w, t.held(true), lists.after(2), volume, scratch))
 }
 
 fn held_part(w: Words, t: Tally, asked: Words, volume: &[f32], scratch: &[f32]) -> Tally {
@@ -92,14 +92,16 @@ fn held_part(w: Words, t: Tally, asked: Words, volume: &[f32], scratch: &[f32]) 
     let refusal = lookup::voxel_refusal(axes, volume, scratch, index, choice);
     let lent = lookup::voxel_part(axes, volume, scratch, index, choice).unwrap_or(&[]);
     t.held(names::told(refusal) == asked.word(3))
-        .held(asked.skip(4).is_list(lent))
+        .held(asked.skip(4).list(0).is(lent))
 }
 
 // Most volumes are small, and are given small arrays.
 fn record(w: Words, t: Tally) -> Option<Tally> {
     match w.word(0) {
         LIGHTS => lights(w, t),
-        COEFFICIENTS if w.count(13) <= room::VOLUME => coefficients::<{ room::VOLUME }>(w, t),
+        COEFFICIENTS if w.skip(13).list(0).length <= room::VOLUME => coefficients::<
+            { room::VOLUME },
+        >(w, t),
         COEFFICIENTS => coefficients::<{ room::WIDE_VOLUME }>(w, t),
         PART if small(w.skip(7)) => part::<{ room::VOLUME }>(w, t),
         PART => part::<{ room::WIDE_VOLUME }>(w, t),
@@ -109,7 +111,7 @@ fn record(w: Words, t: Tally) -> Option<Tally> {
 
 // Whether neither volume nor scratch is wide.
 fn small(lists: Words) -> bool {
-    lists.count(0) <= room::VOLUME && lists.list(1).count(0) <= room::VOLUME
+    lists.list(0).length <= room::VOLUME && lists.list(1).length <= room::VOLUME
 }
 
 fn main(rt: HostRuntime) -> io::Result<()> {

@@ -13,8 +13,8 @@ fn held(w: Words, t: Tally, r: Marked, occupied: &[u64], active: &[u64]) -> Tall
     t.held(r.refusal == w.word(0))
         .held(r.occupied == u64::from(w.word(1)))
         .held(r.active == u64::from(w.word(2)))
-        .held(masks.is_list(occupied))
-        .held(masks.list(1).is_list(active))
+        .held(masks.list(0).is(occupied))
+        .held(masks.list(1).is(active))
 }
 
 fn record(w: Words, t: Tally) -> Option<Tally> {
@@ -25,7 +25,7 @@ fn record(w: Words, t: Tally) -> Option<Tally> {
     let mut points = [0.0; room::POINTS];
     let mut occupied = [0; room::MASK];
     let mut active = [0; room::MASK];
-    let points = lists.lend(&mut points)?;
+    let points = lists.list(0).lend(&mut points)?;
     let occupied = lists.list(1).lend(&mut occupied)?;
     let active = lists.list(2).lend(&mut active)?;
     let axes = replay_values::axes(w.skip(1));
@@ -33,7 +33,7 @@ fn record(w: Words, t: Tally) -> Option<Tally> {
     let r = Marked::from(masks::masks(
         axes, corners, points, occupied, active,
     ));
-    Some(held(lists.list(3), t.held(true), r, occupied, active))
+    Some(held(lists.after(3), t.held(true), r, occupied, active))
 }
 
 fn main(rt: HostRuntime) -> io::Result<()> {

@@ -125,10 +125,10 @@ fn through(asked: Words, scene: Scene, hits: &mut Hits) -> Transmitted {
 
 // Through the engine with hit scratch, whose lists begin at `lists`.
 fn lent(lists: Words, asked: Words, t: Tally, scene: Scene, hits: &mut Hits) -> Tally {
-    lists.fill(hits.distances);
+    lists.list(0).fill(hits.distances);
     lists.list(1).fill(hits.places);
     let r = through(asked, scene, hits);
-    let same = lists.is_list(hits.distances) & lists.list(1).is_list(hits.places);
+    let same = lists.list(0).is(hits.distances) & lists.list(1).is(hits.places);
     passed(asked, t, r).held_if(r.refusal != 0, same)
 }
 
@@ -170,9 +170,9 @@ fn scene(lists: Words, tree: Option<Words>, rays: Words, t: Tally) -> Option<Tal
     let mut distances = [0.0; room::HITS];
     let mut places = [0; room::HITS];
     let scene = scene.lend(lists, tree)?;
-    let lists = lists.list(4);
+    let lists = lists.after(4);
     let mut hits = Hits {
-        distances: lists.fit(&mut distances)?,
+        distances: lists.list(0).fit(&mut distances)?,
         places: lists.list(1).fit(&mut places)?,
     };
     let mut tally = t.held(true);
@@ -195,21 +195,21 @@ fn build(lists: Words, t: Tally) -> Option<Tally> {
     let mut boxes = [0.0; room::BOXES];
     let mut nodes = [0; room::NODES];
     let mut order = [0; room::ORDER];
-    let points = lists.lend(&mut points)?;
+    let points = lists.list(0).lend(&mut points)?;
     let boxes = lists.list(1).lend(&mut boxes)?;
     let nodes = lists.list(2).lend(&mut nodes)?;
     let order = lists.list(3).lend(&mut order)?;
     let r = TreeBuilt::from(tree_build::build_tree(points, boxes, nodes, order));
-    let answer = lists.list(4);
+    let answer = lists.after(4);
     let after = answer.skip(3);
     Some(
         t.held(true)
             .held(r.refusal == answer.word(0))
             .held(r.boxes == answer.count(1))
             .held(r.places == answer.count(2))
-            .held(after.is_list(boxes))
-            .held(after.list(1).is_list(nodes))
-            .held(after.list(2).is_list(order)),
+            .held(after.list(0).is(boxes))
+            .held(after.list(1).is(nodes))
+            .held(after.list(2).is(order)),
     )
 }
 
@@ -219,8 +219,8 @@ fn record(w: Words, t: Tally) -> Option<Tally> {
     let lists = w.skip(1);
     match w.word(0) {
         TRIANGLE => Some(triangle(w, t)),
-        SCENE => scene(lists, None, lists.list(6), t),
-        TREE => scene(lists, Some(lists.list(6)), lists.list(9), t),
+        SCENE => scene(lists, None, lists.after(6), t),
+        TREE => scene(lists, Some(lists.after(6)), lists.after(9), t),
         BUILD => build(lists, t),
         _ => None,
     }

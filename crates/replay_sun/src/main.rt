@@ -56,8 +56,8 @@ fn held(answer: Words, t: Tally, r: Result<u64, Refusal>, written: &Written) -> 
     let r = Sunned::from(r);
     t.held(r.refusal == answer.word(1))
         .held(r.rays == answer.long(2))
-        .held(lists.is_list(written.light))
-        .held(lists.list(1).is_list(written.scratch))
+        .held(lists.list(0).is(written.light))
+        .held(lists.list(1).is(written.scratch))
 }
 
 // A pass of the engine for solid walls, over lists as the record lends them.
@@ -88,7 +88,7 @@ fn lent(lists: Words, answer: Words, t: Tally, given: Given, written: &mut Writt
     lists.list(7).fill(written.distances);
     lists.list(8).fill(written.places);
     let r = traced(given, written);
-    let same = lists.list(7).is_list(written.distances) & lists.list(8).is_list(written.places);
+    let same = lists.list(7).is(written.distances) & lists.list(8).is(written.places);
     held(answer, t, r, written).held_if(answer.word(0) != 0, same)
 }
 
@@ -132,10 +132,10 @@ fn traced(given: Given, written: &mut Written) -> Result<u64, Refusal> {
 // By one engine, or by both where they have one answer.
 fn lit(kind: Kind, lists: Words, t: Tally, given: Given, written: &mut Written) -> Tally {
     match kind {
-        Kind::Solid => solid(lists, lists.list(9), t, given, written),
-        Kind::Tree => lent(lists, lists.list(12), t, given, written),
+        Kind::Solid => solid(lists, lists.after(9), t, given, written),
+        Kind::Tree => lent(lists, lists.after(12), t, given, written),
         Kind::Lent => {
-            let answer = lists.list(9);
+            let answer = lists.after(9);
             let u = lent(lists, answer, t, given, written);
             let scene = given.scene;
             if replay::through_both(
@@ -157,7 +157,7 @@ fn record(w: Words, t: Tally) -> Option<Tally> {
     let kind = Kind::try_from(w.word(0)).ok()?;
     let lists = w.skip(16);
     let tree = if kind == Kind::Tree {
-        Some(lists.list(9))
+        Some(lists.after(9))
     } else {
         None
     };

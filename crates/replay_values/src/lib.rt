@@ -125,13 +125,13 @@ impl SceneRoom {
         let tree = match tree {
             None => None,
             Some(lists) => Some(Tree {
-                boxes: lists.lend(boxes)?,
+                boxes: lists.list(0).lend(boxes)?,
                 nodes: lists.list(1).lend(nodes)?,
                 order: lists.list(2).lend(order)?,
             }),
         };
         Some(Scene {
-            points: lists.lend(points)?,
+            points: lists.list(0).lend(points)?,
             uses: lists.list(1).lend(uses)?,
             kinds: lists.list(2).lend(kinds)?,
             numbers: lists.list(3).lend(numbers)?,
