@@ -1,6 +1,6 @@
 -- The public calls over rays. Each tests rows in order, the first that holds is the refusal, and a refusal answers its number with every other number
 -- zero. "Where an answer is an enum, a definition gives this paper's number and values for each of the enum's cases": `values_of_met` and `values_of_found`.
-use Rattle.std.specs.Prelude.{◌≡◌, Bool, true, false, cond, ◌||◌, List, [], ◌∷◌, ℕ, length, Float}
+use Rattle.std.specs.Prelude.{◌≡◌, Option, None, Some, Bool, true, false, cond, ◌||◌, List, [], ◌∷◌, ℕ, length, Float}
 use Rattle.names.specs.Bits.{zero32}
 use Rattle.names.specs.Refusals.{Row, row, first_of, unless_refused}
 use Rattle.names.specs.Scene.{Scene, tree_scene}
@@ -9,10 +9,10 @@ use Rattle.vectors.specs.declared.Triangle.{Triangle}
 use Rattle.limits.specs.Limits.{wrong_scene, short_hits, bad_triangle, scene_rows, bad_ray}
 use Rattle.tree.specs.Trees.{bad_tree}
 use Rattle.triangle.specs.Meet.{meet_of}
-use Rattle.triangle.specs.declared.Meet.{Meet}
+use Rattle.triangle.specs.declared.Hit.{Hit}
 use Rattle.scan.specs.Nearest.{nearest_of}
 use Rattle.scan.specs.Transmittance.{transmittance_of}
-use Rattle.scan.specs.declared.Nearest.{Nearest}
+use Rattle.scan.specs.declared.PlacedHit.{PlacedHit}
 use Rattle.rays.specs.declared.Met.{Met}
 use Rattle.rays.specs.declared.Found.{Found}
 use Rattle.rays.specs.declared.Transmitted.{Transmitted}
@@ -58,13 +58,13 @@ unfoldable pub meet_refusal : Ray → Triangle → ℕ
 meet_refusal ray triangle = first_of (meet_rows ray triangle)
 
 -- what the test answers, as an answer of the call and as values
-unfoldable pub met_case : Meet → Met
-met_case Meet.Miss = Met.Miss
-met_case (Meet.Hit t u v front) = Met.Hit t u v front
+unfoldable pub met_case : Option Hit → Met
+met_case None = Met.Miss
+met_case (Some h) = Met.Hit h.t h.u h.v h.front
 
-unfoldable pub values_of_test : Meet → Values
-values_of_test Meet.Miss = miss_values
-values_of_test (Meet.Hit t u v front) = hit_values 0 t u v front
+unfoldable pub values_of_test : Option Hit → Values
+values_of_test None = miss_values
+values_of_test (Some h) = hit_values 0 h.t h.u h.v h.front
 
 unfoldable pub met_of : Ray → Triangle → Met
 met_of ray triangle =
@@ -92,13 +92,13 @@ scan_rows solid wrong scene ray = row 3 wrong ∷ scene_rows solid scene (row 16
 unfoldable pub nearest_refusal : Scene → Ray → ℕ
 nearest_refusal scene ray = first_of (scan_rows false (wrong_scene_lists scene) scene ray)
 
-unfoldable pub found_case : Nearest → Found
-found_case Nearest.Nothing = Found.Nothing
-found_case (Nearest.At i t u v front) = Found.Hit i t u v front
+unfoldable pub found_case : Option PlacedHit → Found
+found_case None = Found.Nothing
+found_case (Some best) = Found.Hit best.place best.hit.t best.hit.u best.hit.v best.hit.front
 
-unfoldable pub scan_values : Nearest → Values
-scan_values Nearest.Nothing = miss_values
-scan_values (Nearest.At i t u v front) = hit_values i t u v front
+unfoldable pub scan_values : Option PlacedHit → Values
+scan_values None = miss_values
+scan_values (Some best) = hit_values best.place best.hit.t best.hit.u best.hit.v best.hit.front
 
 unfoldable pub found_of : Scene → Ray → Found
 found_of scene ray =

@@ -1,5 +1,5 @@
 -- What the answers of the ray calls mean: which row refuses, each contract leaves one answer, an accepted scene's lists fit each other, and good calls are accepted.
-use Rattle.std.specs.Prelude.{◌≡◌, Bool, ◌||◌, List, [], ◌∷◌, ℕ, zero, suc, ◌≤◌, eqb, length, Float}
+use Rattle.std.specs.Prelude.{◌≡◌, Option, None, Some, Bool, ◌||◌, List, [], ◌∷◌, ℕ, zero, suc, ◌≤◌, eqb, length, Float}
 use Rattle.std.proofs.Math.Path.{refl}
 use Rattle.std.proofs.Common.{sym, ap, ap₂, ◌∙◌, arith, ne_eqb}
 use Rattle.std.proofs.Math.Bool.{true, false, cond, or-false}
@@ -13,9 +13,9 @@ use Rattle.names.specs.Passed.{passed}
 use Rattle.tree.specs.Trees.{bad_tree, TreeStands}
 use Rattle.tree.proofs.TreesLaws.{sound_tree}
 use Rattle.triangle.specs.Meet.{meet_of}
-use Rattle.triangle.specs.declared.Meet.{Meet}
+use Rattle.triangle.specs.declared.Hit.{Hit}
 use Rattle.scan.specs.Nearest.{nearest_of}
-use Rattle.scan.specs.declared.Nearest.{Nearest}
+use Rattle.scan.specs.declared.PlacedHit.{PlacedHit}
 use Rattle.rays.specs.declared.Met.{Met}
 use Rattle.rays.specs.declared.Found.{Found}
 use Rattle.rays.specs.declared.Transmitted.{Transmitted}
@@ -35,9 +35,9 @@ meet_refused_by ray triangle r a =
     refused_by (meet_rows ray triangle) _ (omega arith, (omega arith, tt))
     (ap (λ (x : Values). x.number) a.values ∙ number_of (meet_refusal ray triangle) (values_of_test (meet_of ray triangle)) (accepted (meet_of ray triangle)))
   where
-    accepted : (m : Meet) → (values_of_test m).number ≡ 0
-    accepted Meet.Miss = refl
-    accepted (Meet.Hit t u v front) = refl
+    accepted : (m : Option Hit) → (values_of_test m).number ≡ 0
+    accepted None = refl
+    accepted (Some h) = refl
 
 scene_numbered : (solid wrong : Bool) (scene : Scene) (ray : Ray) → Numbered (scan_rows solid wrong scene ray)
 scene_numbered solid wrong scene ray = (omega arith, (omega arith, (omega arith, (omega arith, (omega arith, (omega arith, tt))))))
@@ -49,9 +49,9 @@ nearest_refused_by scene ray r a =
     refused_by (scan_rows false (wrong_scene_lists scene) scene ray) _ (scene_numbered false (wrong_scene_lists scene) scene ray)
     (ap (λ (x : Values). x.number) a.values ∙ number_of (nearest_refusal scene ray) (scan_values (nearest_of scene ray)) (accepted (nearest_of scene ray)))
   where
-    accepted : (n : Nearest) → (scan_values n).number ≡ 0
-    accepted Nearest.Nothing = refl
-    accepted (Nearest.At i t u v front) = refl
+    accepted : (n : Option PlacedHit) → (scan_values n).number ≡ 0
+    accepted None = refl
+    accepted (Some best) = refl
 
 pub transmittance_refused_by : (scene : Scene) (ray : Ray) (distances : List Float) (places : List ℕ) (r : Transmitted) (distances' : List Float) (places' : List ℕ)
     → TransmittanceAnswered scene ray distances places r distances' places'
@@ -104,15 +104,15 @@ module _ {A : Type 0} (f : A → Values) where
       by true = refl
       by false = refl
 
-met_case_values : (m : Meet) → values_of_met (met_case m) ≡ values_of_test m
+met_case_values : (m : Option Hit) → values_of_met (met_case m) ≡ values_of_test m
 unfolding values_of_met met_case values_of_test
-met_case_values Meet.Miss = refl
-met_case_values (Meet.Hit t u v front) = refl
+met_case_values None = refl
+met_case_values (Some h) = refl
 
-found_case_values : (n : Nearest) → values_of_found (found_case n) ≡ scan_values n
+found_case_values : (n : Option PlacedHit) → values_of_found (found_case n) ≡ scan_values n
 unfolding values_of_found found_case scan_values
-found_case_values Nearest.Nothing = refl
-found_case_values (Nearest.At i t u v front) = refl
+found_case_values None = refl
+found_case_values (Some best) = refl
 
 pub meet_answered : (ray : Ray) (triangle : Triangle) (r : Met) → r ≡ met_of ray triangle → MeetAnswered ray triangle r
 unfolding met_of meet_values values_of_met

@@ -8,9 +8,9 @@ ghost use Rattle.names.specs.Scene.{scene_of, scene_for};
 ghost use Rattle.limits.specs.Limits.{wrong_scene};
 ghost use Rattle.rays.specs.Rays.{meet_refusal, scan_rows, met_case, found_case, MeetAnswered, NearestAnswered, TransmittanceAnswered, SolidTransmittanceAnswered, TreeNearestAnswered, TreeTransmittanceAnswered};
 
-use scan::Nearest;
+use scan::PlacedHit;
 use tree_walk::TURNED_NUMBERS;
-use triangle::Meet;
+use triangle::Hit;
 use vectors::{Ray, Triangle};
 
 // What the test of one triangle answers: a refusal's number, a miss, or a hit's distance, u and v, and whether the front was met.
@@ -257,20 +257,22 @@ fn scene_refusal(
     0
 }
 
-fn as_met(m: Meet) -> Met
-    ensures { result ≡ met_case m }
+#[tactic(auto, unfolding(crate::specs::Rays::met_case))]
+fn as_met(met: Option<Hit>) -> Met
+    ensures { result ≡ met_case met }
 {
-    match m {
-        Meet::Miss => Met::Miss,
-        Meet::Hit(t, u, v, front) => Met::Hit(t, u, v, front),
+    match met {
+        None => Met::Miss,
+        Some(h) => Met::Hit(h.t, h.u, h.v, h.front),
     }
 }
 
-fn as_found(n: Nearest) -> Found
-    ensures { result ≡ found_case n }
+#[tactic(auto, unfolding(crate::specs::Rays::found_case))]
+fn as_found(nearest: Option<PlacedHit>) -> Found
+    ensures { result ≡ found_case nearest }
 {
-    match n {
-        Nearest::Nothing => Found::Nothing,
-        Nearest::At(i, t, u, v, front) => Found::Hit(i, t, u, v, front),
+    match nearest {
+        None => Found::Nothing,
+        Some(PlacedHit { place, hit }) => Found::Hit(place, hit.t, hit.u, hit.v, hit.front),
     }
 }

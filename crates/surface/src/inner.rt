@@ -1,6 +1,6 @@
 // Surfaces of a scene whose lists fit each other (`Sound`): the tests of the public call have shown it. The rays stand as functions of
 // their own, so that they can be listed and compared.
-ghost use Rattle.std.specs.Prelude.{◌≡◌, ◌+◌, ◌≤◌, ◌<◌, length, get_or};
+ghost use Rattle.std.specs.Prelude.{◌≡◌, ◌≤◌, ◌<◌, length};
 ghost use Rattle.names.specs.Numbers.{lamp_limit};
 ghost use Rattle.names.specs.Scene.{Sound, scene_of, scene_for, HitsFit};
 ghost use Rattle.tracing.specs.Through.{Through};
@@ -16,6 +16,7 @@ use vectors::{Ray, Vec3};
 // ---- what a ray has met
 
 // The surface that a ray has met at a place and a distance.
+#[tactic(auto, unfolding(crate::specs::Surface::surface_of))]
 pub fn surface_at(
     points: &[f32],
     uses: &[u32],
@@ -34,7 +35,7 @@ pub fn surface_at(
     let normal = bounce::inner::facing(face, ray.direction);
     let met = vectors::inner::point_at(ray.origin, ray.direction, distance);
     let point = vectors::inner::point_at(met, normal, hit);
-    let k = material(uses, place) * 7;
+    let k = uses[place] as usize * 7;
     let albedo = vectors::clamp_each(vectors::inner::vec_at(numbers, k));
     let emissive = harmonics::inner::raise(vectors::inner::vec_at(numbers, k + 3));
     Surface {
@@ -48,6 +49,7 @@ pub fn surface_at(
 // ---- the light on it
 
 // What a surface sends back, and the rays that this takes: at most five, and one for each lamp.
+#[tactic(auto, unfolding(crate::specs::Surface::bounced_by))]
 pub fn bounce_light(
     points: &[f32],
     uses: &[u32],
@@ -120,19 +122,18 @@ fn light_fallen(
         distances, places,
     );
     let n = limits::inner::lamp_count(lamps);
-    let mut j = 0;
-    while j < n {
+    for j in 0..n {
         let lamp = limits::inner::lamp_at(lamps, j);
         fallen = light_lamp(
             points, uses, kinds, numbers, boxed, boxes, nodes, order, rows, setting, surface, lamp,
             fallen, distances, places,
         );
-        j += 1;
     }
     fallen
 }
 
 // With a lamp's light added to what has fallen so far, where the lamp reaches the surface.
+#[tactic(auto, unfolding(crate::specs::Surface::lit_by))]
 fn light_lamp(
     points: &[f32],
     uses: &[u32],
@@ -173,6 +174,7 @@ fn light_lamp(
 }
 
 // Sun plus sky.
+#[tactic(auto, unfolding(crate::specs::Surface::daylight_of))]
 fn light_day(
     points: &[f32],
     uses: &[u32],
@@ -209,6 +211,7 @@ fn light_day(
 }
 
 // The sun's light on a surface, where the sun is above it.
+#[tactic(auto, unfolding(crate::specs::Surface::sun_of))]
 fn light_sun(
     points: &[f32],
     uses: &[u32],
@@ -247,6 +250,7 @@ fn light_sun(
 }
 
 // The sky's light on a surface.
+#[tactic(auto, unfolding(crate::specs::Surface::sky_of))]
 fn light_sky(
     points: &[f32],
     uses: &[u32],
@@ -302,19 +306,18 @@ fn see_sky(
     let table = bounce::inner::hemisphere_table();
     let basis = bounce::inner::basis_of(surface.normal);
     let mut seen = Seen { sum: 0.0, rays: 0 };
-    let mut j = 0;
-    while j < 4 {
+    for j in 0..4 {
         let ray = sky_ray(setting, surface, basis, &table, j);
         seen = see(
             points, uses, kinds, numbers, boxed, boxes, nodes, order, rows, ray, seen, distances,
             places,
         );
-        j += 1;
     }
     seen
 }
 
 // The transmittance along a ray, added to the sum.
+#[tactic(auto, unfolding(crate::specs::Surface::seen_by))]
 fn see(
     points: &[f32],
     uses: &[u32],
@@ -348,6 +351,7 @@ fn see(
 // ---- its rays
 
 // To the sun.
+#[tactic(auto, unfolding(crate::specs::Surface::shadow_ray))]
 pub fn shadow_ray(setting: Setting, surface: Surface) -> Ray
     ensures { result ≡ shadow_ray setting surface }
 {
@@ -360,6 +364,7 @@ pub fn shadow_ray(setting: Setting, surface: Surface) -> Ray
 }
 
 // To a lamp.
+#[tactic(auto, unfolding(crate::specs::Surface::lamp_ray))]
 pub fn lamp_ray(setting: Setting, surface: Surface, way: Way) -> Ray
     ensures { result ≡ lamp_ray setting surface way }
 {
@@ -367,6 +372,7 @@ pub fn lamp_ray(setting: Setting, surface: Surface, way: Way) -> Ray
 }
 
 // Along hemisphere direction j of the basis of a surface's normal.
+#[tactic(auto, unfolding(crate::specs::Surface::sky_ray_in))]
 pub fn sky_ray(setting: Setting, surface: Surface, basis: Basis, table: &[f32; 12], j: usize) -> Ray
     requires table_value { table.now ≡ hemisphere }
     requires j_bound { j < 4 }
@@ -379,20 +385,4 @@ pub fn sky_ray(setting: Setting, surface: Surface, basis: Basis, table: &[f32; 1
         setting.biases.step,
         setting.biases.shortest,
     )
-}
-
-// ---- reading lists
-
-// The place of the material that a triangle uses.
-fn material(uses: &[u32], place: usize) -> usize
-    requires { place < length uses.now }
-    ensures { result ≡ get_or uses.now place 0 }
-{
-    wide(uses[place])
-}
-
-fn wide(x: u32) -> usize
-    ensures { result ≡ x }
-{
-    x as usize
 }

@@ -1,0 +1,2 @@
+-- What the rows of a call refuse, as the code asks them.
+pub mod Judged
