@@ -1,7 +1,9 @@
 -- A camera frame of positions, three numbers each: the light, or the four coefficients, at each of them, "equal one by one to the single lookup".
 -- Rows 1, 2 and 3 concern no position: they are tested once, whatever the positions, and come with place 0. Then "the first such refusal is given with
 -- its place": the least place at which the single lookup refuses, and its number. On a refusal "nothing is written". Assumes nothing.
-use Rattle.std.specs.Prelude.{◌≡◌, Bool, cond, ◌||◌, List, [], ◌∷◌, ℕ, zero, suc, ◌+◌, ◌*◌, ◌/◌, ◌%◌, eqb, length, Float}
+use Rattle.std.specs.Prelude.{◌≡◌, Bool, cond, ◌||◌, List, [], ◌∷◌, ℕ, zero, suc, ◌+◌, ◌*◌, ◌/◌, ◌%◌, eqb, length, Result, Ok, Err, Float}
+use Rattle.names.specs.declared.refusal.Refusal.{Refusal}
+use Rattle.names.specs.Answers.{number_of}
 use Rattle.names.specs.Refusals.{Row, row, first_of, unless_refused}
 use Rattle.lists.specs.Fold.{tab}
 use Rattle.lists.specs.Laid.{laid}
@@ -12,6 +14,7 @@ use Rattle.grid.specs.declared.Corners.{Corners}
 use Rattle.grid.specs.Grid.{voxels}
 use Rattle.limits.specs.Limits.{bad_axes, bad_grid, wrong_length, wrong_share}
 use Rattle.lookup.specs.Lookup.{light_refusal, light_at_of, coefficient_refusal, coefficients_at_of}
+use Rattle.frames.specs.declared.FirstRefused.{FirstRefused}
 use Rattle.frames.specs.declared.FirstRefusal.{FirstRefusal}
 
 -- ---- the positions
@@ -31,6 +34,15 @@ wrong_frame each positions answers = wrong_length (positions % 3) 0 || wrong_sha
 
 abbrev pub refused_at : ℕ → ℕ → FirstRefusal
 refused_at number k = record { refusal = number; place = k }
+
+-- a refusal that no position causes
+abbrev pub refused_first : Refusal → FirstRefused
+refused_first r = record { refusal = r; place = 0 }
+
+-- a call's answer as C is told it
+abbrev pub first_refusal_from : {A : Type 0} → Result A FirstRefused → FirstRefusal
+first_refusal_from (Ok _) = refused_at 0 0
+first_refusal_from (Err f) = refused_at (number_of f.refusal) f.place
 
 -- the least of k places from i on whose number is not 0, with that number; two zeros where there is none
 unfoldable pub least_refused : (ℕ → ℕ) → ℕ → ℕ → FirstRefusal

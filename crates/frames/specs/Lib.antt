@@ -2,5 +2,6 @@
 pub mod Frames
 pub mod Passes
 pub mod FramesLaws
+pub mod FramedLaws
 pub mod FrameRefusals
 pub mod FramesFigures

@@ -1,47 +1,45 @@
--- What the two passes of a frame are handed: the first a grid that rows 1, 2 and 3 have passed, the second positions of which none is refused; and what the
--- first keeps in its room.
-use Rattle.std.specs.Prelude.{◌≡◌, Bool, true, false, List, ℕ, ◌*◌, ◌/◌, ◌<◌, length, Float}
+-- What the passes of a frame are handed and what they leave, of lights and of coefficients alike: `each` numbers a cell and a position, `bad` whether 13 refuses a
+-- cell, `refusal` what the single lookup refuses, and `frame` all that is written.
+use Rattle.std.specs.Prelude.{◌≡◌, Bool, false, List, ℕ, ◌/◌, ◌<◌, length, Float}
+use Rattle.names.specs.Refusals.{unless_refused}
+use Rattle.lists.specs.Laid.{laid}
+use Rattle.vectors.specs.declared.Vec3.{Vec3}
 use Rattle.grid.specs.declared.Axes.{Axes}
 use Rattle.grid.specs.declared.Corners.{Corners}
-use Rattle.grid.specs.Grid.{voxels, AxesWithin}
-use Rattle.limits.specs.Limits.{bad_axes, bad_grid, bad_lights, bad_coefficients, wrong_length}
+use Rattle.lookup.specs.declared.Cells.{Cells}
+use Rattle.lookup.specs.Place.{cells_of}
 use Rattle.frames.specs.declared.FirstRefusal.{FirstRefusal}
-use Rattle.frames.specs.Frames.{position_count, least_refused, light_refusal_at, light_frame_of, coefficient_refusal_at, coefficient_frame_of}
+use Rattle.frames.specs.Frames.{position_count, position_at, least_refused, first_refusal_of, frame_rows}
 
-pub record LightGridGood (a : Axes) (c : Corners) (light : List Float) (clear : Bool) : Type 0 where
-  pub axes : bad_axes a ≡ false
-  pub grid : bad_grid c a ≡ false
-  pub list : wrong_length (length light) (voxels a) ≡ false
-  pub whole : clear ≡ true → bad_lights light ≡ false
+-- no cell of the list is refused
+abbrev pub NoneBad : ℕ → (List Float → ℕ → Bool) → List Float → Type 0
+NoneBad each bad list = (i : ℕ) → i < length list / each → bad list i ≡ false
 
-pub record CoefficientGridGood (a : Axes) (c : Corners) (volume : List Float) (clear : Bool) : Type 0 where
-  pub axes : bad_axes a ≡ false
-  pub grid : bad_grid c a ≡ false
-  pub list : wrong_length (length volume) (voxels a * 16) ≡ false
-  pub whole : clear ≡ true → bad_coefficients volume ≡ false
+module _ (refusal : Axes → Corners → List Float → Vec3 → ℕ) (a : Axes) (c : Corners) (list positions : List Float) where
+  -- the first position that the single lookup refuses
+  abbrev pub first_position : FirstRefusal
+  first_position = least_refused (λ (k : ℕ). refusal a c list (position_at positions k)) (position_count (length positions)) 0
 
-pub record LightsAccepted (a : Axes) (c : Corners) (light positions : List Float) (answers : ℕ) : Type 0 where
-  pub axes : AxesWithin a
-  pub list : length light ≡ voxels a
-  pub triples : length positions ≡ answers * 3
-  pub none : (k : ℕ) → k < answers → light_refusal_at a c light positions k ≡ 0
+  -- there is none
+  abbrev pub NoneRefused : Type 0
+  NoneRefused = (k : ℕ) → k < position_count (length positions) → refusal a c list (position_at positions k) ≡ 0
 
--- sixteen numbers of the answer for each position
-pub record CoefficientsAccepted (a : Axes) (c : Corners) (volume positions : List Float) (answers : ℕ) : Type 0 where
-  pub axes : AxesWithin a
-  pub list : length volume ≡ voxels a * 16
-  pub triples : length positions ≡ length positions / 3 * 3
-  pub sixteens : answers ≡ length positions / 3 * 16
-  pub none : (k : ℕ) → k < length positions / 3 → coefficient_refusal_at a c volume positions k ≡ 0
+-- the first refusal of a frame, with so many numbers of answers
+abbrev pub frame_refusal : ℕ → (Axes → Corners → List Float → Vec3 → ℕ) → Axes → Corners → List Float → List Float → ℕ → FirstRefusal
+frame_refusal each refusal a c list positions answers =
+    first_refusal_of (frame_rows each a c (length list) (length positions) answers) (λ (k : ℕ). refusal a c list (position_at positions k)) (position_count (length positions))
 
--- ---- what is kept while the positions are judged
+-- what a frame leaves
+pub record FrameAnswered (each : ℕ) (refusal : Axes → Corners → List Float → Vec3 → ℕ) (frame : Axes → Corners → List Float → List Float → List Float) (a : Axes) (c : Corners) (list positions answers : List Float) (r : FirstRefusal) (answers' : List Float) : Type 0 where
+  pub answer : r ≡ frame_refusal each refusal a c list positions (length answers)
+  pub answers_after : answers' ≡ unless_refused r.refusal (frame a c list positions) answers
 
--- the first position refused; where there is none, the room has the light at each
-pub record LightsKept (a : Axes) (c : Corners) (light positions : List Float) (r : FirstRefusal) (room : List Float) : Type 0 where
-  pub first : r ≡ least_refused (light_refusal_at a c light positions) (position_count (length positions)) 0
-  pub kept : r.refusal ≡ 0 → room ≡ light_frame_of a c light positions
+-- the first position refused; where there is none, the room has what is found at each
+pub record PositionsKept (refusal : Axes → Corners → List Float → Vec3 → ℕ) (frame : Axes → Corners → List Float → List Float → List Float) (a : Axes) (c : Corners) (list positions : List Float) (r : FirstRefusal) (room : List Float) : Type 0 where
+  pub first : r ≡ first_position refusal a c list positions
+  pub kept : r.refusal ≡ 0 → room ≡ frame a c list positions
 
--- the same of the sixteen numbers at each
-pub record CoefficientsKept (a : Axes) (c : Corners) (volume positions : List Float) (r : FirstRefusal) (room : List Float) : Type 0 where
-  pub first : r ≡ least_refused (coefficient_refusal_at a c volume positions) (position_count (length positions)) 0
-  pub kept : r.refusal ≡ 0 → room ≡ coefficient_frame_of a c volume positions
+-- where no position is refused, a frame is what stands between the cells of each position, one after another
+pub record FramedLaws {A : Type 0} (blend : List Float → Cells → A) (refusal : Axes → Corners → List Float → Vec3 → ℕ) (numbers : A → List Float) (frame : Axes → Corners → List Float → List Float → List Float) : Type 0 where
+  pub frame_is : (a : Axes) (c : Corners) (list positions : List Float) → NoneRefused refusal a c list positions
+      → frame a c list positions ≡ laid (λ (k : ℕ). numbers (blend list (cells_of a c (position_at positions k)))) (position_count (length positions)) 0

@@ -1,453 +1,297 @@
 // A frame in two passes. The first judges every position and writes no answer; the second, where nothing was refused, fills the answers. Of a small
 // frame the first pass keeps the answers in a list of its own, the room, so that the cells of a position are looked for once.
-ghost use Rattle.std.specs.Prelude.{◌≡◌, true, false, ◌||◌, ◌++◌, ◌+◌, ◌*◌, ◌<◌, ◌≤◌, length, take};
+ghost use Rattle.std.specs.Prelude.{◌≡◌, true, ◌||◌, ◌++◌, [], ◌∷◌, ◌+◌, ◌*◌, ◌<◌, ◌≤◌, List, length, take, Float};
+ghost use Rattle.names.specs.Answers.{answer_number};
 ghost use Rattle.names.specs.Refusals.{first_of};
+ghost use Rattle.vectors.specs.declared.Vec3.{Vec3};
+ghost use Rattle.grid.specs.declared.Axes.{Axes};
+ghost use Rattle.grid.specs.declared.Corners.{Corners};
 ghost use Rattle.grid.specs.Grid.{AxesWithin, voxels};
-ghost use Rattle.limits.specs.Limits.{wrong_length, bad_lights, bad_coefficients};
-ghost use Rattle.lookup.specs.Place.{cells_of};
-ghost use Rattle.lookup.specs.Lookup.{light_refusal, light_blend, light_at_of, coefficient_refusal, coefficients_at_of};
-ghost use Rattle.frames.specs.Frames.{frame_rows, position_count, position_at, wrong_frame, least_refused, light_refusal_at, light_frame_refusal, light_frame_of, coefficient_refusal_at, coefficient_frame_refusal, coefficient_frame_of, LightsFramed, CoefficientsFramed};
-ghost use Rattle.frames.specs.Passes.{LightGridGood, LightsAccepted, LightsKept, CoefficientGridGood, CoefficientsAccepted, CoefficientsKept};
+ghost use Rattle.limits.specs.Limits.{wrong_length};
+ghost use Rattle.lookup.specs.Lookup.{GridGood};
+ghost use Rattle.frames.specs.Frames.{frame_rows, position_count, position_at, wrong_frame, first_refusal_from, light_frame_of, coefficient_frame_of};
+ghost use Rattle.frames.specs.Passes.{NoneBad, NoneRefused, FramedLaws, FrameAnswered, PositionsKept, first_position, frame_refusal};
+ghost use Rattle.frames.specs.FramedLaws.{lights_framed_laws, coefficients_framed_laws};
 
-use super::FirstRefusal;
+use super::FirstRefused;
 use grid::{Axes, Corners};
-use lookup::{CoefficientsAt, LightAt};
+use lookup::inner::Looked;
+use names::Refusal;
 use vectors::Vec3;
 
-// ---- light
+// ---- of what a frame is
 
-// A frame of few lights: the room holds them all.
-pub fn few_lights(
-    axes: Axes,
-    corners: Corners,
-    light: &[f32],
-    positions: &[f32],
-    answers: &mut [f32],
-    room: &mut [f32],
-) -> FirstRefusal
-    requires { length room.old ≡ length answers.old }
-    ensures { LightsFramed axes corners light.now positions.now answers.old result answers.new }
-{
-    let refusal = rows_refusal(
-        1,
-        axes,
-        corners,
-        light.len(),
-        positions.len(),
-        answers.len(),
-    );
-    if refusal != 0 {
-        return FirstRefusal { refusal, place: 0 };
-    }
-    let first = keep_lights(axes, corners, light, positions, room);
-    if first.refusal == 0 {
-        means::inner::copy(room, answers);
-        return first;
-    }
-    first
+// What is looked up at each position of a frame, and written to the frame's answers.
+pub trait Framed: Looked + Copy {
+    // what is written
+    ghost numbers: { Self → List Float };
+
+    // all that is written
+    ghost frame: { Axes → Corners → List Float → List Float → List Float };
+
+    // Whether every number of the list was read and none is refused. The list is read where that costs less than to find and test the cells around each of
+    // `count` positions.
+    fn clear(list: &[f32], count: usize) -> bool
+        ensures { result ≡ true → NoneBad Self.EACH Self.bad_cell list.now };
+
+    // Writes the answer at place k.
+    fn put(&self, answers: &mut [f32], k: usize)
+        requires { (k + 1) * Self.EACH ≤ length answers.old }
+        ensures { take ((k + 1) * Self.EACH) answers.new ≡ take (k * Self.EACH) answers.old ++ numbers self.now };
+
+    ghost framed: { FramedLaws Self.blend Self.refusal numbers frame };
 }
 
-// The first position that the single lookup refuses; where there is none, the room has the light at each position.
-fn keep_lights(
-    axes: Axes,
-    corners: Corners,
-    light: &[f32],
-    positions: &[f32],
-    room: &mut [f32],
-) -> FirstRefusal
-    requires { LightGridGood axes corners light.now false × (length positions.now ≡ length room.old * 3) }
-    ensures { LightsKept axes corners light.now positions.now result room.new }
-{
-    let mut k = 0;
-    while k < room.len() {
-        let r = light_in_grid(axes, corners, light, position(positions, k));
-        if r.refusal != 0 {
-            return FirstRefusal {
-                refusal: r.refusal,
-                place: k,
-            };
+impl Framed for f32 {
+    ghost numbers = { λ x. x ∷ [] };
+
+    ghost frame = { light_frame_of };
+
+    // measured: from one position for 64 lights on
+    fn clear(light: &[f32], count: usize) -> bool {
+        if light.len() / 64 <= count {
+            return !limits::inner::bad_lights(light);
         }
-        room[k] = r.light;
-        k += 1;
+        false
     }
-    FirstRefusal {
-        refusal: 0,
-        place: 0,
+
+    fn put(&self, answers: &mut [f32], k: usize) {
+        answers[k] = *self;
     }
+
+    ghost framed = { lights_framed_laws };
 }
 
-// The single lookup in a good grid.
-fn light_in_grid(axes: Axes, corners: Corners, light: &[f32], p: Vec3) -> LightAt
-    requires { LightGridGood axes corners light.now false }
-    ensures { result ≡ light_at_of axes corners light.now p }
-{
-    if limits::inner::bad_position(p) {
-        return LightAt {
-            refusal: 11,
-            light: 0.0,
-        };
-    }
-    let c = lookup::inner::cells(axes, corners, p);
-    if lookup::inner::bad_light_cells(light, c) {
-        return LightAt {
-            refusal: 13,
-            light: 0.0,
-        };
-    }
-    LightAt {
-        refusal: 0,
-        light: lookup::inner::blended(light, 1, 0, c),
-    }
-}
+impl Framed for [f32; 16] {
+    ghost numbers = { λ numbers. numbers };
 
-// A frame of any number of lights.
-pub fn many_lights(
-    axes: Axes,
-    corners: Corners,
-    light: &[f32],
-    positions: &[f32],
-    answers: &mut [f32],
-) -> FirstRefusal
-    ensures { LightsFramed axes corners light.now positions.now answers.old result answers.new }
-{
-    let judged = light_refusal(axes, corners, light, positions, answers.len());
-    if judged.refusal == 0 {
-        fill_lights(axes, corners, light, positions, answers);
-        return judged;
-    }
-    judged
-}
+    ghost frame = { coefficient_frame_of };
 
-// The first refusal of a frame of lights.
-fn light_refusal(
-    axes: Axes,
-    corners: Corners,
-    light: &[f32],
-    positions: &[f32],
-    answers: usize,
-) -> FirstRefusal
-    ensures { result ≡ light_frame_refusal axes corners light.now positions.now answers }
-{
-    let refusal = rows_refusal(1, axes, corners, light.len(), positions.len(), answers);
-    if refusal != 0 {
-        return FirstRefusal { refusal, place: 0 };
-    }
-    let clear = lights_clear(light, positions.len() / 3);
-    first_bad_light(axes, corners, light, positions, clear)
-}
-
-// Whether every light of the list was read and none is refused. The list is read where that costs less than to find the cells around each position:
-// measured, from one position for 64 lights on.
-fn lights_clear(light: &[f32], count: usize) -> bool
-    ensures { result ≡ true → bad_lights light.now ≡ false }
-{
-    if light.len() / 64 <= count {
-        return !limits::inner::bad_lights(light);
-    }
-    false
-}
-
-// The first position that the single lookup refuses.
-fn first_bad_light(
-    axes: Axes,
-    corners: Corners,
-    light: &[f32],
-    positions: &[f32],
-    clear: bool,
-) -> FirstRefusal
-    requires { LightGridGood axes corners light.now clear }
-    ensures { result ≡ least_refused (light_refusal_at axes corners light.now positions.now) (position_count (length positions.now)) 0 }
-{
-    let count = positions.len() / 3;
-    let mut k = 0;
-    while k < count {
-        let refusal = bad_light_at(axes, corners, light, position(positions, k), clear);
-        if refusal != 0 {
-            return FirstRefusal { refusal, place: k };
+    // measured: from one position for 240 numbers on
+    fn clear(volume: &[f32], count: usize) -> bool {
+        if volume.len() / 240 <= count {
+            return !limits::inner::bad_coefficients(volume);
         }
-        k += 1;
+        false
     }
-    FirstRefusal {
-        refusal: 0,
-        place: 0,
-    }
-}
 
-// What the single lookup refuses at a position of a good grid: 11, 13 or 0. Where all lights are good the cells need not be looked for.
-fn bad_light_at(axes: Axes, corners: Corners, light: &[f32], p: Vec3, clear: bool) -> u32
-    requires { LightGridGood axes corners light.now clear }
-    ensures { result ≡ light_refusal axes corners light.now p }
-{
-    if limits::inner::bad_position(p) {
-        return 11;
-    }
-    if clear {
-        return 0;
-    }
-    if lookup::inner::bad_light_cells(light, lookup::inner::cells(axes, corners, p)) {
-        return 13;
-    }
-    0
-}
-
-// The light at each position, none of which is refused.
-fn fill_lights(axes: Axes, corners: Corners, light: &[f32], positions: &[f32], answers: &mut [f32])
-    requires { LightsAccepted axes corners light.now positions.now (length answers.old) }
-    ensures { answers.new ≡ light_frame_of axes corners light.now positions.now }
-{
-    let mut k = 0;
-    while k < answers.len() {
-        answers[k] = light_between(axes, corners, light, position(positions, k));
-        k += 1;
-    }
-}
-
-fn light_between(axes: Axes, corners: Corners, light: &[f32], p: Vec3) -> f32
-    requires { AxesWithin axes × (length light.now ≡ voxels axes) }
-    ensures { result ≡ light_blend light.now (cells_of axes corners p) }
-{
-    lookup::inner::blended(light, 1, 0, lookup::inner::cells(axes, corners, p))
-}
-
-// ---- the four coefficients
-
-// A frame of few coefficients: the room holds them all.
-pub fn few_coefficients(
-    axes: Axes,
-    corners: Corners,
-    volume: &[f32],
-    positions: &[f32],
-    answers: &mut [f32],
-    room: &mut [f32],
-) -> FirstRefusal
-    requires { length room.old ≡ length answers.old }
-    ensures { CoefficientsFramed axes corners volume.now positions.now answers.old result answers.new }
-{
-    let refusal = rows_refusal(
-        16,
-        axes,
-        corners,
-        volume.len(),
-        positions.len(),
-        answers.len(),
-    );
-    if refusal != 0 {
-        return FirstRefusal { refusal, place: 0 };
-    }
-    let kept = keep_coefficients(axes, corners, volume, positions, room);
-    if kept.refusal == 0 {
-        means::inner::copy(room, answers);
-        return kept;
-    }
-    kept
-}
-
-// The first position that the single lookup refuses; where there is none, the room has the sixteen numbers of each position.
-fn keep_coefficients(
-    axes: Axes,
-    corners: Corners,
-    volume: &[f32],
-    positions: &[f32],
-    room: &mut [f32],
-) -> FirstRefusal
-    requires { CoefficientGridGood axes corners volume.now false × (length room.old ≡ position_count (length positions.now) * 16) }
-    ensures { CoefficientsKept axes corners volume.now positions.now result room.new }
-{
-    let count = positions.len() / 3;
-    let mut k = 0;
-    while k < count {
-        let r = coefficients_in_grid(axes, corners, volume, position(positions, k));
-        if r.refusal != 0 {
-            return FirstRefusal {
-                refusal: r.refusal,
-                place: k,
-            };
-        }
+    fn put(&self, answers: &mut [f32], k: usize) {
         let at = k * 16;
-        k += 1;
-        put(&r.numbers, room, at);
+        answers[at..at + 16].copy_from_slice(self);
     }
-    FirstRefusal {
-        refusal: 0,
-        place: 0,
-    }
+
+    ghost framed = { coefficients_framed_laws };
 }
 
-// The single lookup in a good grid.
-fn coefficients_in_grid(axes: Axes, corners: Corners, volume: &[f32], p: Vec3) -> CoefficientsAt
-    requires { CoefficientGridGood axes corners volume.now false }
-    ensures { result ≡ coefficients_at_of axes corners volume.now p }
-{
-    if limits::inner::bad_position(p) {
-        return CoefficientsAt {
-            refusal: 11,
-            numbers: [0.0; 16],
-        };
-    }
-    let c = lookup::inner::cells(axes, corners, p);
-    if lookup::inner::bad_volume_cells(volume, c) {
-        return CoefficientsAt {
-            refusal: 13,
-            numbers: [0.0; 16],
-        };
-    }
-    CoefficientsAt {
-        refusal: 0,
-        numbers: lookup::inner::coefficients_blended(volume, c),
-    }
-}
+// ---- the whole frame
 
-// A frame of any number of coefficients.
-pub fn many_coefficients(
+// A frame of up to LARGE numbers has a room; a small one is filled sooner.
+pub fn frame<F: Framed, const SMALL: usize, const LARGE: usize>(
     axes: Axes,
     corners: Corners,
-    volume: &[f32],
+    list: &[f32],
     positions: &[f32],
     answers: &mut [f32],
-) -> FirstRefusal
-    ensures { CoefficientsFramed axes corners volume.now positions.now answers.old result answers.new }
+) -> Result<(), FirstRefused>
+    requires { (SMALL ≤ 4096) × (LARGE ≤ 4096) }
+    ensures { FrameAnswered F.EACH F.refusal F.frame axes corners list.now positions.now answers.old (first_refusal_from result) answers.new }
 {
-    let r = coefficient_refusal(axes, corners, volume, positions, answers.len());
-    if r.refusal == 0 {
-        fill_coefficients(axes, corners, volume, positions, answers);
-        return r;
+    if answers.len() <= SMALL {
+        return in_room::<F, SMALL>(axes, corners, list, positions, answers);
     }
-    r
+    if answers.len() <= LARGE {
+        return in_room::<F, LARGE>(axes, corners, list, positions, answers);
+    }
+    many::<F>(axes, corners, list, positions, answers)
 }
 
-// The first refusal of a frame of coefficients.
-fn coefficient_refusal(
+// A frame of up to N numbers. Out of line: within `frame` its room costs larger frames registers.
+#[inline(never)]
+fn in_room<F: Framed, const N: usize>(
     axes: Axes,
     corners: Corners,
-    volume: &[f32],
+    list: &[f32],
     positions: &[f32],
-    answers: usize,
-) -> FirstRefusal
-    ensures { result ≡ coefficient_frame_refusal axes corners volume.now positions.now answers }
+    answers: &mut [f32],
+) -> Result<(), FirstRefused>
+    requires { (length answers.old ≤ N) × (N ≤ 4096) }
+    ensures { FrameAnswered F.EACH F.refusal F.frame axes corners list.now positions.now answers.old (first_refusal_from result) answers.new }
 {
-    let refusal = rows_refusal(16, axes, corners, volume.len(), positions.len(), answers);
-    if refusal != 0 {
-        return FirstRefusal { refusal, place: 0 };
-    }
-    let clear = coefficients_clear(volume, positions.len() / 3);
-    first_bad_coefficient(axes, corners, volume, positions, clear)
+    // what a room holds at first is never read
+    let mut room = [1.0; N];
+    let n = answers.len();
+    few::<F>(axes, corners, list, positions, answers, &mut room[..n])
 }
 
-// Whether every number of the volume was read and none is refused. It is read where that costs less than to find and test the cells around each position:
-// measured, from one position for 240 numbers on.
-fn coefficients_clear(volume: &[f32], count: usize) -> bool
-    ensures { result ≡ true → bad_coefficients volume.now ≡ false }
+// A frame of few answers: the room holds them all.
+fn few<F: Framed>(
+    axes: Axes,
+    corners: Corners,
+    list: &[f32],
+    positions: &[f32],
+    answers: &mut [f32],
+    room: &mut [f32],
+) -> Result<(), FirstRefused>
+    requires { length room.old ≡ length answers.old }
+    ensures { FrameAnswered F.EACH F.refusal F.frame axes corners list.now positions.now answers.old (first_refusal_from result) answers.new }
 {
-    if volume.len() / 240 <= count {
-        return !limits::inner::bad_coefficients(volume);
+    judge_rows(
+        F::EACH,
+        axes,
+        corners,
+        list.len(),
+        positions.len(),
+        answers.len(),
+    )?;
+    keep::<F>(axes, corners, list, positions, room)?;
+    answers.copy_from_slice(room);
+    Ok(())
+}
+
+// A frame of any number of answers.
+fn many<F: Framed>(
+    axes: Axes,
+    corners: Corners,
+    list: &[f32],
+    positions: &[f32],
+    answers: &mut [f32],
+) -> Result<(), FirstRefused>
+    ensures { FrameAnswered F.EACH F.refusal F.frame axes corners list.now positions.now answers.old (first_refusal_from result) answers.new }
+{
+    judge::<F>(axes, corners, list, positions, answers.len())?;
+    fill::<F>(axes, corners, list, positions, answers);
+    Ok(())
+}
+
+// ---- the passes
+
+// The first position that the single lookup refuses; where there is none, the room has what is found at each position.
+fn keep<F: Framed>(
+    axes: Axes,
+    corners: Corners,
+    list: &[f32],
+    positions: &[f32],
+    room: &mut [f32],
+) -> Result<(), FirstRefused>
+    requires grid { GridGood F.EACH axes corners list.now }
+    requires long { length room.old ≡ position_count (length positions.now) * F.EACH }
+    ensures { PositionsKept F.refusal F.frame axes corners list.now positions.now (first_refusal_from result) room.new }
+{
+    let count = positions.len() / 3;
+    for k in 0..count {
+        match lookup::inner::in_grid::<F>(axes, corners, list, position(positions, k)) {
+            Ok(found) => found.put(room, k),
+            Err(refusal) => return Err(FirstRefused { refusal, place: k }),
+        }
     }
-    false
+    Ok(())
+}
+
+// The first refusal of a frame.
+fn judge<F: Framed>(
+    axes: Axes,
+    corners: Corners,
+    list: &[f32],
+    positions: &[f32],
+    answers: usize,
+) -> Result<(), FirstRefused>
+    ensures { first_refusal_from result ≡ frame_refusal F.EACH F.refusal axes corners list.now positions.now answers }
+{
+    judge_rows(F::EACH, axes, corners, list.len(), positions.len(), answers)?;
+    let clear = F::clear(list, positions.len() / 3);
+    judge_positions::<F>(axes, corners, list, positions, clear)
 }
 
 // The first position that the single lookup refuses.
-fn first_bad_coefficient(
+fn judge_positions<F: Framed>(
     axes: Axes,
     corners: Corners,
-    volume: &[f32],
+    list: &[f32],
     positions: &[f32],
     clear: bool,
-) -> FirstRefusal
-    requires { CoefficientGridGood axes corners volume.now clear }
-    ensures { result ≡ least_refused (coefficient_refusal_at axes corners volume.now positions.now) (position_count (length positions.now)) 0 }
+) -> Result<(), FirstRefused>
+    requires grid { GridGood F.EACH axes corners list.now }
+    requires whole { clear ≡ true → NoneBad F.EACH F.bad_cell list.now }
+    ensures { first_refusal_from result ≡ first_position F.refusal axes corners list.now positions.now }
 {
     let count = positions.len() / 3;
-    let mut k = 0;
-    while k < count {
-        let number = bad_coefficient_at(axes, corners, volume, position(positions, k), clear);
-        if number != 0 {
-            return FirstRefusal {
-                refusal: number,
-                place: k,
-            };
+    for k in 0..count {
+        let judged = judge_position::<F>(axes, corners, list, position(positions, k), clear);
+        if let Err(refusal) = judged {
+            return Err(FirstRefused { refusal, place: k });
         }
-        k += 1;
     }
-    FirstRefusal {
-        refusal: 0,
-        place: 0,
-    }
+    Ok(())
 }
 
-// What the single lookup refuses at a position of a good grid: 11, 13 or 0. Where all numbers are good the cells need not be looked for.
-fn bad_coefficient_at(axes: Axes, corners: Corners, volume: &[f32], p: Vec3, clear: bool) -> u32
-    requires { CoefficientGridGood axes corners volume.now clear }
-    ensures { result ≡ coefficient_refusal axes corners volume.now p }
-{
-    if limits::inner::bad_position(p) {
-        return 11;
-    }
-    if clear {
-        return 0;
-    }
-    if lookup::inner::bad_volume_cells(volume, lookup::inner::cells(axes, corners, p)) {
-        return 13;
-    }
-    0
-}
-
-// The sixteen numbers at each position, none of which is refused.
-fn fill_coefficients(
+// What the single lookup refuses at a position of a good grid: 11, 13 or nothing. Where all numbers are good the cells need not be looked for.
+fn judge_position<F: Framed>(
     axes: Axes,
     corners: Corners,
-    volume: &[f32],
+    list: &[f32],
+    p: Vec3,
+    clear: bool,
+) -> Result<(), Refusal>
+    requires grid { GridGood F.EACH axes corners list.now }
+    requires whole { clear ≡ true → NoneBad F.EACH F.bad_cell list.now }
+    ensures { answer_number result ≡ F.refusal axes corners list.now p }
+{
+    if limits::inner::bad_position(p) {
+        return Err(Refusal::Position);
+    }
+    if clear {
+        return Ok(());
+    }
+    if lookup::inner::bad_cells::<F>(list, lookup::inner::cells(axes, corners, p)) {
+        return Err(Refusal::Contents);
+    }
+    Ok(())
+}
+
+// What is found at each position, none of which is refused.
+fn fill<F: Framed>(
+    axes: Axes,
+    corners: Corners,
+    list: &[f32],
     positions: &[f32],
     answers: &mut [f32],
 )
-    requires { CoefficientsAccepted axes corners volume.now positions.now (length answers.old) }
-    ensures { answers.new ≡ coefficient_frame_of axes corners volume.now positions.now }
+    requires grid { GridGood F.EACH axes corners list.now }
+    requires long { length answers.old ≡ position_count (length positions.now) * F.EACH }
+    requires none { NoneRefused F.refusal axes corners list.now positions.now }
+    ensures { answers.new ≡ F.frame axes corners list.now positions.now }
 {
     let count = positions.len() / 3;
-    let mut k = 0;
-    while k < count {
+    for k in 0..count {
         let c = lookup::inner::cells(axes, corners, position(positions, k));
-        let numbers = lookup::inner::coefficients_blended(volume, c);
-        let at = k * 16;
-        k += 1;
-        put(&numbers, answers, at);
+        F::blend(list, c).put(answers, k);
     }
 }
 
-// Sixteen numbers, from the place at on.
-fn put(numbers: &[f32], answers: &mut [f32], at: usize)
-    requires { (length numbers.now ≡ 16) × (at + 16 ≤ length answers.old) }
-    ensures { take (at + 16) answers.new ≡ take at answers.old ++ numbers.now }
-{
-    let mut i = 0;
-    while i < 16 {
-        answers[at + i] = numbers[i];
-        i += 1;
-    }
-}
+// ---- the rows that concern no position
 
-// ---- shared by both
-
-// The refusal of the rows that concern no position, of lists that have `each` numbers a voxel and a position.
-fn rows_refusal(
+// Of lists that have `each` numbers a voxel and a position.
+fn judge_rows(
     each: usize,
     axes: Axes,
     corners: Corners,
     list: usize,
     positions: usize,
     answers: usize,
-) -> u32
+) -> Result<(), Refusal>
     requires { (0 < each) × (each ≤ 16) }
-    ensures { result ≡ first_of (frame_rows each axes corners list positions answers) }
+    ensures { answer_number result ≡ first_of (frame_rows each axes corners list positions answers) }
 {
     if limits::inner::bad_axes(axes) {
-        return 1;
+        return Err(Refusal::Axes);
     }
     if limits::inner::bad_grid(corners, axes) {
-        return 2;
+        return Err(Refusal::Grid);
     }
     if wrong_lists(each, axes, list, positions, answers) {
-        return 3;
+        return Err(Refusal::Lengths);
     }
-    0
+    Ok(())
 }
 
 // Whether the list has not `each` numbers a voxel, or the positions and the answers do not fit.

@@ -191,7 +191,8 @@ pub fn look_up<L: Looked>(axes: Axes, corners: Corners, list: &[f32], p: Vec3) -
     in_grid(axes, corners, list, p)
 }
 
-// The same in a good grid.
+// The same in a good grid. Inlined, since a call of it costs a tenth more.
+#[inline(always)]
 pub fn in_grid<L: Looked>(axes: Axes, corners: Corners, list: &[f32], p: Vec3) -> Result<L, Refusal>
     requires { GridGood L.EACH axes corners list.now }
     ensures { LookedUp (L.refusal axes corners list.now p) (L.blend list.now (cells_of axes corners p)) result }

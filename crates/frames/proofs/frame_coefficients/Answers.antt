@@ -1,17 +1,7 @@
--- `frames::frame_coefficients` meets its contract: few or many, the contract is the same.
-use mathlib.Core.Path.{sym}
-use native.Mathlib.Omega.{arith}
-use lib.Seq.{length-take-le}
+-- `frames::frame_coefficients` meets its contract: what both frames promise.
+use Rattle.frames.specs.Frames.{coefficient_frame_refusal}
 use Rattle.frames.proofs.frame_coefficients.Goals as goal
 
-pub slice_bounds-few_coefficients-end : goal.slice_bounds-few_coefficients-end
-slice_bounds-few_coefficients-end c = sym (length-take-le _ _ (omega arith))
-
-pub few_coefficients-requires : goal.few_coefficients-requires
-few_coefficients-requires c = length-take-le _ _ (omega arith)
-
-pub slice_bounds-few_coefficients-end-then-n-le4096 : goal.slice_bounds-few_coefficients-end-then-n-le4096
-slice_bounds-few_coefficients-end-then-n-le4096 c = sym (length-take-le _ _ (omega arith))
-
-pub few_coefficients-requires-then-n-le4096 : goal.few_coefficients-requires-then-n-le4096
-few_coefficients-requires-then-n-le4096 c = length-take-le _ _ (omega arith)
+pub returns : goal.returns
+unfolding coefficient_frame_refusal
+returns c = record { answer = c.frame.ensures.answer; answers_after = c.frame.ensures.answers_after }
