@@ -166,7 +166,10 @@ fn put_eight(entries: &mut [u8], first: usize, x: u64)
     requires { first + 8 ≤ length entries.old }
     ensures { entries.new ≡ sets entries.old first (eight_bytes x) }
 {
-    entries[first..first + 8].copy_from_slice(&x.to_le_bytes());
+    let bytes = x.to_le_bytes();
+    for j in 0..8 {
+        entries[first + j] = bytes[j];
+    }
 }
 
 // How many of n voxels are marked.
