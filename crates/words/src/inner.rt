@@ -143,8 +143,7 @@ pub fn unpack(words: &[u64], entries: &mut [u8])
 {
     let eights = entries.len() / 8;
     for k in 0..eights {
-        let i = k * 8;
-        put_eight(entries, i, spread((words[i / 64] >> (i % 64)) % 256));
+        put_eight(entries, k * 8, spread((words[k / 8] >> (k % 8 * 8)) % 256));
     }
     for i in eights * 8..entries.len() {
         entries[i] = bit_at(words, i);
