@@ -143,8 +143,7 @@ pub fn unpack(words: &[u64], entries: &mut [u8])
 {
     let eights = entries.len() / 8;
     for k in 0..eights {
-        let i = k * 8;
-        put_eight(entries, i, spread((words[i / 64] >> (i % 64)) % 256));
+        put_eight(entries, k * 8, spread((words[k / 8] >> (k % 8 * 8)) % 256));
     }
     for i in eights * 8..entries.len() {
         entries[i] = bit_at(words, i);
@@ -166,7 +165,10 @@ fn put_eight(entries: &mut [u8], first: usize, x: u64)
     requires { first + 8 ≤ length entries.old }
     ensures { entries.new ≡ sets entries.old first (eight_bytes x) }
 {
-    entries[first..first + 8].copy_from_slice(&x.to_le_bytes());
+    let bytes = x.to_le_bytes();
+    for j in 0..8 {
+        entries[first + j] = bytes[j];
+    }
 }
 
 // How many of n voxels are marked.

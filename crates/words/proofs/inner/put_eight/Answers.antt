@@ -1,22 +1,31 @@
--- `words::inner::put_eight` writes a part of the list, which is the run of stores. Assumes nothing.
-use mathlib.Core.Path.{sym, ◌∙◌, refl, ◌≡◌}
-use mathlib.Core.List.{List, ◌++◌}
+-- `words::inner::put_eight` copies the eight bytes, and that is the run of stores. Assumes nothing.
+use mathlib.Core.Path.{◌≡◌, refl, ap, ◌∙◌}
+use mathlib.Core.List.{List, ◌++◌, append_assoc}
 use Prim.Native.Nat.{ℕ, ◌+◌, ◌≤◌}
+use native.Mathlib.Numerals.{add-one}
 use native.Mathlib.Omega.{arith}
 use lib.ListN.{length, take, drop}
-use borrow.Rule.Slice.PartMut.{put_mid}
-use Rattle.std.proofs.Common.{append_assoc}
+use lib.Seq.{paste, paste-suc}
 use Rattle.std.proofs.lemmas.List.Edits.{sets, sets-eq, paste_all}
-use Rattle.std.proofs.lemmas.Slice.{put_mid-paste}
 use Rattle.words.specs.ByWords.{eight_bytes}
 use Rattle.words.proofs.inner.put_eight.Goals as goal
 
-written : (xs ys vs : List ℕ) (at n k : ℕ) → ys ≡ vs → length vs ≡ n → n ≡ k → at + n ≤ length xs → put_mid at k xs ys ≡ sets xs at vs
-written xs ys vs at n k e l m h =
+-- a copy of a whole list is the run of its stores
+copied : (xs vs : List ℕ) (at n : ℕ) → length vs ≡ n → at + n ≤ length xs → paste xs at vs n ≡ sets xs at vs
+copied xs vs at n l h =
     let s : sets xs at vs ≡ take at xs ++ vs ++ drop (at + length vs) xs = sets-eq vs xs at (omega arith) in
-    put_mid-paste at k xs ys vs n e m (sym l) ∙ paste_all xs at vs n (sym l) ∙ rw (s, l, append_assoc)
+    paste_all xs at vs n (omega arith) ∙ rw (s, l, append_assoc)
+
+pub loop-j-preserved : goal.loop-j-preserved
+loop-j-preserved c =
+    let a = c.args in
+    let l = c.loop-j in
+    let b = c.to_le_bytes-bytes in
+    rw (l.invariant, add-one l.j) (paste-suc a.entries.now a.first b.result l.j 0 (omega arith) (omega (arith, ap length b.ensures)))
 
 pub returns : goal.returns
 returns c =
     let a = c.args in
-    written a.entries.now _ (eight_bytes a.x) a.first 8 _ (c.copy_from_slice.ensures.after ∙ c.to_le_bytes.ensures) refl (omega arith) (omega arith)
+    let l = c.loop-j in
+    let e : l.j ≡ 8 = omega arith in
+    rw e at l.invariant ∙ rw c.to_le_bytes-bytes.ensures (copied a.entries.now (eight_bytes a.x) a.first 8 refl c.requires)

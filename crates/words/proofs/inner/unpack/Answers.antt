@@ -1,6 +1,6 @@
 -- `words::inner::unpack` fills the entries: what is written and the bits for the rest are the whole. Assumes nothing.
 use mathlib.Core.Path.{◌≡◌, refl, sym, ◌∙◌}
-use Prim.Native.Nat.{◌+◌, ◌*◌}
+use Prim.Native.Nat.{◌+◌, ◌*◌, ◌/◌, ◌%◌}
 use native.Mathlib.Omega.{arith}
 use native.Mathlib.Nat.{sub-zero}
 use lib.ListN.{length-set}
@@ -17,7 +17,9 @@ pub loop-k-preserved : goal.loop-k-preserved
 loop-k-preserved c =
     let l = c.loop-k in
     let e : (l.k + 1) * 8 ≡ l.k * 8 + 8 = omega arith in
-    rw e (eight_more c.args.words.now l.entries _ (l.k * 8) _ _ (omega arith) (omega arith) c.spread.ensures c.put_eight.ensures l.invariant)
+    let word : l.k / 8 ≡ l.k * 8 / 64 = omega arith in
+    let place : l.k % 8 * 8 ≡ l.k * 8 % 64 = omega arith in
+    rw e (eight_more c.args.words.now l.entries _ (l.k * 8) _ _ (omega arith) (omega arith) (rw (word, place) at c.spread.ensures) c.put_eight.ensures l.invariant)
 
 pub loop-i-preserved : goal.loop-i-preserved
 loop-i-preserved c =
