@@ -1,5 +1,5 @@
 -- The rays of a voxel are exactly `rays_of`, since each direction adds one and its extra rays to the fold's count; and with no triangle they are 64.
-use Rattle.std.specs.Prelude.{◌≡◌, List, [], Float}
+use Rattle.std.specs.Prelude.{Option, None, Some, ◌≡◌, List, [], Float}
 use Rattle.std.proofs.Math.Path.{refl}
 use Rattle.std.proofs.Common.{◌∙◌, add-zero, zero-add}
 use Prim.Native.Nat.{ℕ, zero, suc, ◌+◌, ◌*◌}
@@ -11,8 +11,7 @@ use Rattle.vectors.specs.declared.Vec3.{Vec3}
 use Rattle.vectors.specs.declared.Ray.{Ray}
 use Rattle.vectors.specs.Places.{vec_at}
 use Rattle.scan.specs.Nearest.{nearest_of, nearest_to}
-use Rattle.scan.specs.declared.Nearest.{Nearest}
-use Rattle.scan.specs.declared.Nearest.TheVariants.{Nothing, At}
+use Rattle.scan.specs.declared.PlacedHit.{PlacedHit}
 use Rattle.surface.specs.declared.Setting.{Setting}
 use Rattle.surface.specs.Surface.{surface_of}
 use Rattle.surface.specs.SurfaceLaws.{extra_rays_lem}
@@ -22,11 +21,11 @@ use Rattle.gather.specs.Cost.{extra_of, extra_along, extra_sum, rays_of}
 
 module _ (scene : Scene) (lamps : List Float) (setting : Setting) where
   -- one direction: the primary ray, and the extra ones
-  incoming_counted : (ray : Ray) (sky : Vec3) (found : Nearest) → (incoming_by scene lamps setting ray sky found).rays ≡ extra_of scene lamps setting ray found + 1
+  incoming_counted : (ray : Ray) (sky : Vec3) (found : Option PlacedHit) → (incoming_by scene lamps setting ray sky found).rays ≡ extra_of scene lamps setting ray found + 1
   unfolding incoming_by extra_of
-  incoming_counted ray sky Nothing = refl
-  incoming_counted ray sky (At place distance u v front) =
-      rw (extra_rays_lem scene lamps setting (surface_of scene ray place distance setting.biases.hit)) refl
+  incoming_counted ray sky None = refl
+  incoming_counted ray sky (Some met) =
+      rw (extra_rays_lem scene lamps setting (surface_of scene ray met.place met.hit.t setting.biases.hit)) refl
 
   along_counted : (centre : Vec3) (sky : List Float) (k : ℕ) (s : Gathering)
       → (gathered_along scene lamps setting centre sky k s).rays ≡ s.rays + (extra_along scene lamps setting centre k + 1)
@@ -54,7 +53,7 @@ cost_counted g i =
 
 -- ---- with no triangle every ray misses
 
-pub nothing_met : (scene : Scene) (ray : Ray) → scene.uses ≡ [] → nearest_of scene ray ≡ Nothing
+pub nothing_met : (scene : Scene) (ray : Ray) → scene.uses ≡ [] → nearest_of scene ray ≡ None
 unfolding nearest_of nearest_to
 nothing_met scene ray e = rw e
 

@@ -1,5 +1,5 @@
 -- "L=0 gives every old bit": document 01's gather alone, without lamps, and that a voxel baked with no lamp has its numbers and its rays.
-use Rattle.std.specs.Prelude.{◌≡◌, get_or, Float}
+use Rattle.std.specs.Prelude.{Option, None, Some, ◌≡◌, get_or, Float}
 use Rattle.std.proofs.Math.Path.{refl, ap}
 use Rattle.std.proofs.Common.{◌∙◌}
 use mathlib.Core.List.{List, []}
@@ -13,8 +13,7 @@ use Rattle.vectors.specs.declared.Ray.{Ray}
 use Rattle.grid.specs.Grid.{edges_of}
 use Rattle.vectors.specs.Places.{vec_at}
 use Rattle.scan.specs.Nearest.{nearest_of}
-use Rattle.scan.specs.declared.Nearest.{Nearest}
-use Rattle.scan.specs.declared.Nearest.TheVariants.{Nothing, At}
+use Rattle.scan.specs.declared.PlacedHit.{PlacedHit}
 use Rattle.harmonics.specs.Harmonics.{added_to}
 use Rattle.surface.specs.declared.Setting.{Setting}
 use Rattle.surface.specs.Surface.{surface_of}
@@ -24,10 +23,10 @@ use Rattle.gather.specs.declared.Gathering.{Gathering}
 use Rattle.gather.specs.Gather.{GatherInput, incoming, gathering, ambient_of, setting_of, direction_at, primary_ray, incoming_by, gathered_along, along_from, nothing_gathered, gathering_of, set_at, centre_at, voxel_of, cost_of, finished_of, sky_seen, sixteen_of, gathered_of}
 
 module _ (scene : Scene) (setting : Setting) where
-  unfoldable pub incoming_base : Ray → Vec3 → Nearest → Incoming
-  incoming_base ray sky Nothing = incoming sky 1 1
-  incoming_base ray sky (At place distance u v front) =
-      let sent = bounced_base scene setting (surface_of scene ray place distance setting.biases.hit) in
+  unfoldable pub incoming_base : Ray → Vec3 → Option PlacedHit → Incoming
+  incoming_base ray sky None = incoming sky 1 1
+  incoming_base ray sky (Some met) =
+      let sent = bounced_base scene setting (surface_of scene ray met.place met.hit.t setting.biases.hit) in
       incoming sent.light 0 (sent.rays + 1)
 
   unfoldable pub along_base : Vec3 → List Float → ℕ → ℕ → Gathering → Gathering
@@ -40,10 +39,10 @@ module _ (scene : Scene) (setting : Setting) where
   unfoldable pub gathering_base : Vec3 → List Float → ℕ → Gathering
   gathering_base centre sky first = fold (along_base centre sky first) primary_rays 0 nothing_gathered
 
-  incoming_base_lem : (ray : Ray) (sky : Vec3) (found : Nearest) → incoming_by scene [] setting ray sky found ≡ incoming_base ray sky found
+  incoming_base_lem : (ray : Ray) (sky : Vec3) (found : Option PlacedHit) → incoming_by scene [] setting ray sky found ≡ incoming_base ray sky found
   unfolding incoming_by incoming_base
-  incoming_base_lem ray sky Nothing = refl
-  incoming_base_lem ray sky (At place distance u v front) = rw (no_lamps scene setting (surface_of scene ray place distance setting.biases.hit)) refl
+  incoming_base_lem ray sky None = refl
+  incoming_base_lem ray sky (Some met) = rw (no_lamps scene setting (surface_of scene ray met.place met.hit.t setting.biases.hit)) refl
 
   along_base_lem : (centre : Vec3) (sky : List Float) (first i : ℕ) (s : Gathering)
       → along_from scene [] setting centre sky first i s ≡ along_base centre sky first i s

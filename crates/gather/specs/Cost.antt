@@ -1,14 +1,13 @@
 -- The rays of a voxel, by the customer's words alone: 64, one along each direction of its set, and along each that meets a surface that surface's
 -- extra rays. No light is in it. Definitions only; `cost_counted` of CostLaws shows that the count beside the light is this.
-use Rattle.std.specs.Prelude.{List, ℕ, zero, suc, ◌+◌, ◌*◌, Float}
+use Rattle.std.specs.Prelude.{Option, None, Some, List, ℕ, zero, suc, ◌+◌, ◌*◌, Float}
 use Rattle.names.specs.Numbers.{primary_rays}
 use Rattle.names.specs.Scene.{Scene}
 use Rattle.vectors.specs.declared.Vec3.{Vec3}
 use Rattle.vectors.specs.declared.Ray.{Ray}
 use Rattle.grid.specs.Grid.{edges_of}
 use Rattle.scan.specs.Nearest.{nearest_of}
-use Rattle.scan.specs.declared.Nearest.{Nearest}
-use Rattle.scan.specs.declared.Nearest.TheVariants.{Nothing, At}
+use Rattle.scan.specs.declared.PlacedHit.{PlacedHit}
 use Rattle.surface.specs.declared.Setting.{Setting}
 use Rattle.surface.specs.Surface.{surface_of}
 use Rattle.surface.specs.Extra.{extra_rays}
@@ -16,9 +15,9 @@ use Rattle.gather.specs.Gather.{GatherInput, setting_of, direction_at, primary_r
 
 module _ (scene : Scene) (lamps : List Float) (setting : Setting) where
   -- the extra rays of what a ray has met: none on a miss, else those of the surface
-  unfoldable pub extra_of : Ray → Nearest → ℕ
-  extra_of ray Nothing = 0
-  extra_of ray (At place distance u v front) = extra_rays lamps setting.toward (surface_of scene ray place distance setting.biases.hit)
+  unfoldable pub extra_of : Ray → Option PlacedHit → ℕ
+  extra_of ray None = 0
+  extra_of ray (Some met) = extra_rays lamps setting.toward (surface_of scene ray met.place met.hit.t setting.biases.hit)
 
   -- along direction k of the table
   abbrev pub extra_along : Vec3 → ℕ → ℕ

@@ -1,7 +1,7 @@
 -- Gather (document 01, module 6). A voxel looks along its set's 64 directions, from its centre moved by the primary bias. What it meets
 -- sends back the light of sun, sky and lamps, where it meets nothing the sky does, and the radiance is projected onto four coefficients. One fold gives the sums, the
 -- misses and the rays: a ray is counted where it is traced. gi.rs decides every order. Definitions only.
-use Rattle.std.specs.Prelude.{◌≡◌, List, [], ◌∷◌, ℕ, ◌+◌, ◌*◌, ◌<◌, ◌≤◌, length, get_or, set, Float}
+use Rattle.std.specs.Prelude.{Option, None, Some, ◌≡◌, List, [], ◌∷◌, ℕ, ◌+◌, ◌*◌, ◌<◌, ◌≤◌, length, get_or, set, Float}
 use Rattle.std.specs.Float.Ieee as Ieee
 use Rattle.std.specs.Float.{nan, binary32}
 use Rattle.names.specs.Bits.{lit, zero32}
@@ -21,8 +21,7 @@ use Rattle.limits.specs.declared.Ambient.{Ambient}
 use Rattle.limits.specs.Limits.{lamp_count}
 use Rattle.vectors.specs.Places.{vec_at}
 use Rattle.scan.specs.Nearest.{nearest_of}
-use Rattle.scan.specs.declared.Nearest.{Nearest}
-use Rattle.scan.specs.declared.Nearest.TheVariants.{Nothing, At}
+use Rattle.scan.specs.declared.PlacedHit.{PlacedHit}
 use Rattle.harmonics.specs.declared.Coefficients.{Coefficients}
 use Rattle.harmonics.specs.Harmonics.{coefficients, zero_v, added_to, irradiance_of, raised_of, floored_of}
 use Rattle.vectors.specs.Rays.{ray_from}
@@ -92,10 +91,11 @@ abbrev pub sent_back : Scene → List Float → Setting → Ray → ℕ → Floa
 sent_back scene lamps setting ray place distance = bounced_by scene lamps setting (surface_of scene ray place distance setting.biases.hit)
 
 -- what comes back along a ray: from the sky where nothing is met, else from the surface
-unfoldable pub incoming_by : Scene → List Float → Setting → Ray → Vec3 → Nearest → Incoming
-incoming_by scene lamps setting ray sky Nothing = incoming sky 1 1
-incoming_by scene lamps setting ray sky (At place distance u v front) =
-    incoming (sent_back scene lamps setting ray place distance).light 0 ((sent_back scene lamps setting ray place distance).rays + 1)
+unfoldable pub incoming_by : Scene → List Float → Setting → Ray → Vec3 → Option PlacedHit → Incoming
+incoming_by scene lamps setting ray sky None = incoming sky 1 1
+incoming_by scene lamps setting ray sky (Some met) =
+    let sent = sent_back scene lamps setting ray met.place met.hit.t in
+    incoming sent.light 0 (sent.rays + 1)
 
 abbrev pub incoming_of : Scene → List Float → Setting → Ray → Vec3 → Incoming
 incoming_of scene lamps setting ray sky = incoming_by scene lamps setting ray sky (nearest_of scene ray)

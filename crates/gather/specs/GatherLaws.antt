@@ -1,6 +1,6 @@
 -- What a voxel's gathering means: sixteen numbers, and with L lamps from 64 to 384+64L rays: one for each direction, and up to 5+L more
 -- where it meets a surface.
-use Rattle.std.specs.Prelude.{◌≡◌, refl, List, length, Float, Bool, true, false, cond}
+use Rattle.std.specs.Prelude.{Option, None, Some, ◌≡◌, refl, List, length, Float, Bool, true, false, cond}
 use Rattle.std.proofs.Common.{sym, ◌∙◌}
 use Prim.Native.Nat.{ℕ, zero, suc, ◌+◌, ◌*◌, ◌<◌, ◌≤◌}
 use Rattle.std.proofs.Math.Nat.{suc-mul}
@@ -12,12 +12,10 @@ use Rattle.vectors.specs.declared.Vec3.{Vec3}
 use Rattle.vectors.specs.declared.Ray.{Ray}
 use Rattle.limits.specs.Limits.{lamp_count}
 use Rattle.vectors.specs.Places.{vec_at}
-use Rattle.triangle.specs.declared.Meet.{Meet}
-use Rattle.triangle.specs.declared.Meet.TheVariants.{Miss, Hit}
+use Rattle.triangle.specs.declared.Hit.{Hit}
 use Rattle.panels.specs.Panels.{meet_at}
-use Rattle.scan.specs.Nearest.{nearest_of, nearest_to, nearer_of, beats}
-use Rattle.scan.specs.declared.Nearest.{Nearest}
-use Rattle.scan.specs.declared.Nearest.TheVariants.{Nothing, At}
+use Rattle.scan.specs.Nearest.{placed, nearest_of, nearest_to, nearer_of, beats}
+use Rattle.scan.specs.declared.PlacedHit.{PlacedHit}
 use Rattle.surface.specs.declared.Setting.{Setting}
 use Rattle.surface.specs.Surface.{surface_of}
 use Rattle.surface.specs.SurfaceLaws.{extra_most}
@@ -40,12 +38,12 @@ pub record Costs (lamps n misses : ℕ) : Type 0 where
   pub most : n ≤ 6 + lamps
   pub missed : misses ≤ 1
 
-pub incoming_costs : (scene : Scene) (lamps : List Float) (setting : Setting) (ray : Ray) (sky : Vec3) (found : Nearest)
+pub incoming_costs : (scene : Scene) (lamps : List Float) (setting : Setting) (ray : Ray) (sky : Vec3) (found : Option PlacedHit)
     → Costs (lamp_count lamps) (incoming_by scene lamps setting ray sky found).rays (incoming_by scene lamps setting ray sky found).misses
 unfolding incoming_by
-incoming_costs scene lamps setting ray sky Nothing = record { least = omega arith; most = omega arith; missed = omega arith }
-incoming_costs scene lamps setting ray sky (At place t u v front) =
-    let h = extra_most scene lamps setting (surface_of scene ray place t setting.biases.hit) in
+incoming_costs scene lamps setting ray sky None = record { least = omega arith; most = omega arith; missed = omega arith }
+incoming_costs scene lamps setting ray sky (Some met) =
+    let h = extra_most scene lamps setting (surface_of scene ray met.place met.hit.t setting.biases.hit) in
     record { least = omega arith; most = omega arith; missed = omega arith }
 
 pub along_adds : (scene : Scene) (lamps : List Float) (setting : Setting) (centre : Vec3) (sky : List Float) (k : ℕ) (s : Gathering)
@@ -94,22 +92,22 @@ misses_most g i = (gathering_costs _ _ _ _ _ _).2
 -- ---- where a surface is met, it is one of the scene's
 
 -- the place of a hit is below n
-unfoldable pub PlaceBelow : ℕ → Nearest → Type 0
-PlaceBelow n Nothing = Unit
-PlaceBelow n (At place t u v front) = place < n
+unfoldable pub PlaceBelow : ℕ → Option PlacedHit → Type 0
+PlaceBelow n None = Unit
+PlaceBelow n (Some best) = best.place < n
 
-later : (n : ℕ) (found : Nearest) → PlaceBelow n found → PlaceBelow (suc n) found
+later : (n : ℕ) (found : Option PlacedHit) → PlaceBelow n found → PlaceBelow (suc n) found
 unfolding PlaceBelow
-later n Nothing h = tt
-later n (At place t u v front) h = omega arith
+later n None h = tt
+later n (Some best) h = omega arith
 
-nearer_below : (n : ℕ) (best : Nearest) (m : Meet) → PlaceBelow n best → PlaceBelow (suc n) (nearer_of best n m)
+nearer_below : (n : ℕ) (best : Option PlacedHit) (m : Option Hit) → PlaceBelow n best → PlaceBelow (suc n) (nearer_of best n m)
 unfolding PlaceBelow nearer_of
-nearer_below n best Miss h = later n best h
-nearer_below n Nothing (Hit t u v front) h = omega arith
-nearer_below n (At place s p q side) (Hit t u v front) h = go (beats t n s place)
+nearer_below n best None h = later n best h
+nearer_below n None (Some m) h = omega arith
+nearer_below n (Some best) (Some m) h = go (beats m.t n best.hit.t best.place)
   where
-    go : (b : Bool) → PlaceBelow (suc n) (cond b (At n t u v front) (At place s p q side))
+    go : (b : Bool) → PlaceBelow (suc n) (cond b (Some (placed n m)) (Some best))
     go true = omega arith
     go false = omega arith
 
@@ -119,6 +117,6 @@ nearest_below scene ray zero = tt
 nearest_below scene ray (suc n) = nearer_below n (nearest_to scene ray n) (meet_at scene ray n) (nearest_below scene ray n)
 
 -- so a hit's place is one of the scene's triangles
-pub place_below : (scene : Scene) (ray : Ray) (place : ℕ) (t u v : Float) (front : Bool) → nearest_of scene ray ≡ At place t u v front → place < length scene.uses
+pub place_below : (scene : Scene) (ray : Ray) (best : PlacedHit) → nearest_of scene ray ≡ Some best → best.place < length scene.uses
 unfolding nearest_of PlaceBelow
-place_below scene ray place t u v front e = rw e at (nearest_below scene ray (length scene.uses))
+place_below scene ray best e = rw e at (nearest_below scene ray (length scene.uses))

@@ -12,7 +12,6 @@ use super::{Gathering, Incoming};
 use grid::{Axes, Corners};
 use harmonics::Coefficients;
 use limits::{Ambient, Light};
-use scan::Nearest;
 use surface::{Setting, Traced};
 use vectors::{Ray, Vec3};
 
@@ -62,6 +61,7 @@ pub fn gather_voxel(
 }
 
 // What the surfaces are lit by, and the biases, from a voxel's edges.
+#[tactic(auto, unfolding(crate::specs::Gather::setting_of))]
 pub fn setting_of(edges: Vec3, light: Light, ambient: Ambient) -> Setting
     ensures { result ≡ setting_of edges light ambient }
 {
@@ -69,18 +69,11 @@ pub fn setting_of(edges: Vec3, light: Light, ambient: Ambient) -> Setting
         vectors::length(edges),
         grid::inner::smallest_edge(edges),
     );
-    let toward = vectors::normalise(light.direction);
-    let colour = light.colour;
-    let c0 = ambient.c0;
-    let c1 = ambient.c1;
-    let c2 = ambient.c2;
-    let c3 = ambient.c3;
-    let ambient = Coefficients { c0, c1, c2, c3 };
     Setting {
         biases,
-        toward,
-        colour,
-        ambient,
+        toward: vectors::normalise(light.direction),
+        colour: light.colour,
+        ambient: coefficients_of(ambient),
     }
 }
 
@@ -121,8 +114,7 @@ fn gather_all(
     ensures { result ≡ gathering_of (scene_for boxed points.now uses.now kinds.now numbers.now boxes.now nodes.now order.now) lamps.now setting centre sky.now first }
 {
     let mut gathering = nothing();
-    let mut i = 0;
-    while i < 64 {
+    for i in 0..64 {
         gathering = gather_along(
             points,
             uses,
@@ -143,7 +135,6 @@ fn gather_all(
             distances,
             places,
         );
-        i += 1;
     }
     gathering
 }
@@ -152,23 +143,25 @@ fn gather_all(
 fn nothing() -> Gathering
     ensures { result ≡ nothing_gathered }
 {
-    let c0 = Vec3 {
+    let dark = Vec3 {
         x: 0.0,
         y: 0.0,
         z: 0.0,
     };
-    let c1 = c0;
-    let c2 = c0;
-    let c3 = c0;
-    let sums = Coefficients { c0, c1, c2, c3 };
     Gathering {
-        sums,
+        sums: Coefficients {
+            c0: dark,
+            c1: dark,
+            c2: dark,
+            c3: dark,
+        },
         misses: 0,
         rays: 0,
     }
 }
 
 // With what comes along direction k of the table; its sky is triple k.
+#[tactic(auto, unfolding(crate::specs::Gather::gathered_along))]
 fn gather_along(
     points: &[f32],
     uses: &[u32],
@@ -215,6 +208,7 @@ fn gather_along(
 // ---- one primary ray
 
 // From the centre, moved along the direction by the primary bias.
+#[tactic(auto, unfolding(crate::specs::Gather::primary_ray))]
 pub fn primary_ray(setting: Setting, centre: Vec3, direction: Vec3) -> Ray
     ensures { result ≡ primary_ray setting centre direction }
 {
@@ -241,6 +235,7 @@ fn direction_at(table: &[f32; 1728], k: usize) -> Vec3
 }
 
 // What comes back along a ray: from the sky where nothing is met, else from the surface.
+#[tactic(auto, unfolding(crate::specs::Gather::incoming_by))]
 fn look(
     points: &[f32],
     uses: &[u32],
@@ -268,19 +263,18 @@ fn look(
         points, uses, kinds, numbers, boxed, boxes, nodes, order, rows, ray,
     );
     match found {
-        Nearest::Nothing => Incoming {
+        None => Incoming {
             radiance: sky,
             misses: 1,
             rays: 1,
         },
-        Nearest::At(place, distance, _, _, _) => {
+        Some(met) => {
             let sent = from_surface(
                 points, uses, kinds, numbers, boxed, boxes, nodes, order, rows, lamps, setting,
-                ray, place, distance, distances, places,
+                ray, met.place, met.hit.t, distances, places,
             );
-            let radiance = sent.light;
             Incoming {
-                radiance,
+                radiance: sent.light,
                 misses: 0,
                 rays: sent.rays + 1,
             }
@@ -333,6 +327,7 @@ fn from_surface(
 // ---- its sixteen numbers
 
 // Irradiance, raised to 0, and blended towards the brightness floor where it is darker.
+#[tactic(auto, unfolding(crate::specs::Gather::finished_of))]
 fn finish(sums: Coefficients, ambient: Coefficients) -> Coefficients
     ensures { result ≡ finished_of sums ambient }
 {
@@ -345,11 +340,12 @@ fn finish(sums: Coefficients, ambient: Coefficients) -> Coefficients
 fn coefficients_of(ambient: Ambient) -> Coefficients
     ensures { result ≡ ambient_of ambient }
 {
-    let c0 = ambient.c0;
-    let c1 = ambient.c1;
-    let c2 = ambient.c2;
-    let c3 = ambient.c3;
-    Coefficients { c0, c1, c2, c3 }
+    Coefficients {
+        c0: ambient.c0,
+        c1: ambient.c1,
+        c2: ambient.c2,
+        c3: ambient.c3,
+    }
 }
 
 // misses/64
@@ -372,6 +368,7 @@ fn write_sixteen(out: &mut [f32], coefficients: Coefficients, light: f32, seen: 
 }
 
 // Four numbers from a place on: a colour, and a fourth.
+#[tactic(auto, unfolding(crate::specs::Gather::with_four))]
 fn write_four(out: &mut [f32], at: usize, colour: Vec3, fourth: f32)
     requires { at + 3 < length out.old }
     ensures { out.new ≡ with_four out.old at colour fourth }

@@ -1,23 +1,6 @@
--- `gather::inner::from_surface` meets its contract: the code is the definition, call for call and operation for operation.
-use Rattle.tracing.specs.UnreadLaws.{sound_unread}
+-- `gather::inner::from_surface` meets its contract: a surface is read from the scene's four lists alone.
 use Rattle.surface.specs.SurfaceLaws.{surface_unread}
 use Rattle.gather.proofs.inner.from_surface.Goals as goal
-
-pub surface_at-surface-requires : goal.surface_at-surface-requires
-surface_at-surface-requires c =
-    let s = c in record {
-      sound = sound_unread _ _ s.requires.sound;
-      place_in_bounds = s.requires.place_in_bounds;
-    }
-
-pub bounce_light-requires : goal.bounce_light-requires
-bounce_light-requires c =
-    let s = c in record {
-      sound = s.requires.sound;
-      lamps_bound = s.requires.lamps_bound;
-      hits_fit = s.requires.hits_fit;
-      through = s.requires.through;
-    }
 
 pub returns : goal.returns
 returns c =

@@ -37,6 +37,5 @@ laid l c light seen h =
 
 pub returns : goal.returns
 returns c =
-    let s = c in
     rw (c.write_four-4.ensures, c.write_four-3.ensures, c.write_four-2.ensures, c.write_four.ensures)
-    (laid _ s.args.coefficients s.args.light s.args.seen s.requires)
+    (laid _ c.args.coefficients c.args.light c.args.seen c.requires)
