@@ -2,7 +2,7 @@
 // of the sixteen is 32k more. Each line has the first refusal and its place, then four times each answer afterwards, where 28 stands for "as it was".
 #![tactic(auto)]
 
-use frames::FirstRefusal;
+use frames::{FirstRefusal, FirstRefused};
 use grid::{Axes, Corners};
 use std::io;
 use vectors::Vec3;
@@ -48,17 +48,16 @@ fn print_fourths(rt: &impl Print, x: f32) -> io::Result<()> {
     console::print_decimal(rt, lookup::inner::whole(x * 4.0) as u64)
 }
 
-fn print_first(rt: &impl Print, refusal: u32, place: usize) -> io::Result<()> {
-    console::print_decimal(rt, refusal as u64)?;
+fn print_first(rt: &impl Print, answer: Result<(), FirstRefused>) -> io::Result<()> {
+    let first = FirstRefusal::from(answer);
+    console::print_decimal(rt, u64::from(first.refusal))?;
     rt.write_all(b" ")?;
-    console::print_decimal(rt, place as u64)
+    console::print_decimal(rt, first.place as u64)
 }
 
 fn print_answers(rt: &impl Print, answers: &[f32]) -> io::Result<()> {
-    let mut i: usize = 0;
-    while i < answers.len() {
-        print_fourths(rt, answers[i])?;
-        i += 1;
+    for answer in answers {
+        print_fourths(rt, *answer)?;
     }
     Ok(())
 }
@@ -73,8 +72,7 @@ fn print_same(rt: &impl Print, same: bool) -> io::Result<()> {
 
 // Whether the single call gives this light at a position.
 fn same_light(light: &[f32; 24], x: f32, y: f32, z: f32, answer: f32) -> bool {
-    let r = lookup::light_at(hall(), corners(3.0), light, Vec3 { x, y, z });
-    (r.refusal == 0) & (r.light == answer)
+    lookup::light_at(hall(), corners(3.0), light, Vec3 { x, y, z }).is_ok_and(|l| l == answer)
 }
 
 // Whether the single call gives the sixteen numbers from a place on.
@@ -86,34 +84,35 @@ fn same_sixteen(
     answers: &[f32; 64],
     at: usize,
 ) -> bool {
-    let r = lookup::coefficients_at(hall(), corners(3.0), volume, Vec3 { x, y, z });
-    let numbers = r.numbers;
-    (r.refusal == 0) & same_numbers(&numbers, answers, at)
+    match lookup::coefficients_at(hall(), corners(3.0), volume, Vec3 { x, y, z }) {
+        Ok(numbers) => same_numbers(&numbers, answers, at),
+        Err(_) => false,
+    }
 }
 
 fn same_numbers(numbers: &[f32; 16], answers: &[f32; 64], at: usize) -> bool {
     if at > 48 {
         return false;
     }
-    let mut i: usize = 0;
-    while i < 16 {
+    for i in 0..16 {
         if numbers[i] != answers[at + i] {
             return false;
         }
-        i += 1;
     }
     true
 }
 
-fn frame_sixteens(volume: &[f32; 384], all: &[f32; 12], answers: &mut [f32; 64]) -> FirstRefusal {
+fn frame_sixteens(
+    volume: &[f32; 384],
+    all: &[f32; 12],
+    answers: &mut [f32; 64],
+) -> Result<(), FirstRefused> {
     frames::frame_coefficients(hall(), corners(3.0), volume, all, answers)
 }
 
 fn fill_volume(volume: &mut [f32; 384]) {
-    let mut i: usize = 0;
-    while i < 384 {
+    for i in 0..384 {
         volume[i] = (i % 16 * 32 + i / 16) as u16 as f32;
-        i += 1;
     }
 }
 
@@ -126,8 +125,10 @@ fn show(
     positions: &[f32],
     answers: &mut [f32],
 ) -> io::Result<()> {
-    let r = frames::frame_lights(axes, corners, light, positions, answers);
-    print_first(rt, r.refusal, r.place)?;
+    print_first(
+        rt,
+        frames::frame_lights(axes, corners, light, positions, answers),
+    )?;
     print_answers(rt, answers)?;
     rt.write_all(b"\n")
 }
@@ -138,7 +139,7 @@ fn good(rt: &impl Print) -> io::Result<()> {
     let all = positions(1.5, 3.0);
     let mut answers = [7.0f32; 4];
     let r = frames::frame_lights(hall(), corners(3.0), &light, &all, &mut answers);
-    print_first(rt, r.refusal, r.place)?;
+    print_first(rt, r)?;
     print_answers(rt, &answers)?;
     let a = same_light(&light, all[0], all[1], all[2], answers[0]);
     let b = same_light(&light, all[3], all[4], all[5], answers[1]);
@@ -203,7 +204,7 @@ fn sixteens(rt: &impl Print, last: f32) -> io::Result<()> {
     let all = positions(1.5, 3.0);
     let mut answers = [7.0f32; 64];
     let r = frame_sixteens(&volume, &all, &mut answers);
-    print_first(rt, r.refusal, r.place)?;
+    print_first(rt, r)?;
     print_fourths(rt, answers[0])?;
     print_fourths(rt, answers[15])?;
     print_fourths(rt, answers[16])?;
@@ -212,7 +213,7 @@ fn sixteens(rt: &impl Print, last: f32) -> io::Result<()> {
     print_fourths(rt, answers[47])?;
     print_fourths(rt, answers[48])?;
     print_fourths(rt, answers[63])?;
-    if r.refusal != 0 {
+    if r.is_err() {
         return rt.write_all(b"\n");
     }
     let a = same_sixteen(&volume, all[0], all[1], all[2], &answers, 0);

@@ -63,10 +63,8 @@ fn show(
 fn list(rt: &impl Print, l: &[u32], n: usize) -> io::Result<()>
     requires { n ≤ length l.now }
 {
-    let mut i = 0;
-    while i < n {
-        number(rt, tree::inner::word_at(l, i))?;
-        i += 1;
+    for i in 0..n {
+        number(rt, l[i] as usize)?;
     }
     rt.write_all(b"\n")
 }
@@ -80,13 +78,10 @@ fn report(rt: &impl Print, points: &[f32], n: usize) -> io::Result<()>
     let mut order = [0; 4096];
     let e = n * 9;
     let part = &points[..e];
-    let r = tree_build::build_tree(part, &mut boxes, &mut nodes, &mut order);
-    if r.refusal == 0 {
-        return show(rt, part, &boxes, &nodes, &order, r.boxes, r.places);
+    match tree_build::build_tree(part, &mut boxes, &mut nodes, &mut order) {
+        Ok(size) => show(rt, part, &boxes, &nodes, &order, size.boxes, size.places),
+        Err(refusal) => println!(rt; "{refusal} "),
     }
-    rt.write_all(b"refused ")?;
-    number(rt, r.refusal as usize)?;
-    rt.write_all(b"\n")
 }
 
 // 4,096 triangles along x, the first at the far end, each `step` from the one before.

@@ -53,7 +53,7 @@ fn take_file(rt: &(impl Input + Print), part: &mut [u8]) -> io::Result<bool> {
 fn answer(rt: &impl Print, bytes: &[u8]) -> io::Result<()> {
     let figures = volume::file_figures(bytes);
     volume_report::print(rt, figures)?;
-    if figures.refusal == 0 {
+    if figures.is_ok() {
         again(rt, bytes)?;
     }
     Ok(())
@@ -61,9 +61,10 @@ fn answer(rt: &impl Print, bytes: &[u8]) -> io::Result<()> {
 
 // Reads an accepted file into lists, writes them again, and prints what was written.
 fn again(rt: &impl Print, bytes: &[u8]) -> io::Result<()> {
-    let head = volume::file_axes(bytes);
-    let needed = volume::volume_bytes(head.axes);
-    let long = needed.bytes;
+    let long = match volume::file_axes(bytes) {
+        Ok(head) => volume::volume_bytes(head.axes).unwrap_or(0),
+        Err(_) => 0,
+    };
     if long < 96 {
         return rt.write_all(b"no length\n");
     }
@@ -97,10 +98,9 @@ fn rewrite(
     active: &mut [u64],
     out: &mut [u8],
 ) -> io::Result<()> {
-    let head = volume::read_volume(bytes, light, volume, occupied, active);
-    if head.refusal != 0 {
+    let Ok(head) = volume::read_volume(bytes, light, volume, occupied, active) else {
         return rt.write_all(b"not read\n");
-    }
+    };
     if volume::write_volume(
         head.axes,
         head.corners,
@@ -109,7 +109,8 @@ fn rewrite(
         occupied,
         active,
         out,
-    ) != 0
+    )
+    .is_err()
     {
         return rt.write_all(b"not written\n");
     }
@@ -117,18 +118,10 @@ fn rewrite(
 }
 
 fn print_bytes(rt: &impl Print, s: &[u8]) -> io::Result<()> {
-    let mut i: usize = 0;
-    while i < s.len() {
-        console::print_hex(rt, wide(s[i]), 2)?;
-        i += 1;
+    for b in s {
+        console::print_hex(rt, u64::from(*b), 2)?;
     }
     rt.write_all(b"\n")
-}
-
-fn wide(b: u8) -> u64
-    ensures { result < 256 }
-{
-    b as u64
 }
 
 fn size(n: u64) -> usize

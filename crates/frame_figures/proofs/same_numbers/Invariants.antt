@@ -1,9 +1,0 @@
--- Each turn compares one number of sixteen.
-use Prim.Native.Nat.{◌-◌, ◌≤◌}
-use Rattle.frame_figures.proofs.same_numbers.Given as goal
-
-abbrev pub invariant-loop-i : goal.invariant-loop-i
-invariant-loop-i l = l.i ≤ 16
-
-abbrev pub decreases-loop-i : goal.decreases-loop-i
-decreases-loop-i l = 16 - l.i
