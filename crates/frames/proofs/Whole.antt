@@ -16,7 +16,7 @@ use Rattle.lookup.specs.Lookup.{GridGood}
 use Rattle.frames.specs.declared.FirstRefusal.{FirstRefusal}
 use Rattle.frames.specs.Frames.{position_count, refused_at, frame_rows}
 use Rattle.frames.specs.FramesLaws.{least_none, frame_row, frame_rows_passed}
-use Rattle.frames.specs.Passes.{FrameAnswered, NoneRefused, first_position, frame_refusal}
+use Rattle.frames.specs.Passes.{FrameAnswered, EachAccepted, first_position, frame_refusal}
 
 module _ (each : ℕ) (refusal : Axes → Corners → List Float → Vec3 → ℕ) (a : Axes) (c : Corners) (list positions : List Float) where
   abbrev rows_number : ℕ → ℕ
@@ -32,7 +32,7 @@ module _ (each : ℕ) (refusal : Axes → Corners → List Float → Vec3 → �
   position_first r answers z e = e ∙ given _ _ _ (sym z)
 
   -- there is none
-  pub none_first : refused_at 0 0 ≡ first_position refusal a c list positions → NoneRefused refusal a c list positions
+  pub none_first : refused_at 0 0 ≡ first_position refusal a c list positions → EachAccepted refusal a c list positions
   none_first e k h =
       (least_none _ (position_count (length positions)) 0).0 (ap (λ (x : FirstRefusal). x.refusal) (sym e)) k (omega arith) (omega arith)
 

@@ -20,9 +20,9 @@ module _ (refusal : Axes → Corners → List Float → Vec3 → ℕ) (a : Axes)
   abbrev pub first_position : FirstRefusal
   first_position = least_refused (λ (k : ℕ). refusal a c list (position_at positions k)) (position_count (length positions)) 0
 
-  -- there is none
-  abbrev pub NoneRefused : Type 0
-  NoneRefused = (k : ℕ) → k < position_count (length positions) → refusal a c list (position_at positions k) ≡ 0
+  -- none is refused
+  abbrev pub EachAccepted : Type 0
+  EachAccepted = (k : ℕ) → k < position_count (length positions) → refusal a c list (position_at positions k) ≡ 0
 
 -- the first refusal of a frame, with so many numbers of answers
 abbrev pub frame_refusal : ℕ → (Axes → Corners → List Float → Vec3 → ℕ) → Axes → Corners → List Float → List Float → ℕ → FirstRefusal
@@ -41,5 +41,5 @@ pub record PositionsKept (refusal : Axes → Corners → List Float → Vec3 →
 
 -- where no position is refused, a frame is what stands between the cells of each position, one after another
 pub record FramedLaws {A : Type 0} (blend : List Float → Cells → A) (refusal : Axes → Corners → List Float → Vec3 → ℕ) (numbers : A → List Float) (frame : Axes → Corners → List Float → List Float → List Float) : Type 0 where
-  pub frame_is : (a : Axes) (c : Corners) (list positions : List Float) → NoneRefused refusal a c list positions
+  pub frame_is : (a : Axes) (c : Corners) (list positions : List Float) → EachAccepted refusal a c list positions
       → frame a c list positions ≡ laid (λ (k : ℕ). numbers (blend list (cells_of a c (position_at positions k)))) (position_count (length positions)) 0

@@ -10,7 +10,7 @@ ghost use Rattle.grid.specs.Grid.{AxesWithin, voxels};
 ghost use Rattle.limits.specs.Limits.{wrong_length};
 ghost use Rattle.lookup.specs.Lookup.{GridGood};
 ghost use Rattle.frames.specs.Frames.{frame_rows, position_count, position_at, wrong_frame, first_refusal_from, light_frame_of, coefficient_frame_of};
-ghost use Rattle.frames.specs.Passes.{NoneBad, NoneRefused, FramedLaws, FrameAnswered, PositionsKept, first_position, frame_refusal};
+ghost use Rattle.frames.specs.Passes.{NoneBad, EachAccepted, FramedLaws, FrameAnswered, PositionsKept, first_position, frame_refusal};
 ghost use Rattle.frames.specs.FramedLaws.{lights_framed_laws, coefficients_framed_laws};
 
 use super::FirstRefused;
@@ -258,7 +258,7 @@ fn fill<F: Framed>(
 )
     requires grid { GridGood F.EACH axes corners list.now }
     requires long { length answers.old ≡ position_count (length positions.now) * F.EACH }
-    requires none { NoneRefused F.refusal axes corners list.now positions.now }
+    requires none { EachAccepted F.refusal axes corners list.now positions.now }
     ensures { answers.new ≡ F.frame axes corners list.now positions.now }
 {
     let count = positions.len() / 3;

@@ -78,7 +78,7 @@ pub extern "C" fn geaidnosa_version() -> u32
 pub extern "C" fn geaidnosa_directions(out: &mut [f32]) -> u32
     ensures { DirectionsFilled out.old result out.new }
 {
-    directions::fill(out)
+    names::told(directions::fill(out))
 }
 
 #[unsafe(no_mangle)]
@@ -149,7 +149,7 @@ pub extern "C" fn geaidnosa_build_tree(
 ) -> TreeBuilt
     ensures { BuildAnswered points.now boxes.old nodes.old order.old result boxes.new nodes.new order.new }
 {
-    tree_build::build_tree(points, boxes, nodes, order)
+    tree_build::build_tree(points, boxes, nodes, order).into()
 }
 
 #[unsafe(no_mangle)]
@@ -200,14 +200,14 @@ pub extern "C" fn geaidnosa_masks(
 ) -> Marked
     ensures { MasksFilled axes corners points.now occupied.old active.old result occupied.new active.new }
 {
-    masks::masks(axes, corners, points, occupied, active)
+    masks::masks(axes, corners, points, occupied, active).into()
 }
 
 #[unsafe(no_mangle)]
 pub extern "C" fn geaidnosa_light_blur(axes: Axes, light: &mut [f32], scratch: &mut [f32]) -> u32
     ensures { LightBlurred axes light.old scratch.old result light.new scratch.new }
 {
-    blurs::light_blur(axes, light, scratch)
+    names::told(blurs::light_blur(axes, light, scratch))
 }
 
 #[unsafe(no_mangle)]
@@ -218,7 +218,7 @@ pub extern "C" fn geaidnosa_coefficient_blur(
 ) -> u32
     ensures { CoefficientsBlurred axes volume.old scratch.old result volume.new scratch.new }
 {
-    blurs::coefficient_blur(axes, volume, scratch)
+    names::told(blurs::coefficient_blur(axes, volume, scratch))
 }
 
 #[unsafe(no_mangle)]
@@ -409,7 +409,7 @@ pub extern "C" fn geaidnosa_join(
 ) -> u32
     ensures { Joined axes share.now unblurred.now joined.old result joined.new }
 {
-    join::join(axes, share, unblurred, joined)
+    names::told(join::join(axes, share, unblurred, joined))
 }
 
 // ---- lookups
@@ -423,7 +423,7 @@ pub extern "C" fn geaidnosa_light_at(
 ) -> LightAt
     ensures { LightLookedUp axes corners light.now position result }
 {
-    lookup::light_at(axes, corners, light, position)
+    lookup::light_at(axes, corners, light, position).into()
 }
 
 #[unsafe(no_mangle)]
@@ -435,7 +435,7 @@ pub extern "C" fn geaidnosa_coefficients_at(
 ) -> CoefficientsAt
     ensures { CoefficientsLookedUp axes corners volume.now position result }
 {
-    lookup::coefficients_at(axes, corners, volume, position)
+    lookup::coefficients_at(axes, corners, volume, position).into()
 }
 
 // The part itself cannot be handed back over C: the caller reads sixteen numbers from the start on, in the list that it chose, and copies none.
@@ -449,13 +449,15 @@ pub extern "C" fn geaidnosa_voxel_part(
 ) -> PartStart
     ensures { PartTold axes volume.now scratch.now index unblurred result }
 {
-    let refusal = lookup::voxel_refusal(axes, volume, scratch, index, unblurred != 0);
-    if refusal != 0 {
-        return PartStart { refusal, start: 0 };
-    }
-    PartStart {
-        refusal: 0,
-        start: index * 16,
+    match lookup::voxel_refusal(axes, volume, scratch, index, unblurred != 0) {
+        Ok(()) => PartStart {
+            refusal: 0,
+            start: index * 16,
+        },
+        Err(refusal) => PartStart {
+            refusal: u32::from(refusal),
+            start: 0,
+        },
     }
 }
 
@@ -469,7 +471,7 @@ pub extern "C" fn geaidnosa_voxel_refusal(
 ) -> u32
     ensures { PartJudged axes volume.now scratch.now index (chosen unblurred) result }
 {
-    lookup::voxel_refusal(axes, volume, scratch, index, unblurred != 0)
+    names::told(lookup::voxel_refusal(axes, volume, scratch, index, unblurred != 0))
 }
 
 #[unsafe(no_mangle)]
@@ -482,7 +484,7 @@ pub extern "C" fn geaidnosa_frame_lights(
 ) -> FirstRefusal
     ensures { LightsFramed axes corners light.now positions.now answers.old result answers.new }
 {
-    frames::frame_lights(axes, corners, light, positions, answers)
+    frames::frame_lights(axes, corners, light, positions, answers).into()
 }
 
 #[unsafe(no_mangle)]
@@ -495,7 +497,7 @@ pub extern "C" fn geaidnosa_frame_coefficients(
 ) -> FirstRefusal
     ensures { CoefficientsFramed axes corners volume.now positions.now answers.old result answers.new }
 {
-    frames::frame_coefficients(axes, corners, volume, positions, answers)
+    frames::frame_coefficients(axes, corners, volume, positions, answers).into()
 }
 
 // ---- the volume file
