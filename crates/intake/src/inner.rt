@@ -187,11 +187,5 @@ fn bad_contents(active: &[u64], lights: &[f32], volume: &[f32], next: usize, n: 
 fn bad_volume(volume: &[f32], next: usize, n: usize) -> bool
     ensures { result ≡ bad_volume volume.now next n }
 {
-    if next == 0 {
-        return false;
-    }
-    if next < n {
-        return limits::inner::bad_coefficients(volume);
-    }
-    false
+    0 < next && next < n && limits::inner::bad_coefficients(volume)
 }
