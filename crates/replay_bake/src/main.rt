@@ -10,7 +10,7 @@ use grid::{Axes, Corners};
 use limits::{Ambient, Light};
 use names::Refusal;
 use replay::{Tally, Words, room};
-use replay_values::{Scene, SceneRoom};
+use replay_values::{SceneLists, SceneRoom};
 use spread::Progress;
 use std::io;
 
@@ -56,7 +56,7 @@ struct Case<'a> {
 struct Given<'a> {
     axes: Axes,
     corners: Corners,
-    scene: Scene<'a>,
+    scene: SceneLists<'a>,
     sunlight: Light,
     ambient: Ambient,
     sky: &'a [f32],

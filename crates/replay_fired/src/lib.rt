@@ -9,7 +9,7 @@ ghost use Rattle.grid.specs.Grid.{AxesWithin, voxels};
 use grid::Axes;
 use limits::Lamp;
 use replay::{Tally, Words};
-use replay_values::Scene;
+use replay_values::SceneLists;
 use surface::{Setting, Surface};
 use vectors::{Ray, Vec3};
 
@@ -255,7 +255,7 @@ pub fn listed(
     values: Words,
     recorded: Words,
     t: Tally,
-    scene: Scene,
+    scene: SceneLists,
     lamps: &[f32],
     active: &[u64],
 ) -> Tally {

@@ -5,7 +5,7 @@
 
 use rays::{Found, Met, Transmitted};
 use replay::{Tally, Words, room};
-use replay_values::{Scene, SceneRoom};
+use replay_values::{SceneLists, SceneRoom};
 use std::io;
 use tree_build::TreeBuilt;
 
@@ -62,7 +62,7 @@ fn ray(asked: Words) -> vectors::Ray {
 }
 
 // The nearest hit, through the scene's tree if it has one.
-fn found(asked: Words, scene: Scene) -> Found {
+fn found(asked: Words, scene: SceneLists) -> Found {
     let ray = ray(asked);
     match scene.tree {
         Some(tree) => rays::tree_nearest(
@@ -80,7 +80,7 @@ fn found(asked: Words, scene: Scene) -> Found {
 }
 
 // The answer is seven words: refusal, hit, place, and the hit's numbers.
-fn nearest(asked: Words, t: Tally, scene: Scene) -> Tally {
+fn nearest(asked: Words, t: Tally, scene: SceneLists) -> Tally {
     let (refusal, hit, place, d, u, v, front) = match found(asked, scene) {
         Found::Refused(k) => (k, 0, 0, 0.0, 0.0, 0.0, false),
         Found::Nothing => (0, 0, 0, 0.0, 0.0, 0.0, false),
@@ -96,7 +96,7 @@ fn nearest(asked: Words, t: Tally, scene: Scene) -> Tally {
 }
 
 // The transmittance, through the scene's tree if it has one.
-fn through(asked: Words, scene: Scene, hits: &mut Hits) -> Transmitted {
+fn through(asked: Words, scene: SceneLists, hits: &mut Hits) -> Transmitted {
     let ray = ray(asked);
     match scene.tree {
         Some(tree) => rays::tree_transmittance(
@@ -124,7 +124,7 @@ fn through(asked: Words, scene: Scene, hits: &mut Hits) -> Transmitted {
 }
 
 // Through the engine with hit scratch, whose lists begin at `lists`.
-fn lent(lists: Words, asked: Words, t: Tally, scene: Scene, hits: &mut Hits) -> Tally {
+fn lent(lists: Words, asked: Words, t: Tally, scene: SceneLists, hits: &mut Hits) -> Tally {
     lists.list(0).fill(hits.distances);
     lists.list(1).fill(hits.places);
     let r = through(asked, scene, hits);
@@ -133,7 +133,7 @@ fn lent(lists: Words, asked: Words, t: Tally, scene: Scene, hits: &mut Hits) -> 
 }
 
 // Through the engine for solid walls.
-fn solid(asked: Words, t: Tally, scene: Scene) -> Tally {
+fn solid(asked: Words, t: Tally, scene: SceneLists) -> Tally {
     let r = rays::solid_transmittance(
         scene.points,
         scene.uses,
@@ -150,7 +150,7 @@ fn passed(asked: Words, t: Tally, r: Transmitted) -> Tally {
 }
 
 // By one engine, or by both where they have one answer.
-fn transmittance(lists: Words, asked: Words, t: Tally, scene: Scene, hits: &mut Hits) -> Tally {
+fn transmittance(lists: Words, asked: Words, t: Tally, scene: SceneLists, hits: &mut Hits) -> Tally {
     let u = lent(lists, asked, t, scene, hits);
     let both = replay::through_both(
         scene.kinds,

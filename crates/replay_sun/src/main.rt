@@ -5,7 +5,7 @@
 use grid::{Axes, Corners};
 use names::Refusal;
 use replay::{Tally, Words, room};
-use replay_values::{Scene, SceneRoom};
+use replay_values::{SceneLists, SceneRoom};
 use std::io;
 use sun::Sunned;
 use vectors::Vec3;
@@ -36,7 +36,7 @@ impl TryFrom<u32> for Kind {
 struct Given<'a> {
     axes: Axes,
     corners: Corners,
-    scene: Scene<'a>,
+    scene: SceneLists<'a>,
     direction: Vec3,
     active: &'a [u64],
 }

@@ -71,7 +71,7 @@ pub fn ambient(w: Words) -> Ambient {
 
 // A scene's lists, and its box tree's where it has one.
 #[derive(Clone, Copy)]
-pub struct Scene<'a> {
+pub struct SceneLists<'a> {
     pub points: &'a [f32],
     pub uses: &'a [u32],
     pub kinds: &'a [u8],
@@ -112,7 +112,7 @@ impl SceneRoom {
     }
 
     // The scene whose lists begin at `lists`, with the tree whose lists begin at `tree`; none where there is no room for one of them.
-    pub fn lend<'a>(&'a mut self, lists: Words, tree: Option<Words>) -> Option<Scene<'a>> {
+    pub fn lend<'a>(&'a mut self, lists: Words, tree: Option<Words>) -> Option<SceneLists<'a>> {
         let SceneRoom {
             points,
             uses,
@@ -130,7 +130,7 @@ impl SceneRoom {
                 order: lists.list(2).lend(order)?,
             }),
         };
-        Some(Scene {
+        Some(SceneLists {
             points: lists.list(0).lend(points)?,
             uses: lists.list(1).lend(uses)?,
             kinds: lists.list(2).lend(kinds)?,
