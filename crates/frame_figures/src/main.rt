@@ -45,7 +45,7 @@ fn positions(y: f32, z: f32) -> [f32; 12] {
 
 fn print_fourths(rt: &impl Print, x: f32) -> io::Result<()> {
     rt.write_all(b" ")?;
-    console::print_decimal(rt, lookup::inner::whole(x * 4.0) as u64)
+    console::print_decimal(rt, std::num::saturating_f32_to_u64(x * 4.0))
 }
 
 fn print_first(rt: &impl Print, answer: Result<(), FirstRefused>) -> io::Result<()> {
