@@ -9,7 +9,6 @@ ghost use Rattle.grid.specs.Grid.{AxesWithin, voxels};
 use grid::Axes;
 use limits::Lamp;
 use replay::Tally;
-use scan::Nearest;
 use surface::{Setting, Surface};
 use vectors::{Ray, Vec3};
 
@@ -180,16 +179,16 @@ fn along(
     let first = fire(s, listing, voxel, NEAREST, ray);
     let found = scan::inner::nearest(points, uses, kinds, numbers, ray);
     match found {
-        Nearest::Nothing => first,
-        Nearest::At(place, distance, _, _, _) => {
+        None => first,
+        Some(met) => {
             let surface = surface::inner::surface_at(
                 points,
                 uses,
                 kinds,
                 numbers,
                 ray,
-                place,
-                distance,
+                met.place,
+                met.hit.t,
                 setting.biases.hit,
             );
             surface_rays(s, first, voxel, lamps, setting, surface)

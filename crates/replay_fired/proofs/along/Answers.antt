@@ -5,7 +5,7 @@ use Rattle.replay_fired.proofs.along.Goals as goal
 
 pub surface_at-surface-requires : goal.surface_at-surface-requires
 surface_at-surface-requires c =
-    let met = sym c.nearest-found.ensures ∙ c.in-At.is in record {
+    let met = sym c.nearest-found.ensures ∙ c.in-Some.is in record {
       sound = c.requires;
-      place_in_bounds = place_below _ _ _ _ _ _ _ met;
+      place_in_bounds = place_below _ _ _ met;
     }
