@@ -1,7 +1,7 @@
 -- What gather writes stays within ±2^96, where the rows of the public call have passed: so a resumed call is never refused for it. A ray
 -- brings at most 10 · 2^79, so that 64 of them sum to at most 1280 · 2^79 in each coefficient; irradiance at most doubles that, and the floor
 -- at most doubles it again.
-use Rattle.std.specs.Prelude.{◌≡◌, true, false, ◌||◌, List, [], ◌∷◌, length, get_or, Float}
+use Rattle.std.specs.Prelude.{Option, None, Some, ◌≡◌, true, false, ◌||◌, List, [], ◌∷◌, length, get_or, Float}
 use Rattle.std.proofs.Math.Path.{refl}
 use Rattle.std.proofs.Math.Bool.{and-eq-true_iff}
 use Prim.Native.Nat.{ℕ, zero, suc, ◌+◌, ◌*◌, ◌/◌, ◌%◌, ◌<◌, ◌≤◌}
@@ -34,8 +34,7 @@ use Rattle.limits.specs.declared.Light.{Light}
 use Rattle.limits.specs.declared.Ambient.{Ambient}
 use Rattle.vectors.specs.Places.{vec_at}
 use Rattle.scan.specs.Nearest.{nearest_of, nearest_to}
-use Rattle.scan.specs.declared.Nearest.{Nearest}
-use Rattle.scan.specs.declared.Nearest.TheVariants.{Nothing, At}
+use Rattle.scan.specs.declared.PlacedHit.{PlacedHit}
 use Rattle.harmonics.specs.declared.Coefficients.{Coefficients}
 use Rattle.surface.specs.declared.Setting.{Setting}
 use Rattle.gather.specs.declared.Gathering.{Gathering}
@@ -62,11 +61,11 @@ direction_small k h =
 -- ---- what comes back along a ray: at most 10 · 2^79
 
 incoming_small : (s : Scene) (m : Modest s) (l : List Float) → ModestLamps l → (g : Setting) → ModestSetting g → (ray : Ray) (sky : Vec3) → EachAtMost 1 16 sky
-    → (n : ℕ) → n ≤ length s.uses → (found : Nearest) → FoundAt s m ray n found → EachAtMost 10 79 (incoming_by s l g ray sky found).radiance
+    → (n : ℕ) → n ≤ length s.uses → (found : Option PlacedHit) → FoundAt s m ray n found → EachAtMost 10 79 (incoming_by s l g ray sky found).radiance
 unfolding incoming_by
-incoming_small s m l b g h ray sky k n q Nothing f = each_up sky 1 16 10 79 (lit≤ tt) k
-incoming_small s m l b g h ray sky k n q (At place t u v front) f =
-    bounced_small s m g h _ (surface_small s m ray place t u v front g.biases.hit (omega (arith, f.0)) f.1) l b
+incoming_small s m l b g h ray sky k n q None f = each_up sky 1 16 10 79 (lit≤ tt) k
+incoming_small s m l b g h ray sky k n q (Some met) f =
+    bounced_small s m g h _ (surface_small s m ray met.place met.hit g.biases.hit (omega (arith, f.0)) f.1) l b
 
 -- ---- the sums
 

@@ -1,7 +1,7 @@
 -- The departure that makes a non-finite distance a miss never shows in an accepted bake (`NoDepartures`). A primary ray starts within 11·2^12, so that what it meets lies within
 -- 288·2^63 along it and the surface's point within 578·2^63. A ray from there starts within 579·2^63, so that no distance passes 13920·2^114, which is finite. That holds in
 -- whatever direction; but a ray to the sky starts moved along its own direction, which is not shown to be finite. Where it is not, u is NaN and the ray meets nothing.
-use Rattle.std.specs.Prelude.{◌≡◌, Bool, false, ℕ, ◌<◌, length, Float}
+use Rattle.std.specs.Prelude.{Some, ◌≡◌, Bool, false, ℕ, ◌<◌, length, Float}
 use Rattle.std.proofs.Math.Logic.{⊎_elim}
 use Rattle.std.proofs.Common.{arith, lit<, lit≤}
 use Rattle.std.specs.Float.{binary32}
@@ -24,13 +24,12 @@ use Rattle.bounds.specs.NormalLaws.{normal_spread}
 use Rattle.grid_laws.specs.GridBounds.{diagonal_bounded, centre_most, centre_bounded}
 use Rattle.triangle.specs.Places.{triangle_at}
 use Rattle.triangle.specs.Laws.{hit_met}
-use Rattle.triangle.specs.declared.Meet.TheVariants.{Hit}
 use Rattle.rays_bounds.specs.TestBounds.{NearPoints, near_place, distance_bounded}
 use Rattle.rays_bounds.specs.Departure.{NoDeparture, far_same, wild_same}
 use Rattle.panels.specs.Panels.{meet_at}
 use Rattle.panels.specs.PanelLaws.{by_answered}
 use Rattle.scan.specs.Nearest.{nearest_of}
-use Rattle.scan.specs.declared.Nearest.TheVariants.{At}
+use Rattle.scan.specs.declared.PlacedHit.{PlacedHit}
 use Rattle.bounce.specs.declared.Biases.{Biases}
 use Rattle.bounce.specs.Biases.{biases_of}
 use Rattle.bounce.specs.Hemisphere.{turned_by}
@@ -84,12 +83,12 @@ surface_at g i k place t = surface_of g.scene (primary_at g i k) place t (settin
 -- the rays along direction k, and those of a surface that the first of them meets: the test is that without the departure
 pub record NoDepartures (g : GatherInput) (i k : ℕ) : Type 0 where
   pub primary : NoDeparture g.scene (primary_at g i k)
-  pub shadow : (place : ℕ) (t u v : Float) (front : Bool) → nearest_of g.scene (primary_at g i k) ≡ At place t u v front
-      → NoDeparture g.scene (shadow_ray (setting_in g) (surface_at g i k place t))
-  pub sky : (place : ℕ) (t u v : Float) (front : Bool) → nearest_of g.scene (primary_at g i k) ≡ At place t u v front → (j : ℕ)
-      → NoDeparture g.scene (sky_ray (setting_in g) (surface_at g i k place t) j)
-  pub lamp : (place : ℕ) (t u v : Float) (front : Bool) → nearest_of g.scene (primary_at g i k) ≡ At place t u v front → (j : ℕ)
-      → NoDeparture g.scene (lamp_ray (setting_in g) (surface_at g i k place t) (way_to (surface_at g i k place t).point (lamp_at g.lamps j).position))
+  pub shadow : (met : PlacedHit) → nearest_of g.scene (primary_at g i k) ≡ Some met
+      → NoDeparture g.scene (shadow_ray (setting_in g) (surface_at g i k met.place met.hit.t))
+  pub sky : (met : PlacedHit) → nearest_of g.scene (primary_at g i k) ≡ Some met → (j : ℕ)
+      → NoDeparture g.scene (sky_ray (setting_in g) (surface_at g i k met.place met.hit.t) j)
+  pub lamp : (met : PlacedHit) → nearest_of g.scene (primary_at g i k) ≡ Some met → (j : ℕ)
+      → NoDeparture g.scene (lamp_ray (setting_in g) (surface_at g i k met.place met.hit.t) (way_to (surface_at g i k met.place met.hit.t).point (lamp_at g.lamps j).position))
 
 module _ (g : GatherInput) (r : Rows g) (ha : bad_axes g.axes ≡ false) (hg : bad_grid g.corners g.axes ≡ false) where
   biases : SmallBiases (setting_in g).biases
@@ -113,27 +112,27 @@ module _ (g : GatherInput) (r : Rows g) (ha : bad_axes g.axes ≡ false) (hg : b
     primary_same p h = far_same (primary_at g i k) _ 11 12 (near p h) primary_start (lit≤ tt) (lit< tt) (lit≤ tt)
 
     -- ---- and of the surface that it meets
-    module _ (place : ℕ) (t u v : Float) (front : Bool) (met : nearest_of g.scene (primary_at g i k) ≡ At place t u v front) where
-      found : (place < length g.scene.uses) × (meet_at g.scene (primary_at g i k) place ≡ Hit t u v front)
+    module _ (met : PlacedHit) (e : nearest_of g.scene (primary_at g i k) ≡ Some met) where
+      found : (met.place < length g.scene.uses) × (meet_at g.scene (primary_at g i k) met.place ≡ Some met.hit)
       unfolding nearest_of
-      found = rw met at (nearest_found g.scene (modest g r) (primary_at g i k) (length g.scene.uses))
+      found = rw e at (nearest_found g.scene (modest g r) (primary_at g i k) (length g.scene.uses))
 
-      distance_small : AtMost 288 63 t
+      distance_small : AtMost 288 63 met.hit.t
       distance_small =
-          let m = hit_met (primary_at g i k) (triangle_at g.scene.points place) t u v front (by_answered g.scene.boxed g.scene.points g.scene.uses g.scene.kinds (primary_at g i k) place t u v front found.1) in
-          let o = (le_numbers zero32 u m.u_from).1 in
+          let m = hit_met (primary_at g i k) (triangle_at g.scene.points met.place) met.hit (by_answered g.scene.boxed g.scene.points g.scene.uses g.scene.kinds (primary_at g i k) met.place met.hit found.1) in
+          let o = (le_numbers zero32 met.hit.u m.u_from).1 in
           rw m.distance
-          (distance_bounded (primary_at g i k) (triangle_at g.scene.points place) 11 12 (near place found.0) primary_start (lit≤ tt) (lit< tt) (lit< tt) m.steep (rw m.first at o))
+          (distance_bounded (primary_at g i k) (triangle_at g.scene.points met.place) 11 12 (near met.place found.0) primary_start (lit≤ tt) (lit< tt) (lit< tt) m.steep (rw m.first at o))
 
-      point_small : EachAtMost 578 63 (surface_at g i k place t).point
+      point_small : EachAtMost 578 63 (surface_at g i k met.place met.hit.t).point
       unfolding surface_of primary_ray ray_from point_at
       point_small =
-          let n = (surface_small g.scene (modest g r) (primary_at g i k) place t u v front (setting_in g).biases.hit found.0 found.1).normal in
-          let reached = add_each _ _ 1 576 63 (lit< tt) (lit< tt) (each_up _ 11 12 1 63 (lit≤ tt) primary_start) (scale_each (direction_at k) t 2 0 288 63 (lit< tt) (lit< tt) (direction_small k listed) distance_small) in
+          let n = (surface_small g.scene (modest g r) (primary_at g i k) met.place met.hit (setting_in g).biases.hit found.0 found.1).normal in
+          let reached = add_each _ _ 1 576 63 (lit< tt) (lit< tt) (each_up _ 11 12 1 63 (lit≤ tt) primary_start) (scale_each (direction_at k) met.hit.t 2 0 288 63 (lit< tt) (lit< tt) (direction_small k listed) distance_small) in
           add_each _ _ 577 1 63 (lit< tt) (lit< tt) reached (each_up _ 7 12 1 63 (lit≤ tt) (scale_each _ _ 1 1 7 11 (lit< tt) (lit< tt) n biases.hit))
 
       -- a ray that starts moved along its direction
-      moved_start : (d : Vec3) → EachAtMost 1 1 d → EachAtMost 579 63 (point_at (surface_at g i k place t).point d (setting_in g).biases.step)
+      moved_start : (d : Vec3) → EachAtMost 1 1 d → EachAtMost 579 63 (point_at (surface_at g i k met.place met.hit.t).point d (setting_in g).biases.step)
       unfolding point_at
       moved_start d h = add_each _ _ 578 1 63 (lit< tt) (lit< tt) point_small (each_up _ 7 12 1 63 (lit≤ tt) (scale_each d _ 1 1 7 11 (lit< tt) (lit< tt) h biases.step))
 
@@ -141,20 +140,20 @@ module _ (g : GatherInput) (r : Rows g) (ha : bad_axes g.axes ≡ false) (hg : b
       far ray h p l = far_same ray _ 579 63 (near p l) h (lit≤ tt) (lit< tt) (lit≤ tt)
 
       -- to the sun
-      shadow_same : NoDeparture g.scene (shadow_ray (setting_in g) (surface_at g i k place t))
+      shadow_same : NoDeparture g.scene (shadow_ray (setting_in g) (surface_at g i k met.place met.hit.t))
       unfolding shadow_ray ray_from
       shadow_same = far _ (moved_start _ (setting_small (edges_of g.corners g.axes) g.light g.ambient r.light r.ambient).toward)
 
       -- to the sky
-      sky_same : (j : ℕ) → NoDeparture g.scene (sky_ray (setting_in g) (surface_at g i k place t) j)
+      sky_same : (j : ℕ) → NoDeparture g.scene (sky_ray (setting_in g) (surface_at g i k met.place met.hit.t) j)
       unfolding sky_ray_in ray_from turned_by
       sky_same j p l =
-          ⊎_elim (λ (w : Wild _). wild_same (sky_ray (setting_in g) (surface_at g i k place t) j) _ w) (λ (h : EachAtMost 1 1 _). far (sky_ray (setting_in g) (surface_at g i k place t) j) (moved_start _ h) p l)
+          ⊎_elim (λ (w : Wild _). wild_same (sky_ray (setting_in g) (surface_at g i k met.place met.hit.t) j) _ w) (λ (h : EachAtMost 1 1 _). far (sky_ray (setting_in g) (surface_at g i k met.place met.hit.t) j) (moved_start _ h) p l)
           (normal_spread _)
 
       -- to lamp j
       lamp_same : (j : ℕ)
-          → NoDeparture g.scene (lamp_ray (setting_in g) (surface_at g i k place t) (way_to (surface_at g i k place t).point (lamp_at g.lamps j).position))
+          → NoDeparture g.scene (lamp_ray (setting_in g) (surface_at g i k met.place met.hit.t) (way_to (surface_at g i k met.place met.hit.t).point (lamp_at g.lamps j).position))
       unfolding lamp_ray lamp_ray_from
       lamp_same j = far _ (each_up _ 578 63 579 63 (lit≤ tt) point_small)
 

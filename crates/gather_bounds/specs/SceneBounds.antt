@@ -1,5 +1,5 @@
 -- How large what a scene's surfaces send back is, where its numbers lie within document 01's limits.
-use Rattle.std.specs.Prelude.{◌≡◌, Bool, cond, length, Float}
+use Rattle.std.specs.Prelude.{Option, None, Some, ◌≡◌, Bool, cond, length, Float}
 use Rattle.std.proofs.Math.Path.{refl}
 use Rattle.std.proofs.Math.Bool.{true, false}
 use mathlib.Core.List.{List, [], ◌∷◌}
@@ -29,13 +29,11 @@ use Rattle.vectors.specs.Places.{vec_at}
 use Rattle.triangle.specs.Places.{triangle_at}
 use Rattle.triangle.specs.Meet.{absent_of}
 use Rattle.triangle.specs.Laws.{hit_met}
-use Rattle.triangle.specs.declared.Meet.{Meet}
-use Rattle.triangle.specs.declared.Meet.TheVariants.{Miss, Hit}
+use Rattle.triangle.specs.declared.Hit.{Hit}
 use Rattle.panels.specs.Panels.{kind_at, stops_light, meet_at}
 use Rattle.panels.specs.PanelLaws.{by_answered}
-use Rattle.scan.specs.Nearest.{nearest_to, nearer_of, beats}
-use Rattle.scan.specs.declared.Nearest.{Nearest}
-use Rattle.scan.specs.declared.Nearest.TheVariants.{Nothing, At}
+use Rattle.scan.specs.Nearest.{placed, nearest_to, nearer_of, beats}
+use Rattle.scan.specs.declared.PlacedHit.{PlacedHit}
 use Rattle.hits.specs.Hits.{hits_of, places_of}
 use Rattle.hits.proofs.HitLaws.{places_below}
 use Rattle.scan.specs.Transmittance.{transmittance_of, pass_of, transmission_at}
@@ -128,21 +126,21 @@ module _ (s : Scene) (m : Modest s) where
 
   -- ---- where a surface is met, a triangle of the scene is
 
-  abbrev pub FoundAt : Ray → ℕ → Nearest → Type 0
-  FoundAt ray n Nothing = Unit
-  FoundAt ray n (At place t u v front) = (place < n) × (meet_at s ray place ≡ Hit t u v front)
+  abbrev pub FoundAt : Ray → ℕ → Option PlacedHit → Type 0
+  FoundAt ray n None = Unit
+  FoundAt ray n (Some met) = (met.place < n) × (meet_at s ray met.place ≡ Some met.hit)
 
-  later : (ray : Ray) (n : ℕ) (found : Nearest) → FoundAt ray n found → FoundAt ray (suc n) found
-  later ray n Nothing h = tt
-  later ray n (At place t u v front) h = (omega (arith, h.0), h.1)
+  later : (ray : Ray) (n : ℕ) (found : Option PlacedHit) → FoundAt ray n found → FoundAt ray (suc n) found
+  later ray n None h = tt
+  later ray n (Some met) h = (omega (arith, h.0), h.1)
 
-  nearer_found : (ray : Ray) (n : ℕ) (best : Nearest) (a : Meet) → meet_at s ray n ≡ a → FoundAt ray n best → FoundAt ray (suc n) (nearer_of best n a)
+  nearer_found : (ray : Ray) (n : ℕ) (best : Option PlacedHit) (a : Option Hit) → meet_at s ray n ≡ a → FoundAt ray n best → FoundAt ray (suc n) (nearer_of best n a)
   unfolding nearer_of
-  nearer_found ray n best Miss e h = later ray n best h
-  nearer_found ray n Nothing (Hit t u v front) e h = (omega arith, e)
-  nearer_found ray n (At place r p q side) (Hit t u v front) e h = go (beats t n r place)
+  nearer_found ray n best None e h = later ray n best h
+  nearer_found ray n None (Some m) e h = (omega arith, e)
+  nearer_found ray n (Some best) (Some m) e h = go (beats m.t n best.hit.t best.place)
     where
-      go : (b : Bool) → FoundAt ray (suc n) (cond b (At n t u v front) (At place r p q side))
+      go : (b : Bool) → FoundAt ray (suc n) (cond b (Some (placed n m)) (Some best))
       go true = (omega arith, e)
       go false = (omega (arith, h.0), h.1)
 
@@ -168,12 +166,12 @@ module _ (s : Scene) (m : Modest s) where
   base_small k h =
       record { x = rw add-zero at (m.colours k 0 h (lit< tt)); y = m.colours k 1 h (lit< tt); z = m.colours k 2 h (lit< tt) }
 
-  pub surface_small : (ray : Ray) (place : ℕ) (t u v : Float) (front : Bool) (bias : Float) → place < length s.uses → meet_at s ray place ≡ Hit t u v front → ModestSurface (surface_of s ray place t bias)
+  pub surface_small : (ray : Ray) (place : ℕ) (hit : Hit) (bias : Float) → place < length s.uses → meet_at s ray place ≡ Some hit → ModestSurface (surface_of s ray place hit.t bias)
   unfolding surface_of
-  surface_small ray place t u v front bias h e =
+  surface_small ray place hit bias h e =
       let k = get_or s.uses place 0 in
       let g = m.sound.within place h in
-      let n = (hit_met ray (triangle_at s.points place) t u v front (by_answered s.boxed s.points s.uses s.kinds ray place t u v front e)).present in
+      let n = (hit_met ray (triangle_at s.points place) hit (by_answered s.boxed s.points s.uses s.kinds ray place hit e)).present in
       let b = base_small k g in
       record { normal = facing_each _ ray.direction 1 1 (normal_small place h n); albedo = clamp_each _ (number _ b.x) (number _ b.y) (number _ b.z); emissive = raised_each _ 1 16 (colour_small k 3 g (lit< tt)) }
 

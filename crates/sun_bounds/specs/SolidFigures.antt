@@ -1,5 +1,5 @@
 -- Between solid walls a voxel sees the whole sun or none of it: before the blur each figure of an accepted call is 1.0 or 0.
-use Rattle.std.specs.Prelude.{◌≡◌, refl, Bool, true, false, ◌⊎◌, List, ℕ, ◌<◌, get_or}
+use Rattle.std.specs.Prelude.{Option, None, Some, ◌≡◌, refl, Bool, true, false, ◌⊎◌, List, ℕ, ◌<◌, get_or}
 use Rattle.std.proofs.Common.{inl, inr}
 use Rattle.std.specs.Float.{nan}
 use Rattle.names.specs.Bits.{zero32, one32}
@@ -16,8 +16,7 @@ use Rattle.marks.specs.Marks.{is_marked}
 use Rattle.words.specs.Words.{entries_of}
 use Rattle.scan.specs.Nearest.{nearest_of}
 use Rattle.scan.specs.Transmittance.{transmittance_of}
-use Rattle.scan.specs.declared.Nearest.{Nearest}
-use Rattle.scan.specs.declared.Nearest.TheVariants.{Nothing, At}
+use Rattle.scan.specs.declared.PlacedHit.{PlacedHit}
 use Rattle.scan_laws.specs.SolidScans.{all_or_nothing, solid_all_or_nothing}
 use Rattle.sun.specs.Sun.{sun_before, sun_rows, sun_refusal}
 use Rattle.sun.specs.SunLaws.{inactive_before, active_before, sun_numbered, sun_ready}
@@ -42,9 +41,9 @@ solid_figures axes corners scene direction active light_length scratch_length e 
         let f = solid_all_or_nothing scene ray (sun_ready true axes corners scene direction active light_length scratch_length 0 0 e).traceable.scene_fits none in
         go (nearest_of scene ray) f
       where
-        go : (n : Nearest) → transmittance_of scene ray ≡ all_or_nothing n → (transmittance_of scene ray ≡ one32) ⊎ (transmittance_of scene ray ≡ zero32)
-        go Nothing f = inl f
-        go (At j t u v front) f = inr f
+        go : (n : Option PlacedHit) → transmittance_of scene ray ≡ all_or_nothing n → (transmittance_of scene ray ≡ one32) ⊎ (transmittance_of scene ray ≡ zero32)
+        go None f = inl f
+        go (Some best) f = inr f
 
     by : (b : Bool) → is_marked entries i ≡ b
         → (get_or (sun_before axes corners scene direction entries) i nan ≡ one32) ⊎ (get_or (sun_before axes corners scene direction entries) i nan ≡ zero32)

@@ -1,6 +1,6 @@
 -- The gather does not read a tree's lists: step by step in the order of the definitions, the light on a surface, what it sends back, what comes along a ray, a
 -- voxel's fold, its rays and its sixteen numbers.
-use Rattle.std.specs.Prelude.{◌≡◌, Bool, List, Float}
+use Rattle.std.specs.Prelude.{Option, None, Some, ◌≡◌, Bool, List, Float}
 use Rattle.std.proofs.Math.Path.{refl, ap, fun_ext}
 use Rattle.std.proofs.Common.{◌∙◌}
 use Prim.Native.Nat.{ℕ, ◌+◌, ◌*◌}
@@ -20,8 +20,7 @@ use Rattle.limits.specs.Limits.{lamp_count, lamp_at}
 use Rattle.bounce.specs.Lamps.{way_to}
 use Rattle.scan.specs.Nearest.{nearest_of}
 use Rattle.scan.specs.Transmittance.{transmittance_of}
-use Rattle.scan.specs.declared.Nearest.{Nearest}
-use Rattle.scan.specs.declared.Nearest.TheVariants.{Nothing, At}
+use Rattle.scan.specs.declared.PlacedHit.{PlacedHit}
 use Rattle.tracing.specs.UnreadLaws.{nearest_unread, transmittance_unread}
 use Rattle.surface.specs.declared.Setting.{Setting}
 use Rattle.surface.specs.declared.Surface.{Surface}
@@ -88,10 +87,10 @@ module _ (boxed : Bool) (points : List Float) (uses kinds : List ℕ) (numbers b
     unfolding surface_of
     sent_unread ray place distance = bounced_unread setting (surface_of one ray place distance setting.biases.hit) lamps
 
-    incoming_by_unread : (ray : Ray) (sky : Vec3) (found : Nearest) → incoming_by one lamps setting ray sky found ≡ incoming_by other lamps setting ray sky found
+    incoming_by_unread : (ray : Ray) (sky : Vec3) (found : Option PlacedHit) → incoming_by one lamps setting ray sky found ≡ incoming_by other lamps setting ray sky found
     unfolding incoming_by
-    incoming_by_unread ray sky Nothing = refl
-    incoming_by_unread ray sky (At place distance u v front) = rw (sent_unread ray place distance) refl
+    incoming_by_unread ray sky None = refl
+    incoming_by_unread ray sky (Some met) = rw (sent_unread ray met.place met.hit.t) refl
 
     pub incoming_unread : (ray : Ray) (sky : Vec3) → incoming_of one lamps setting ray sky ≡ incoming_of other lamps setting ray sky
     incoming_unread ray sky =

@@ -1,5 +1,5 @@
 -- Two accepted trees of one scene agree, of results of the public calls tree_nearest and tree_transmittance: the answers are the same, refusals too.
-use Rattle.std.specs.Prelude.{◌≡◌, List, ℕ, Float}
+use Rattle.std.specs.Prelude.{Option, ◌≡◌, List, ℕ, Float}
 use Rattle.std.proofs.Common.{sym, ap, ◌∙◌}
 use Rattle.std.proofs.Math.Path.{ap₂}
 use Rattle.std.proofs.Math.Bool.{true}
@@ -8,7 +8,7 @@ use Rattle.names.specs.Refusals.{unless_refused}
 use Rattle.names.specs.Scene.{tree_scene}
 use Rattle.vectors.specs.declared.Ray.{Ray}
 use Rattle.tree.specs.Tree.{AcceptedTree}
-use Rattle.scan.specs.declared.Nearest.{Nearest}
+use Rattle.scan.specs.declared.PlacedHit.{PlacedHit}
 use Rattle.tracing.specs.UnreadLaws.{nearest_unread, transmittance_unread}
 use Rattle.rays.specs.declared.Found.{Found}
 use Rattle.rays.specs.declared.Transmitted.{Transmitted}
@@ -21,7 +21,7 @@ module _ (points : List Float) (uses kinds : List ℕ) (numbers boxes boxes' : L
   found_alike : found_of (tree_scene points uses kinds numbers boxes nodes order) ray ≡ found_of (tree_scene points uses kinds numbers boxes' nodes' order') ray
   unfolding found_of
   found_alike =
-      ap₂ (λ (k : ℕ) (n : Nearest). unless_refused k (found_case n) (Found.Refused k))
+      ap₂ (λ (k : ℕ) (n : Option PlacedHit). unless_refused k (found_case n) (Found.Refused k))
       (nearest_refusals_alike points uses kinds numbers boxes boxes' nodes order nodes' order' accepted accepted' ray)
       (nearest_unread true points uses kinds numbers boxes boxes' nodes order nodes' order' ray)
 
