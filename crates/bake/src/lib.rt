@@ -145,7 +145,7 @@ pub fn solid_bake(
 }
 
 // The same through a box tree of the scene, with hit scratch: only triangles whose own padded box is not passed over are candidates of a ray. Refused by 1 to 7,
-// 19, 16 where the tree is not accepted, 9, 10 and 13, in that order.
+// 19, 16 where the tree is not accepted, 9, 10 and 13, in that order. Apart from `treeless_bake`, since the rows take room on the stack only where a tree comes.
 pub fn tree_bake(
     axes: Axes,
     corners: Corners,

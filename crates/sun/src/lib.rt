@@ -99,7 +99,7 @@ pub fn solid_sun(
 }
 
 // The same through a box tree of the scene, with hit scratch: only triangles whose own padded box is not passed over are candidates of a ray. Refused by 1 to 7,
-// by 16 where the tree is not accepted, and by 13.
+// by 16 where the tree is not accepted, and by 13. Apart from `treeless_sun`, since the rows take room on the stack only where a tree comes.
 pub fn tree_sun(
     axes: Axes,
     corners: Corners,
@@ -323,6 +323,7 @@ fn trace(
     before.fill(1.0);
     let n = before.len();
     let mut i = words::inner::next_marked(active, n, 0);
+    // index loop: from one marked voxel to the next
     while i < n {
         let f = seen(
             axes, low, edges, l, ahead, points, uses, kinds, numbers, boxed, boxes, nodes, order,

@@ -58,6 +58,7 @@ pub fn walk(
     let cost = intake::inner::voxel_cost(lamps);
     let mut rays: u64 = 0;
     let mut i = words::inner::next_marked(active, n, next);
+    // index loop: from one marked voxel to the next
     while i < n && cost <= allowance - rays {
         rays += take(
             axes, corners, points, uses, kinds, numbers, boxed, boxes, nodes, order, rows, light,
