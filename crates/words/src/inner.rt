@@ -142,8 +142,10 @@ pub fn unpack(words: &[u64], entries: &mut [u8])
     ensures { entries.new ≡ entries_of words.now (length entries.old) }
 {
     let eights = entries.len() / 8;
-    for k in 0..eights {
-        put_eight(entries, k * 8, spread((words[k / 8] >> (k % 8 * 8)) % 256));
+    for (k, word) in words.iter().enumerate() {
+        for j in 0..(eights - k * 8).min(8) {
+            put_eight(entries, (k * 8 + j) * 8, spread((*word >> (j * 8)) % 256));
+        }
     }
     for i in eights * 8..entries.len() {
         entries[i] = bit_at(words, i);

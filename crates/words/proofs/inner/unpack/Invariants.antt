@@ -1,13 +1,20 @@
 use mathlib.Core.Path.{◌≡◌}
-use mathlib.Core.List.{◌++◌}
-use Prim.Native.Nat.{◌-◌, ◌*◌}
+use mathlib.Core.List.{List, ◌++◌}
+use Prim.Native.Nat.{ℕ, ◌+◌, ◌-◌, ◌*◌, min}
 use lib.ListN.{length, take}
 use Rattle.lists.specs.Fold.{tab}
 use Rattle.words.specs.Words.{bit_at, entries_of}
 use Rattle.words.proofs.inner.unpack.Given as goal
 
+-- the first i entries are written
+abbrev pub Written : List ℕ → List ℕ → ℕ → ℕ → Type 0
+Written words entries n i = take i entries ++ tab (bit_at words) (length entries - i) i ≡ entries_of words n
+
 abbrev pub invariant-loop-k : goal.invariant-loop-k
-invariant-loop-k l = take (l.k * 8) l.entries ++ tab (bit_at l.words) (length l.entries - l.k * 8) (l.k * 8) ≡ entries_of l.words (length l.fn.entries)
+invariant-loop-k l = Written l.words l.entries (length l.fn.entries) (min (l.k * 8) l.eights * 8)
+
+abbrev pub invariant-loop-j : goal.invariant-loop-j
+invariant-loop-j l = Written l.words l.entries (length l.fn.entries) ((l.k * 8 + l.j) * 8)
 
 abbrev pub invariant-loop-i : goal.invariant-loop-i
-invariant-loop-i l = take l.i l.entries ++ tab (bit_at l.words) (length l.entries - l.i) l.i ≡ entries_of l.words (length l.fn.entries)
+invariant-loop-i l = Written l.words l.entries (length l.fn.entries) l.i
