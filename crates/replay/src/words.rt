@@ -71,7 +71,13 @@ impl<'a> Words<'a> {
             count,
             exceptions,
         };
-        (list, exceptions.skip(count as usize * 2))
+        // No record holds so many exceptions; what follows such a claim begins with it.
+        let left = if count < 1 << 31 {
+            exceptions.skip(count as usize * 2)
+        } else {
+            after
+        };
+        (list, left)
     }
 
     // The words after the first k of the lists that begin here.

@@ -22,15 +22,15 @@ fn blurred<const ROOM: usize>(w: Words, t: Tally) -> Option<Tally>
     let scratch = lists.list(1).lend(&mut scratch)?;
     let axes = replay_values::axes(w.skip(1));
     let answer = match w.word(0) {
-        LIGHT => blurs::light_blur(axes, list, scratch),
-        COEFFICIENTS => blurs::coefficient_blur(axes, list, scratch),
-        _ => return None,
+        LIGHT => Some(names::told(blurs::light_blur(axes, list, scratch))),
+        COEFFICIENTS => Some(names::told(blurs::coefficient_blur(axes, list, scratch))),
+        _ => None,
     };
     let expected = lists.after(2);
     let after = expected.skip(1);
     Some(
         t.held(true)
-            .held(names::told(answer) == expected.word(0))
+            .held(answer == Some(expected.word(0)))
             .held(after.list(0).is(list))
             .held(after.list(1).is(scratch)),
     )
