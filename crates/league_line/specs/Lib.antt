@@ -1,3 +1,4 @@
--- The lines of the league report as text.
+-- The lines of the league report as text, and its steps.
 pub mod Text
 pub mod TextLaws
+pub mod Steps

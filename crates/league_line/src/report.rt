@@ -5,7 +5,8 @@ ghost use Rattle.volume_file.specs.VolumeFile.{light_at};
 ghost use Rattle.light_figures.specs.LightFigures.{light_figures};
 ghost use Rattle.league_report.specs.declared.League.{League};
 ghost use Rattle.league_report.specs.FileLights.{lights_refusal};
-ghost use Rattle.league_report.specs.Report.{league_of, league_with, LeagueWithin};
+ghost use Rattle.league_report.specs.Report.{opening_of, league_of, league_with, LeagueWithin};
+ghost use Rattle.league_line.specs.Steps.{announced};
 
 use super::inner::{print_line, print_refusal};
 use league_report::League;
@@ -38,7 +39,8 @@ impl Report {
 
     // The length of the next file, by the bytes that were read for it; where none is to come, the report ends with its last line or a refusal.
     pub fn begin_file(&self, rt: &impl Print, head: &[u8]) -> io::Result<Option<usize>>
-        ensures { IfOk result (λ next. IfSome next (λ long. (self.now.files < files_limit) × (long ≤ length_limit))) }
+        ensures announced { IfOk result (λ next. next ≡ announced (opening_of self.now.files head.now)) }
+        ensures within { IfOk result (λ next. IfSome next (λ long. (self.now.files < files_limit) × (long ≤ length_limit))) }
     {
         let files = self.league.files;
         match league_report::inner::opening(files, head) {

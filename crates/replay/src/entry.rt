@@ -9,6 +9,11 @@ pub trait Entry: Copy + PartialEq {
         words
     }
 
+    // How many entries they take room for.
+    fn room(words: usize) -> usize {
+        Self::entries(words)
+    }
+
     fn read(list: List, i: usize) -> Self;
 
     // Whether this is entry i, to the bit.
@@ -40,10 +45,14 @@ impl Entry for f32 {
     }
 }
 
-// Places, two words each, low first.
+// Places, two words each, low first; half of one takes room.
 impl Entry for usize {
     fn entries(words: usize) -> usize {
         words / 2
+    }
+
+    fn room(words: usize) -> usize {
+        words.div_ceil(2)
     }
 
     fn read(list: List, i: usize) -> usize {

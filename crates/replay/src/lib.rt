@@ -18,7 +18,7 @@ mod words;
 
 pub use entry::Entry;
 pub use list::List;
-pub use tally::Tally;
+pub use tally::{MOST, Tally};
 pub use words::Words;
 
 // The longest record that is read, in bytes.

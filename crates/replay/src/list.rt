@@ -37,6 +37,9 @@ impl<'a> List<'a> {
     pub fn fit<'r, E: Entry>(self, room: &'r mut [E]) -> Option<&'r mut [E]>
         ensures { IfSome result (λ front. length front.now ≤ length room.old) }
     {
+        if room.len() < E::room(self.length) {
+            return None;
+        }
         room.get_mut(..E::entries(self.length))
     }
 

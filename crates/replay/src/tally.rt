@@ -1,5 +1,8 @@
 use std::io;
 
+// No count goes further.
+pub const MOST: u64 = 4294967296;
+
 // What was compared: records and things in them, and whether the last of these differs.
 #[derive(Clone, Copy)]
 pub struct Tally {
@@ -20,7 +23,7 @@ impl Tally {
     // One more record read.
     pub fn begun(self) -> Tally {
         Tally {
-            records: self.records.saturating_add(1),
+            records: self.records.saturating_add(1).min(MOST),
             ..self
         }
     }
@@ -31,7 +34,7 @@ impl Tally {
             return self;
         }
         Tally {
-            compared: self.compared.saturating_add(1),
+            compared: self.compared.saturating_add(1).min(MOST),
             differs: !same,
             ..self
         }

@@ -66,7 +66,7 @@ impl<'a> Listing<'a> {
         Listing {
             tally: self.tally.held(same),
             left: recorded.skip(10),
-            rays: self.rays.saturating_add(1),
+            rays: self.rays.saturating_add(1).min(replay::MOST),
             voxel: self.voxel,
         }
     }

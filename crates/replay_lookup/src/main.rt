@@ -18,12 +18,7 @@ const PART: u32 = 10;
 fn light_at(w: Words, t: Tally, position: Words, light: &[f32]) -> Tally {
     let axes = replay_values::axes(w.skip(1));
     let corners = replay_values::corners(w.skip(7));
-    let r = LightAt::from(lookup::light_at(
-        axes,
-        corners,
-        light,
-        replay_values::vector(position),
-    ));
+    let r = LightAt::from(lookup::light_at(axes, corners, light, replay_values::vector(position)));
     t.held((r.refusal == position.word(3)) & position.is_number(4, r.light))
 }
 

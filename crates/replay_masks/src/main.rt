@@ -30,9 +30,7 @@ fn record(w: Words, t: Tally) -> Option<Tally> {
     let active = lists.list(2).lend(&mut active)?;
     let axes = replay_values::axes(w.skip(1));
     let corners = replay_values::corners(w.skip(7));
-    let r = Marked::from(masks::masks(
-        axes, corners, points, occupied, active,
-    ));
+    let r = Marked::from(masks::masks(axes, corners, points, occupied, active));
     Some(held(lists.after(3), t.held(true), r, occupied, active))
 }
 

@@ -150,7 +150,13 @@ fn passed(asked: Words, t: Tally, r: Transmitted) -> Tally {
 }
 
 // By one engine, or by both where they have one answer.
-fn transmittance(lists: Words, asked: Words, t: Tally, scene: SceneLists, hits: &mut Hits) -> Tally {
+fn transmittance(
+    lists: Words,
+    asked: Words,
+    t: Tally,
+    scene: SceneLists,
+    hits: &mut Hits,
+) -> Tally {
     let u = lent(lists, asked, t, scene, hits);
     let both = replay::through_both(
         scene.kinds,

@@ -32,7 +32,10 @@ fn one_file(rt: &(impl Input + Print), space: &mut [u8]) -> io::Result<bool> {
         return Ok(false);
     }
     let long = size(
-        wide(head[0]) + wide(head[1]) * 256 + wide(head[2]) * 65536 + wide(head[3]) * 16777216,
+        u64::from(head[0])
+            + u64::from(head[1]) * 256
+            + u64::from(head[2]) * 65536
+            + u64::from(head[3]) * 16777216,
     );
     if space.len() < long {
         return Ok(false);
