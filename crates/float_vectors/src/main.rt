@@ -2,7 +2,7 @@
 // it prints how many vectors standard input has, and how many of them the function answers. The crate's file stdout has both counts.
 #![tactic(auto)]
 
-ghost use Rattle.std.specs.Prelude.{◌+◌, ◌≤◌, ◌<◌, length};
+ghost use Rattle.std.specs.Prelude.{◌≤◌};
 
 use std::io;
 
@@ -16,95 +16,45 @@ fn main(rt: HostRuntime) -> io::Result<()> {
 }
 
 fn report(rt: &impl Print, s: &[u8]) -> io::Result<()> {
-    tell(rt, s, b'r', b"root ")?;
-    tell(rt, s, b'f', b"floor ")?;
-    tell(rt, s, b'c', b"ceiling ")?;
-    tell(rt, s, b'm', b"magnitude ")?;
-    tell(rt, s, b'l', b"larger ")?;
-    tell(rt, s, b's', b"smaller ")
+    tell(rt, s, b'r', "root", |b, _| floats::root_bits(b))?;
+    tell(rt, s, b'f', "floor", |b, _| floats::floor_bits(b))?;
+    tell(rt, s, b'c', "ceiling", |b, _| floats::ceiling_bits(b))?;
+    tell(rt, s, b'm', "magnitude", |b, _| floats::magnitude_bits(b))?;
+    tell(rt, s, b'l', "larger", |b, c| floats::larger_bits(b, c))?;
+    tell(rt, s, b's', "smaller", |b, c| floats::smaller_bits(b, c))
 }
 
-fn tell(rt: &impl Print, s: &[u8], letter: u8, name: &[u8]) -> io::Result<()> {
-    rt.write_all(name)?;
-    console::print_decimal(rt, vectors(s, letter) as u64)?;
-    rt.write_all(b" vectors, held ")?;
-    console::print_decimal(rt, held(s, letter) as u64)?;
-    rt.write_all(b"\n")
-}
-
-// How many lines are this function's.
-fn vectors(s: &[u8], letter: u8) -> usize {
-    let mut sum = 0;
-    let mut line = 0;
-    while line < s.len() / LINE {
-        sum += is_vector(s, line * LINE, letter);
-        line += 1;
-    }
-    sum
-}
-
-// How many of those have the function's answer.
-fn held(s: &[u8], letter: u8) -> usize {
-    let mut sum = 0;
-    let mut line = 0;
-    while line < s.len() / LINE {
-        sum += is_held(s, line * LINE, letter);
-        line += 1;
-    }
-    sum
-}
-
-fn is_vector(s: &[u8], at: usize, letter: u8) -> usize
-    requires { at + 29 ≤ length s.now }
-    ensures { result ≤ 1 }
+// How many lines are this function's, and how many of those have its answer.
+fn tell<A: Fn(u32, u32) -> u32>(
+    rt: &impl Print,
+    s: &[u8],
+    letter: u8,
+    name: &str,
+    answer: A,
+) -> io::Result<()>
+    requires { (f : _) (b : _) (c : _) → A.pre f b c }
 {
-    if s[at] == letter { 1 } else { 0 }
-}
-
-fn is_held(s: &[u8], at: usize, letter: u8) -> usize
-    requires { at + 29 ≤ length s.now }
-    ensures { result ≤ 1 }
-{
-    if s[at] != letter {
-        return 0;
-    }
-    let given = answer(letter, pattern(s, at + 2), pattern(s, at + 11));
-    if given == pattern(s, at + 20) { 1 } else { 0 }
-}
-
-fn answer(letter: u8, b: u32, c: u32) -> u32 {
-    match letter {
-        b'r' => floats::root_bits(b),
-        b'f' => floats::floor_bits(b),
-        b'c' => floats::ceiling_bits(b),
-        b'm' => floats::magnitude_bits(b),
-        b'l' => floats::larger_bits(b, c),
-        b's' => floats::smaller_bits(b, c),
-        _ => 0,
-    }
+    let (lines, _) = s.as_chunks::<LINE>();
+    let vectors = lines.iter().filter(|line| line[0] == letter).count();
+    let held = lines
+        .iter()
+        .filter(|line| line[0] == letter)
+        .filter(|line| answer(pattern(line, 2), pattern(line, 11)) == pattern(line, 20))
+        .count();
+    println!(rt; "{name} {vectors} vectors, held {held}")
 }
 
 // The pattern whose eight digits begin there.
-fn pattern(s: &[u8], at: usize) -> u32
-    requires { at + 8 ≤ length s.now }
+fn pattern(line: &[u8; LINE], at: usize) -> u32
+    requires { at ≤ 21 }
 {
-    let upper = pair(s[at], s[at + 1]) * 256 + pair(s[at + 2], s[at + 3]);
-    let lower = pair(s[at + 4], s[at + 5]) * 256 + pair(s[at + 6], s[at + 7]);
-    upper * 65536 + lower
+    line[at..at + 8].iter().fold(0, |n, d| n << 4 | digit(*d))
 }
 
-fn pair(a: u8, b: u8) -> u32
-    ensures { result < 256 }
-{
-    digit(a) * 16 + digit(b)
-}
-
-fn digit(a: u8) -> u32
-    ensures { result < 16 }
-{
+fn digit(a: u8) -> u32 {
     match a {
-        b'0'..=b'9' => a as u32 - 48,
-        b'a'..=b'f' => a as u32 - 87,
+        b'0'..=b'9' => u32::from(a - b'0'),
+        b'a'..=b'f' => u32::from(a - b'a') + 10,
         _ => 0,
     }
 }

@@ -3,53 +3,36 @@
 // printed in hexadecimal.
 #![tactic(auto)]
 
-ghost use Rattle.std.specs.Prelude.{◌≡◌, ◌<◌};
-
 use std::io;
 
 // Room for the voxels of a file of 65,536 bytes.
 const MOST: usize = 1024;
 
+// A proved loop has to end, and nothing says that standard input does: no run takes so many turns.
 fn main(rt: HostRuntime) -> io::Result<()> {
     let mut space = [0u8; 65537];
-    all_files(&rt, &mut space)
-}
-
-// A proved loop has to end, and nothing says that an input does: the turns count down from a number that no run uses up.
-fn all_files(rt: &(impl Input + Print), space: &mut [u8]) -> io::Result<()> {
-    let mut turns = u64::MAX;
-    while turns > 0 && one_file(rt, space)? {
-        turns -= 1;
+    for _ in 0..u64::MAX {
+        if !one_file(&rt, &mut space)? {
+            break;
+        }
     }
     Ok(())
 }
 
-// The next file; false where the input ends.
+// Reads the next file, and answers for it; false where there is none, or it ends within.
 fn one_file(rt: &(impl Input + Print), space: &mut [u8]) -> io::Result<bool> {
     let mut head = [0u8; 4];
-    let got = console::read_full(rt, &mut head)?;
-    if got < 4 {
+    if console::read_full(rt, &mut head)? < 4 {
         return Ok(false);
     }
-    let long = size(
-        u64::from(head[0])
-            + u64::from(head[1]) * 256
-            + u64::from(head[2]) * 65536
-            + u64::from(head[3]) * 16777216,
-    );
-    if space.len() < long {
+    let long = u32::from_le_bytes(head) as usize;
+    let Some(file) = space.get_mut(..long) else {
+        return Ok(false);
+    };
+    if console::read_full(rt, file)? < long {
         return Ok(false);
     }
-    take_file(rt, &mut space[..long])
-}
-
-// Fills `part` with the file, and answers for it; false where the input ends within.
-fn take_file(rt: &(impl Input + Print), part: &mut [u8]) -> io::Result<bool> {
-    let read = console::read_full(rt, part)?;
-    if read < part.len() {
-        return Ok(false);
-    }
-    answer(rt, part)?;
+    answer(rt, file)?;
     Ok(true)
 }
 
@@ -64,22 +47,21 @@ fn answer(rt: &impl Print, bytes: &[u8]) -> io::Result<()> {
 
 // Reads an accepted file into lists, writes them again, and prints what was written.
 fn again(rt: &impl Print, bytes: &[u8]) -> io::Result<()> {
-    let long = match volume::file_axes(bytes) {
-        Ok(head) => volume::volume_bytes(head.axes).unwrap_or(0),
-        Err(_) => 0,
-    };
+    let long = volume::file_axes(bytes)
+        .and_then(|head| volume::volume_bytes(head.axes))
+        .unwrap_or(0);
     if long < 96 {
-        return rt.write_all(b"no length\n");
+        return println!(rt; "no length");
     }
     let n = (long - 96) / 70;
     if MOST < n {
-        return rt.write_all(b"too many\n");
+        return println!(rt; "too many");
     }
-    let words = (n + 63) / 64;
-    let mut light = [0.0f32; 1024];
-    let mut volume = [0.0f32; 16384];
-    let mut occupied = [0u64; 16];
-    let mut active = [0u64; 16];
+    let words = n.div_ceil(64);
+    let mut light = [0.0f32; MOST];
+    let mut volume = [0.0f32; MOST * 16];
+    let mut occupied = [0u64; MOST / 64];
+    let mut active = [0u64; MOST / 64];
     let mut out = [0u8; 71845];
     rewrite(
         rt,
@@ -102,7 +84,7 @@ fn rewrite(
     out: &mut [u8],
 ) -> io::Result<()> {
     let Ok(head) = volume::read_volume(bytes, light, volume, occupied, active) else {
-        return rt.write_all(b"not read\n");
+        return println!(rt; "not read");
     };
     if volume::write_volume(
         head.axes,
@@ -115,20 +97,14 @@ fn rewrite(
     )
     .is_err()
     {
-        return rt.write_all(b"not written\n");
+        return println!(rt; "not written");
     }
     print_bytes(rt, out)
 }
 
 fn print_bytes(rt: &impl Print, s: &[u8]) -> io::Result<()> {
     for b in s {
-        console::print_hex(rt, u64::from(*b), 2)?;
+        print!(rt; "{b:02x}")?;
     }
-    rt.write_all(b"\n")
-}
-
-fn size(n: u64) -> usize
-    ensures { result ≡ n }
-{
-    n as usize
+    println!(rt)
 }
