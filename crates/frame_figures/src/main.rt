@@ -44,15 +44,12 @@ fn positions(y: f32, z: f32) -> [f32; 12] {
 }
 
 fn print_fourths(rt: &impl Print, x: f32) -> io::Result<()> {
-    rt.write_all(b" ")?;
-    console::print_decimal(rt, std::num::saturating_f32_to_u64(x * 4.0))
+    print!(rt; " {}", std::num::saturating_f32_to_u64(x * 4.0))
 }
 
 fn print_first(rt: &impl Print, answer: Result<(), FirstRefused>) -> io::Result<()> {
     let first = FirstRefusal::from(answer);
-    console::print_decimal(rt, u64::from(first.refusal))?;
-    rt.write_all(b" ")?;
-    console::print_decimal(rt, first.place as u64)
+    print!(rt; "{} {}", first.refusal, first.place)
 }
 
 fn print_answers(rt: &impl Print, answers: &[f32]) -> io::Result<()> {
@@ -65,9 +62,9 @@ fn print_answers(rt: &impl Print, answers: &[f32]) -> io::Result<()> {
 // The end of an accepted frame's line. The expected output has the first of the two alone, so that an answer which is not the single call's shows.
 fn print_same(rt: &impl Print, same: bool) -> io::Result<()> {
     if same {
-        return rt.write_all(b", as one by one\n");
+        return println!(rt; ", as one by one");
     }
-    rt.write_all(b", not as one by one\n")
+    println!(rt; ", not as one by one")
 }
 
 // Whether the single call gives this light at a position.
@@ -130,7 +127,7 @@ fn show(
         frames::frame_lights(axes, corners, light, positions, answers),
     )?;
     print_answers(rt, answers)?;
-    rt.write_all(b"\n")
+    println!(rt)
 }
 
 // Accepted; at the end of the line, whether each is the single call's.
@@ -156,20 +153,11 @@ fn spoilt(rt: &impl Print, first: f32, last: f32, y: f32, z: f32) -> io::Result<
     show(rt, hall(), corners(3.0), &light, &all, &mut answers)
 }
 
-// Eleven numbers for four positions.
-fn number_short(rt: &impl Print) -> io::Result<()> {
+// Numbers that are not three for each of the four answers.
+fn numbers_short(rt: &impl Print, positions: &[f32]) -> io::Result<()> {
     let light = lights(0.0, 23.0);
-    let all = [0.5f32; 11];
     let mut answers = [7.0f32; 4];
-    show(rt, hall(), corners(3.0), &light, &all, &mut answers)
-}
-
-// Three positions for four answers.
-fn position_short(rt: &impl Print) -> io::Result<()> {
-    let light = lights(0.0, 23.0);
-    let all = [0.5f32; 9];
-    let mut answers = [7.0f32; 4];
-    show(rt, hall(), corners(3.0), &light, &all, &mut answers)
+    show(rt, hall(), corners(3.0), &light, positions, &mut answers)
 }
 
 // A light too few.
@@ -214,7 +202,7 @@ fn sixteens(rt: &impl Print, last: f32) -> io::Result<()> {
     print_fourths(rt, answers[48])?;
     print_fourths(rt, answers[63])?;
     if r.is_err() {
-        return rt.write_all(b"\n");
+        return println!(rt);
     }
     let a = same_sixteen(&volume, all[0], all[1], all[2], &answers, 0);
     let b = same_sixteen(&volume, all[3], all[4], all[5], &answers, 16);
@@ -230,8 +218,8 @@ fn main(rt: HostRuntime) -> io::Result<()> {
     spoilt(&rt, 0.0, none, 4097.0, 3.0)?;
     spoilt(&rt, 0.0, none, 1.5, 4097.0)?;
     spoilt(&rt, none, 23.0, 4097.0, 3.0)?;
-    number_short(&rt)?;
-    position_short(&rt)?;
+    numbers_short(&rt, &[0.5; 11])?;
+    numbers_short(&rt, &[0.5; 9])?;
     light_short(&rt, hall(), 3.0)?;
     light_short(&rt, hall(), 0.0)?;
     light_short(

@@ -50,14 +50,14 @@ fn show(rt: &impl Print, transmission: f32) -> io::Result<()> {
         &mut distances,
         &mut places,
     );
-    console::print_decimal(rt, answer.refusal as u64)?;
-    if answer.transmittance == 0.0 {
-        return rt.write_all(b" nothing\n");
-    }
-    if answer.transmittance == transmission {
-        return rt.write_all(b" all of it\n");
-    }
-    rt.write_all(b" something else\n")
+    let light = if answer.transmittance == 0.0 {
+        "nothing"
+    } else if answer.transmittance == transmission {
+        "all of it"
+    } else {
+        "something else"
+    };
+    println!(rt; "{} {light}", answer.refusal)
 }
 
 fn main(rt: HostRuntime) -> io::Result<()> {
