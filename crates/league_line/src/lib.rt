@@ -2,6 +2,4 @@
 #![tactic(auto)]
 
 pub mod inner;
-pub mod report;
-
-pub use report::Report;
+mod report; // report.rt: a report under way
