@@ -101,8 +101,25 @@ pub fn coefficients_at(
     inner::look_up(axes, corners, volume, position)
 }
 
-// One voxel's sixteen numbers, as a part of the volume or, where unblurred is true, of scratch: no copy. Refused: 1, 3, 11.
+// One voxel's sixteen numbers, as a part of the volume or, where unblurred is true, of scratch: no copy. Empty where `voxel_refusal`, on
+// the same arguments, refuses.
 pub fn voxel_part<'a>(
+    axes: Axes,
+    volume: &'a [f32],
+    scratch: &'a [f32],
+    index: usize,
+    unblurred: bool,
+) -> &'a [f32]
+    ensures { PartLent axes volume.now scratch.now index unblurred result.now }
+{
+    match try_voxel_part(axes, volume, scratch, index, unblurred) {
+        Ok(part) => part,
+        Err(_) => &volume[..0],
+    }
+}
+
+// The same part, or why there is none. Refused: 1, 3, 11.
+pub fn try_voxel_part<'a>(
     axes: Axes,
     volume: &'a [f32],
     scratch: &'a [f32],

@@ -85,7 +85,7 @@ fn held_part(w: Words, t: Tally, asked: Words, volume: &[f32], scratch: &[f32]) 
     let index = asked.whole(0);
     let choice = asked.word(2) != 0;
     let refusal = lookup::voxel_refusal(axes, volume, scratch, index, choice);
-    let lent = lookup::voxel_part(axes, volume, scratch, index, choice).unwrap_or(&[]);
+    let lent = lookup::voxel_part(axes, volume, scratch, index, choice);
     t.held(names::told(refusal) == asked.word(3))
         .held(asked.skip(4).list(0).is(lent))
 }

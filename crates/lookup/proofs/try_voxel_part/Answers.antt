@@ -1,11 +1,11 @@
--- `lookup::voxel_part` meets its contract: where nothing is refused the sixteen numbers lie within either list, and else there is no part.
+-- `lookup::try_voxel_part` meets its contract: where nothing is refused the sixteen numbers lie within either list, and else there is no part.
 use Rattle.std.proofs.Common.{◌≡◌, cond, sym, ◌∙◌, arith}
 use Rattle.std.proofs.lemmas.Result.{err_from_is_err_and}
 use Rattle.names.specs.AnswersLaws.{number_nonzero}
 use Rattle.lookup.specs.LookupLaws.{granted, granted_end}
 use Rattle.lookup.proofs.Answers.{shown, hidden, part_within}
-use Rattle.lookup.proofs.voxel_part.Goals as goal
-use Rattle.lookup.proofs.voxel_part.Goals.{Joined-unblurred, then-unblurred, else-unblurred}
+use Rattle.lookup.proofs.try_voxel_part.Goals as goal
+use Rattle.lookup.proofs.try_voxel_part.Goals.{Joined-unblurred, then-unblurred, else-unblurred}
 
 pub returns-in_err-voxel_refusal-clause-lent : goal.returns-in_err-voxel_refusal-clause-lent
 returns-in_err-voxel_refusal-clause-lent c =
