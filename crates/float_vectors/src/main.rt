@@ -2,7 +2,7 @@
 // it prints how many vectors standard input has, and how many of them the function answers. The crate's file stdout has both counts.
 #![tactic(auto)]
 
-ghost use Rattle.std.specs.Prelude.{◌≤◌};
+ghost use Rattle.std.specs.Prelude.{◌<◌, ◌≤◌};
 
 use std::io;
 
@@ -51,7 +51,9 @@ fn pattern(line: &[u8; LINE], at: usize) -> u32
     line[at..at + 8].iter().fold(0, |n, d| n << 4 | digit(*d))
 }
 
-fn digit(a: u8) -> u32 {
+fn digit(a: u8) -> u32
+    ensures { result < 16 }
+{
     match a {
         b'0'..=b'9' => u32::from(a - b'0'),
         b'a'..=b'f' => u32::from(a - b'a') + 10,
