@@ -32,7 +32,7 @@ pub fn finish(axes: Axes, active: &[u64], volume: &mut [f32], scratch: &mut [f32
     if words::inner::count(active, n) == 0 {
         return;
     }
-    scratch.copy_from_slice(volume);
+    means::inner::copy(volume, scratch);
     means::inner::mean(scratch, volume, axes.width, axes.height, axes.depth);
 }
 

@@ -30,12 +30,14 @@ pub fn square(src: &[f32], dst: &mut [f32], w: usize, h: usize, d: usize)
     }
 }
 
-// Every number of src, in dst.
+// Every number of src, in dst. By index: the library's copy makes the archive need memmove, which its callers may not have.
 pub fn copy(src: &[f32], dst: &mut [f32])
     requires { length dst.old ≡ length src.now }
     ensures { dst.new ≡ src.now }
 {
-    dst.copy_from_slice(src);
+    for i in 0..dst.len() {
+        dst[i] = src[i];
+    }
 }
 
 // The squares of the means from voxel i on, in dst, and how many: what is written before i, and what the definition gives from i on, are written up to that
