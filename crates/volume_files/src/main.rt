@@ -3,7 +3,7 @@
 // printed in hexadecimal.
 #![tactic(auto)]
 
-use std::io;
+use std::{fmt, io};
 
 // Room for the voxels of a file of 65,536 bytes.
 const MOST: usize = 1024;
@@ -99,12 +99,17 @@ fn rewrite(
     {
         return println!(rt; "not written");
     }
-    print_bytes(rt, out)
+    println!(rt; "{}", Hex(out))
 }
 
-fn print_bytes(rt: &impl Print, s: &[u8]) -> io::Result<()> {
-    for b in s {
-        print!(rt; "{b:02x}")?;
+// Bytes in hexadecimal, two digits each.
+struct Hex<'a>(&'a [u8]);
+
+impl<'a> fmt::Display for Hex<'a> {
+    fn fmt<W: fmt::Write>(&self, f: &mut fmt::Formatter<W>) -> fmt::Result {
+        for b in self.0 {
+            write!(f, "{b:02x}")?;
+        }
+        Ok(())
     }
-    println!(rt)
 }
