@@ -6,8 +6,8 @@ pub const MOST: u64 = 4294967296;
 // What was compared: records and things in them, and whether the last of these differs.
 #[derive(Clone, Copy)]
 pub struct Tally {
-    records: u64,
-    compared: u64,
+    pub records: u64,
+    pub compared: u64,
     differs: bool,
 }
 

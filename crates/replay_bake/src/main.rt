@@ -259,13 +259,7 @@ fn both(case: Case, t: Tally, given: Given, written: &mut Written) -> Tally {
 fn sized<const ROOM: usize>(case: Case, t: Tally) -> Option<Tally>
     requires { ROOM * 4 < 2 ^ 63 }
 {
-    let values = case.values;
-    let lists = case.lists;
-    let tree = if case.kind == Kind::Tree {
-        Some(lists.after(12))
-    } else {
-        None
-    };
+    // the arrays first: what stands before them has them cleared a second time
     let mut scene = SceneRoom::new();
     let mut sky = [0.0; SKY];
     let mut lamps = [0.0; LAMPS];
@@ -275,6 +269,13 @@ fn sized<const ROOM: usize>(case: Case, t: Tally) -> Option<Tally>
     let mut scratch = [0.0; ROOM];
     let mut distances = [0.0; room::HITS];
     let mut places = [0; room::HITS];
+    let values = case.values;
+    let lists = case.lists;
+    let tree = if case.kind == Kind::Tree {
+        Some(lists.after(12))
+    } else {
+        None
+    };
     let given = Given {
         axes: replay_values::axes(values.skip(1)),
         corners: replay_values::corners(values.skip(7)),
