@@ -4,7 +4,7 @@
 
 ghost use Rattle.std.specs.Prelude.{◌≡◌, OnErr};
 
-use league_line::inner::Report;
+use league_steps::inner::Report;
 use names::{FILES_LIMIT, LENGTH_LIMIT};
 use std::io;
 

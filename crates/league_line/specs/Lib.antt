@@ -1,4 +1,3 @@
--- The lines of the league report as text, and its steps.
+-- The lines of the league report as text.
 pub mod Text
 pub mod TextLaws
-pub mod Steps

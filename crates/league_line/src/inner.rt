@@ -4,7 +4,6 @@ ghost use Rattle.names.specs.Numbers.{files_limit};
 ghost use Rattle.league_report.specs.Report.{Line};
 ghost use Rattle.league_line.specs.Text.{decimal_of, spaced, text_of};
 
-pub use super::report::Report;
 use light_figures::LightFigures;
 use std::io;
 

@@ -2,4 +2,3 @@
 #![tactic(auto)]
 
 pub mod inner;
-mod report; // report.rt: a report under way

@@ -6,9 +6,9 @@ ghost use Rattle.light_figures.specs.LightFigures.{light_figures};
 ghost use Rattle.league_report.specs.declared.League.{League};
 ghost use Rattle.league_report.specs.FileLights.{lights_refusal};
 ghost use Rattle.league_report.specs.Report.{opening_of, league_of, league_with, LeagueWithin};
-ghost use Rattle.league_line.specs.Steps.{announced};
+ghost use Rattle.league_steps.specs.Steps.{announced};
 
-use super::inner::{print_line, print_refusal};
+use league_line::inner::{print_line, print_refusal};
 use league_report::League;
 use names::Refusal;
 use std::io;

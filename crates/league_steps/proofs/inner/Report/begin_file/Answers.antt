@@ -1,7 +1,7 @@
 -- A length stands before a file that may come.
 use mathlib.Core.Path.{refl}
 use Rattle.league_report.specs.ReportLaws.{length_within}
-use Rattle.league_line.proofs.report.Report.begin_file.Goals as goal
+use Rattle.league_steps.proofs.inner.Report.begin_file.Goals as goal
 
 pub returns-in-Ok-Some : goal.returns-in-Ok-Some
 returns-in-Ok-Some g c =

@@ -4,7 +4,7 @@ use borrow.Author.Tests.{eq-eqb, ne_eqb}
 use Rattle.names.specs.AnswersLaws.{number_nonzero}
 use Rattle.league_report.specs.FileLights.{no_lights}
 use Rattle.league_report.specs.FileLightsLaws.{file_lights_refusal, file_lights_figures, file_lights_sized}
-use Rattle.league_line.proofs.report.Report.count_file.Goals as goal
+use Rattle.league_steps.proofs.inner.Report.count_file.Goals as goal
 
 pub with_file-next-requires : goal.with_file-next-requires
 with_file-next-requires g c =

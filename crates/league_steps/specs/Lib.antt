@@ -1,0 +1,2 @@
+-- The steps of a report.
+pub mod Steps
