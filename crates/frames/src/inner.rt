@@ -144,7 +144,7 @@ fn few<F: Framed>(
         answers.len(),
     )?;
     keep::<F>(axes, corners, list, positions, room)?;
-    answers.copy_from_slice(room);
+    means::inner::copy(room, answers);
     Ok(())
 }
 

@@ -4,4 +4,4 @@ use Rattle.dilate.proofs.inner.dilate.Goals as goal
 
 pub returns : goal.returns
 returns c =
-    along_axes c.args.axes c.args.occupied.now c.requires.0 c.requires.1 c.copy_from_slice.ensures.after c.dilate_by_axes.ensures
+    along_axes c.args.axes c.args.occupied.now c.requires.0 c.requires.1 c.copy.ensures c.dilate_by_axes.ensures

@@ -46,4 +46,4 @@ returns g c =
     let a = c.args in
     let each = ap (λ (n : ℕ). first_of (frame_rows n a.axes a.corners (length a.list.now) (length a.positions.now) (length a.answers.now))) c.EACH.ensures in
     let k = c.in_ok-keep.ensures in
-    frame_found m.EACH m.refusal _ _ _ _ _ _ _ (position_first m.EACH m.refusal _ _ _ _ _ _ (c.in_ok-judge_rows.ensures ∙ each) k.first) (c.copy_from_slice.ensures.after ∙ k.kept refl)
+    frame_found m.EACH m.refusal _ _ _ _ _ _ _ (position_first m.EACH m.refusal _ _ _ _ _ _ (c.in_ok-judge_rows.ensures ∙ each) k.first) (c.copy.ensures ∙ k.kept refl)
