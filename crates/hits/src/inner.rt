@@ -140,7 +140,9 @@ fn add_hit(distances: &mut [f32], places: &mut [usize], m: usize, t: f32, i: usi
     put(places, j, m, i);
 }
 
-// Where a hit at distance t and place i goes: after each that it does not come before.
+// Where a hit at distance t and place i goes: after each that it does not come before. Out of line: within `one_by_one` what is carried up after it takes
+// registers from its loop.
+#[inline(never)]
 #[tactic(auto, using(crate::proofs::Lists::rank_step, crate::proofs::Lists::rest_none), unfolding(crate::specs::Hits::rank_of, crate::specs::Hits::paired))]
 fn rank(distances: &[f32], places: &[usize], t: f32, i: usize) -> usize
     requires { length distances.now ≡ length places.now }
