@@ -125,7 +125,8 @@ pub fn product(uses: &[u32], numbers: &[f32], places: &[usize]) -> f32
 const RUN: usize = 8;
 
 // The first hit from place i up to place n, in the list's order. Triangles that are surely missed are passed over, whatever their materials; the test
-// decides of one that may be met, and its kind and side whether it counts.
+// decides of one that may be met, and its kind and side whether it counts. Inlined into both scans, since a hit would come through memory.
+#[inline(always)]
 pub fn first_hit(
     points: &[f32],
     uses: &[u32],

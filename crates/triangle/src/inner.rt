@@ -13,7 +13,9 @@ use vectors::{Ray, Triangle, Vec3};
 const LARGEST: f32 = 3.4028235e38;
 
 // Where the ray meets the triangle, between the ray's shortest and longest distance. As in the Rust, u is asked before v and t are computed. An absent
-// triangle is met nowhere; hits are rare, so absence is asked at a hit alone, and a miss is a miss either way (`judged_missed`).
+// triangle is met nowhere; hits are rare, so absence is asked at a hit alone, and a miss is a miss either way (`judged_missed`). Inlined, since its answer
+// would come through memory.
+#[inline(always)]
 pub fn test(ray: Ray, triangle: Triangle) -> Option<Hit>
     ensures { result ≡ meet_of ray triangle }
 {
