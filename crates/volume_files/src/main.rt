@@ -103,6 +103,7 @@ fn rewrite(
 }
 
 // Bytes in hexadecimal, two digits each.
+#[derive(Clone, Copy)]
 struct Hex<'a>(&'a [u8]);
 
 impl<'a> fmt::Display for Hex<'a> {
